@@ -1,0 +1,27 @@
+-- What the checked constructors answer: the number, or none where it is out of its bounds.
+use Prim.Native.Nat.{ℕ}
+use mathlib.Core.Bool.{_&&_}
+use mathlib.Core.Option.{Option, none, some}
+use lib.Dec.{leb}
+use Rattle.model.specs.Basics.{if_then_else_}
+use Rattle.counters.specs.declared.numbers.CheckedVertex.{CheckedVertex}
+use Rattle.counters.specs.declared.numbers.CheckedVertex.the-variants as vertex
+use Rattle.counters.specs.declared.numbers.CheckedLabel.{CheckedLabel}
+use Rattle.counters.specs.declared.numbers.CheckedLabel.the-variants as label
+use Rattle.counters.specs.declared.numbers.CheckedMillimetres.{CheckedMillimetres}
+use Rattle.counters.specs.declared.numbers.CheckedMillimetres.the-variants as millimetres
+
+unfoldable pub within : ℕ → ℕ → ℕ → Option ℕ
+within low high n = if leb low n && leb n high then some n else none
+
+abbrev pub vertexIn : CheckedVertex → Option ℕ
+vertexIn (vertex.Is v) = some (v .0)
+vertexIn vertex.TooLarge = none
+
+abbrev pub labelIn : CheckedLabel → Option ℕ
+labelIn (label.Is l) = some (l .0)
+labelIn label.TooLarge = none
+
+abbrev pub millimetresIn : CheckedMillimetres → Option ℕ
+millimetresIn (millimetres.Is l) = some (l .0)
+millimetresIn millimetres.OutOfRange = none

@@ -1,0 +1,34 @@
+-- Document 01, "Refusals from the input" and "Refusals from the state": the number of each.
+use Prim.Native.Nat.{ℕ}
+use Rattle.counters.specs.declared.refusals.Refusal.{Refusal}
+use Rattle.counters.specs.declared.refusals.Refusal.the-variants.{NoMark, Version, Cut, UnknownKind, NotLanded, SameVertex, Length, NotRegular, ShortSlice, NotGrown, TooManyVertices, TooManyEdges, Ring, WrongSize}
+
+abbrev pub numberOf : Refusal → ℕ
+-- "no mark (list shorter than 3 or other bytes)"
+numberOf NoMark = 1
+-- "version not 1"
+numberOf Version = 2
+-- "cut within header or record"
+numberOf Cut = 3
+-- "kind byte unknown"
+numberOf UnknownKind = 4
+-- "fitting not landed"
+numberOf NotLanded = 5
+-- "both fittings the same"
+numberOf SameVertex = 6
+-- "length 0 or above 100,000"
+numberOf Length = 7
+-- "tag on no coupling, or fitting that is no coupling"
+numberOf NotRegular = 8
+-- "lent sheet, or a C call's answer slice, shorter than the answer needs"
+numberOf ShortSlice = 9
+-- "tables, head included, that growing their own fittings and pipes from empty would not leave"
+numberOf NotGrown = 21
+-- "a 4,097th fitting"
+numberOf TooManyVertices = 22
+-- "a 4,097th pipe"
+numberOf TooManyEdges = 23
+-- "ring"
+numberOf Ring = 24
+-- "a table of the wrong size"
+numberOf WrongSize = 25

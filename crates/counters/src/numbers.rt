@@ -1,0 +1,74 @@
+// A fitting number, a tag and a length in millimetres: three types, so that none stands where another is expected. Each has its
+// bounds, and a constructor that tests them.
+ghost use mathlib.Core.Path.{_≡_};
+ghost use Prim.Native.Nat.{_-_, _^_};
+ghost use Rattle.counters.specs.Numbers.{within, vertexIn, labelIn, millimetresIn};
+ghost use Rattle.model.specs.Basics.{maxVertices, maxLength};
+
+// Document 01's fitting number, from 0.
+pub struct Vertex(pub u16);
+
+pub enum CheckedVertex {
+    Is(Vertex),
+    TooLarge,
+}
+
+impl Vertex {
+    pub const MAX: u16 = 4095;
+
+    pub fn new(n: u32) -> CheckedVertex
+        ensures { λ r. ⌜ vertexIn r ≡ within 0 (maxVertices - 1) n ⌝ }
+    {
+        if n <= (Vertex::MAX as u32) {
+            return CheckedVertex::Is(Vertex(n as u16));
+        }
+        CheckedVertex::TooLarge
+    }
+}
+
+// Document 01's tag, of 32 bits.
+pub struct Label(pub u32);
+
+pub enum CheckedLabel {
+    Is(Label),
+    TooLarge,
+}
+
+impl Label {
+    pub const MAX: u32 = 4294967295;
+
+    pub fn new(n: u64) -> CheckedLabel
+        ensures { λ r. ⌜ labelIn r ≡ within 0 (2 ^ 32 - 1) n ⌝ }
+    {
+        if n <= (Label::MAX as u64) {
+            return CheckedLabel::Is(Label(n as u32));
+        }
+        CheckedLabel::TooLarge
+    }
+}
+
+// The length of one pipe.
+pub struct Millimetres(pub u32);
+
+pub enum CheckedMillimetres {
+    Is(Millimetres),
+    OutOfRange,
+}
+
+impl Millimetres {
+    pub const MIN: u32 = 1;
+
+    pub const MAX: u32 = 100000;
+
+    pub fn new(n: u32) -> CheckedMillimetres
+        ensures { λ r. ⌜ millimetresIn r ≡ within 1 maxLength n ⌝ }
+    {
+        if n < Millimetres::MIN {
+            return CheckedMillimetres::OutOfRange;
+        }
+        if n <= Millimetres::MAX {
+            return CheckedMillimetres::Is(Millimetres(n));
+        }
+        CheckedMillimetres::OutOfRange
+    }
+}

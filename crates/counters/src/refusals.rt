@@ -1,0 +1,43 @@
+// Document 01's refusals. A definition, `numberOf`, gives the number of each.
+ghost use mathlib.Core.Path.{_≡_};
+ghost use Rattle.counters.specs.Refusals.{numberOf};
+
+pub enum Refusal {
+    NoMark,
+    Version,
+    Cut,
+    UnknownKind,
+    NotLanded,
+    SameVertex,
+    Length,
+    NotRegular,
+    ShortSlice,
+    NotGrown,
+    TooManyVertices,
+    TooManyEdges,
+    Ring,
+    WrongSize,
+}
+
+impl Refusal {
+    pub fn number(self) -> u32
+        ensures { λ r. ⌜ r ≡ numberOf self ⌝ }
+    {
+        match self {
+            Refusal::NoMark => 1,
+            Refusal::Version => 2,
+            Refusal::Cut => 3,
+            Refusal::UnknownKind => 4,
+            Refusal::NotLanded => 5,
+            Refusal::SameVertex => 6,
+            Refusal::Length => 7,
+            Refusal::NotRegular => 8,
+            Refusal::ShortSlice => 9,
+            Refusal::NotGrown => 21,
+            Refusal::TooManyVertices => 22,
+            Refusal::TooManyEdges => 23,
+            Refusal::Ring => 24,
+            Refusal::WrongSize => 25,
+        }
+    }
+}
