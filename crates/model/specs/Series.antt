@@ -1,16 +1,15 @@
 -- Document 01, "What demand 3 speaks of": series of calls on one register, what the calls alone settle, and the claim.
 use mathlib.Core.Path.{_≡_}
 use Prim.Native.Nat.{ℕ, zero, suc, _+_, _*_, _≤_, _<_}
-use mathlib.Core.Bool.{Bool, true, false, not}
+use mathlib.Core.Bool.{Bool, true, false}
 use mathlib.Core.List.{List, [], _∷_, _++_, List·Memᴰ as Mem}
-use mathlib.Core.Option.{some}
+use mathlib.Core.Option.{none, some}
 use lib.ListN.{length, getD, take, drop}
-use lib.Dec.{eqb, ltb}
 use Rattle.model.specs.Basics.{if_then_else_, sum, floorLog}
 use Rattle.model.specs.Graph.{Edge, isRegular, nameOf, chainOf}
 use Rattle.model.specs.Labels.{relabelCount}
 use Rattle.model.specs.Register.{Register, empty, landed, refused, landVertex, landEdge}
-use Rattle.model.specs.Format.{vertex, edge, bad, firstRecord, hasMark, u16At}
+use Rattle.model.specs.Format.{vertex, edge, bad, firstRecord, headerRefusal}
 use Rattle.model.specs.Distance.{Way, ChainWay, LooseWay, IsDistance, Distance}
 use Rattle.model.specs.Queries.{Reply, found, measured, listed, refuses, sheet, sheetNumbers}
 use Rattle.model.specs.Tables.{Tables, Stored, fits, cleared, noCounts, storedOf, held}
@@ -63,11 +62,7 @@ landings (suc n) r (kind ∷ bs) =
     ]
 
 unfoldable pub landedBy : Register → List ℕ → List Landing
-landedBy r bs =
-    if not (hasMark bs) then []
-    else if ltb (length bs) 5 then []
-    else if not (eqb (u16At bs 3) 1) then []
-    else landings (length bs) r (drop 5 bs)
+landedBy r bs = elim (headerRefusal bs) [ some x ↦ [] | none ↦ landings (length bs) r (drop 5 bs) ]
 
 -- "The last clearing is the last grow not refused with 25, or else the start": the edges accepted since then
 unfoldable pub accepts : Call → Register → List Landing → List Landing

@@ -1,0 +1,2 @@
+// One edge into the five lent tables.
+pub mod cases;

@@ -1,0 +1,79 @@
+use Rattle.list.proofs.RecordLaws.{record-end, record-vertex, record-kind, record-cut, record-edge}
+use native.Mathlib.Omega.{arith}
+use mathlib.Core.Path.{sym, _∙_}
+use borrow.Author.Needs.{needs}
+use Rattle.list.proofs.records.next_record.Statement.{statement}
+use Rattle.list.proofs.records.next_record.Tie as tie
+use Rattle.list.proofs.bytes.u16_at.Reads as u16-at-reads
+use Rattle.list.proofs.bytes.u32_at.Reads as u32-at-reads
+
+returns : tie.Need-returns
+returns c = record-end _ _ (c .if1 .taken)
+
+shared-slice-read-kind : tie.Need-shared-slice-read-kind
+shared-slice-read-kind c = search needs
+
+add-t12 : tie.Need-add-t12
+add-t12 c = search needs
+
+returns-2 : tie.Need-returns-2
+returns-2 c = record-vertex _ _ (omega (arith, c .before .before .if1 .left)) (c .if2 .taken)
+
+returns-3 : tie.Need-returns-3
+returns-3 c = record-kind _ _ (omega (arith, c .before .before .before .if1 .left)) (c .before .if2 .left) (c .if3 .taken)
+
+sub-if4 : tie.Need-sub-if4
+sub-if4 c = search needs
+
+returns-4 : tie.Need-returns-4
+returns-4 c =
+    let at-if1 = c .before .before .before .before in
+    record-cut _ _ (omega (arith, at-if1 .if1 .left)) (c .before .before .if2 .left) (c .before .if3 .left) (c .if4 .taken)
+
+add-u16-at : tie.Need-add-u16-at
+add-u16-at c = search needs
+
+u16-at-requires : tie.Need-u16-at-requires
+u16-at-requires c κs = search needs
+
+add-u16-at-2 : tie.Need-add-u16-at-2
+add-u16-at-2 c = search needs
+
+u16-at-requires-2 : tie.Need-u16-at-requires-2
+u16-at-requires-2 c κs = search needs
+
+add-u32-at : tie.Need-add-u32-at
+add-u32-at c = search needs
+
+u32-at-requires : tie.Need-u32-at-requires
+u32-at-requires c κs = search needs
+
+add-t15 : tie.Need-add-t15
+add-t15 c = search needs
+
+returns-5 : tie.Need-returns-5
+returns-5 c =
+    let at-if3 = c .before .before .before .before in
+    let at-if2 = at-if3 .before in
+    let at-if1 = at-if2 .before .before in
+    record-edge _ _ _ _ _ (omega (arith, at-if1 .if1 .left)) (at-if2 .if2 .left) (at-if3 .if3 .left) (omega (arith, c .before .before .before .if4 .left)) (c .before .before .u16-at .ensures) (c .before .u16-at2 .ensures) (c .u32-at .ensures)
+
+pub next-record-spec : {M : Type 1} → statement M
+next-record-spec =
+    tie.close
+    (tie.spec
+    returns
+    shared-slice-read-kind
+    add-t12
+    returns-2
+    returns-3
+    sub-if4
+    returns-4
+    add-u16-at
+    u16-at-requires
+    add-u16-at-2
+    u16-at-requires-2
+    add-u32-at
+    u32-at-requires
+    add-t15
+    returns-5)

@@ -1,0 +1,46 @@
+-- What stands in a list's bytes, by index, said with the definitions of model's Format; and what the enums of this crate mean.
+use Prim.Native.Nat.{ℕ, suc, _+_}
+use mathlib.Core.List.{List, [], _∷_}
+use mathlib.Core.Option.{Option, none, some}
+use lib.ListN.{drop}
+use Rattle.model.specs.Graph.{Edge}
+use Rattle.model.specs.Format.{vertex, edge, bad, firstRecord, headerRefusal}
+use Rattle.counters.specs.Refusals.{numberOf}
+use Rattle.list.specs.declared.records.Header.{Header}
+use Rattle.list.specs.declared.records.Header.the-variants as header
+use Rattle.list.specs.declared.records.Record.{Record}
+use Rattle.list.specs.declared.records.Record.the-variants as record′
+
+-- the index behind the header, or its refusal
+pub data HeaderAt : Type 0 where
+  good : ℕ → HeaderAt
+  refused : ℕ → HeaderAt
+
+unfoldable pub headerAt : List ℕ → HeaderAt
+headerAt bs = elim (headerRefusal bs) [ some x ↦ refused x | none ↦ good 5 ]
+
+-- a record with the index behind it, the end of the list, or a refusal
+pub data RecordAt : Type 0 where
+  ends : RecordAt
+  vertexTo : ℕ → RecordAt
+  edgeTo : Edge → ℕ → RecordAt
+  refused : ℕ → RecordAt
+
+unfoldable pub recordOf : ℕ → List ℕ → RecordAt
+recordOf i [] = ends
+recordOf i (kind ∷ bs) =
+    elim (firstRecord kind bs) [ vertex rest ↦ vertexTo (i + 1) | edge e rest ↦ edgeTo e (i + 9) | bad x ↦ refused x ]
+
+-- the record at index i
+unfoldable pub recordAt : List ℕ → ℕ → RecordAt
+recordAt bs i = recordOf i (drop i bs)
+
+abbrev pub headerIn : Header → HeaderAt
+headerIn (header.Good c) = good (c .at)
+headerIn (header.Refused x) = refused (numberOf x)
+
+abbrev pub recordIn : Record → RecordAt
+recordIn record′.End = ends
+recordIn (record′.Vertex c) = vertexTo (c .at)
+recordIn (record′.Edge a b len c) = edgeTo (record { first = a; second = b; len = len }) (c .at)
+recordIn (record′.Refused x) = refused (numberOf x)
