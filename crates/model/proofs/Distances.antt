@@ -1,0 +1,4 @@
+pub mod Distance
+pub mod Ways
+pub mod Hops
+pub mod HopLengths

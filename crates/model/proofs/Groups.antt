@@ -1,0 +1,15 @@
+pub mod FloorLog
+pub mod Shape
+pub mod Bound
+pub mod Grown
+pub mod Flip
+pub mod Seams
+pub mod Orient
+pub mod Origins
+pub mod Blocks
+pub mod InPath
+pub mod Relabel
+pub mod Laying
+pub mod Closing
+pub mod Ghosts
+pub mod Unique

@@ -1,0 +1,113 @@
+-- Ghost state: groups of edges. The edges of a group follow each other on a path, its course, which no split cuts.
+use mathlib.Core.Path.{_≡_, refl, _∙_}
+use mathlib.Core.Logic.{_≢_}
+use Prim.Native.Nat.{ℕ, zero, suc, _+_, _*_, _≤_, _<_}
+use native.Mathlib.Omega.{arith}
+use native.Mathlib.Nat.{not-suc-le-zero}
+use mathlib.Core.Bool.{Bool, true}
+use mathlib.Core.List.{List, []}
+use lib.ListN.{length}
+use lib.Dec.{eqb}
+use borrow.Author.Tests.{eq-eqb, ne-eqb}
+use Rattle.model.specs.Basics.{floorLog, if_then_else_}
+use Rattle.model.specs.Graph.{Edge, degree, far, same}
+use Rattle.model.proofs.Walks.Counting.{same-ne}
+use Rattle.model.proofs.Walks.Turn.{At}
+use Rattle.model.proofs.Chains.Sums.{total, total-same, total-zero, total-one, total-swap}
+
+-- For each edge: its group, its place on the group's course (from 0), the vertex at its low end there.
+-- For each group: the relabellings charged to it, and whether its course is still open (not closed on itself).
+pub record Shape : Type 0 where
+  pub group : ℕ → ℕ
+  pub place : ℕ → ℕ
+  pub low : ℕ → ℕ
+  pub spent : ℕ → ℕ
+  pub isOpen : ℕ → Bool
+
+-- the number of edges, of the first n, in group g
+unfoldable pub size : Shape → ℕ → ℕ → ℕ
+size h n g = total n (λ e. same (h .group e) g)
+
+-- a choice by a number
+unfoldable pub pick : {A : Type 0} → ℕ → ℕ → A → A → A
+pick x y a b = if eqb x y then a else b
+
+pub pick-yes : {A : Type 0} (x y : ℕ) (a b : A) → x ≡ y → pick x y a b ≡ a
+unfolding pick
+pick-yes x y a b e = rw (eq-eqb x y e)
+
+pub pick-no : {A : Type 0} (x y : ℕ) (a b : A) → x ≢ y → pick x y a b ≡ b
+unfolding pick
+pick-no x y a b e = rw (ne-eqb x y e)
+
+pub size-none : (h : Shape) (n g : ℕ) → ((e : ℕ) → e < n → h .group e ≢ g) → size h n g ≡ 0
+unfolding size
+size-none h n g no-e = total-same n _ (λ e. 0) (λ e l. same-ne (h .group e) g (no-e e l)) ∙ total-zero n
+
+-- where a leaf stands on its group's course
+pub data LeafAt (es : List Edge) (h : Shape) (x e : ℕ) : Type 0 where
+  at-low : h .low e ≡ x → h .place e ≡ 0 → LeafAt es h x e
+  at-high : far es e (h .low e) ≡ x → suc (h .place e) ≡ size h (length es) (h .group e) → LeafAt es h x e
+
+-- a regular vertex of an open group lies between two edges that follow each other
+pub record Between (es : List Edge) (h : Shape) (v g : ℕ) : Type 0 where
+  pub lo : ℕ
+  pub hi : ℕ
+  pub lo-at : At es v lo
+  pub hi-at : At es v hi
+  pub lo-group : h .group lo ≡ g
+  pub hi-group : h .group hi ≡ g
+  pub step : h .place hi ≡ suc (h .place lo)
+  pub lo-end : far es lo (h .low lo) ≡ v
+  pub hi-end : h .low hi ≡ v
+
+pub record Courses (es : List Edge) (relabellings : ℕ) (h : Shape) : Type 0 where
+  pub below : (e : ℕ) → e < length es → h .group e < length es
+  pub fits : (e : ℕ) → e < length es → h .place e < size h (length es) (h .group e)
+  pub apart : (e d : ℕ) → e < length es → d < length es → h .group e ≡ h .group d → h .place e ≡ h .place d → e ≡ d
+  pub ends : (e : ℕ) → e < length es → At es (h .low e) e
+  pub leaf-open : (x e : ℕ) → degree es x ≡ 1 → At es x e → h .isOpen (h .group e) ≡ true
+  pub leaf : (x e : ℕ) → degree es x ≡ 1 → At es x e → LeafAt es h x e
+  pub between : (v e : ℕ) → degree es v ≡ 2 → At es v e → h .isOpen (h .group e) ≡ true → Between es h v (h .group e)
+  pub cost : (g : ℕ) → h .spent g ≤ size h (length es) g * floorLog (size h (length es) g)
+  pub cost-open : (g : ℕ) → h .isOpen g ≡ true → h .spent g + size h (length es) g ≤ size h (length es) g * floorLog (size h (length es) g) + 1
+  pub sums : (m : ℕ) → length es ≤ m → total m (h .spent) ≡ relabellings
+
+-- ---- no edges
+
+unfoldable pub no-shape : Shape
+no-shape = record { group = λ e. 0; place = λ e. 0; low = λ e. 0; spent = λ g. 0; isOpen = λ g. true }
+
+pub no-courses : Courses [] 0 no-shape
+unfolding no-shape size total
+no-courses = record {
+  below = λ e l. absurd (not-suc-le-zero l);
+  fits = λ e l. absurd (not-suc-le-zero l);
+  apart = λ e d l. absurd (not-suc-le-zero l);
+  ends = λ e l. absurd (not-suc-le-zero l);
+  leaf-open = λ x e c a. absurd (not-suc-le-zero (a .inside));
+  leaf = λ x e c a. absurd (not-suc-le-zero (a .inside));
+  between = λ v e c a o. absurd (not-suc-le-zero (a .inside));
+  cost = λ g. omega arith;
+  cost-open = λ g o. omega arith;
+  sums = λ m l. total-zero m;
+}
+
+-- ---- the sizes add up
+
+pub total-le : (n : ℕ) (f g : ℕ → ℕ) → ((k : ℕ) → k < n → f k ≤ g k) → total n f ≤ total n g
+unfolding total
+total-le zero f g h = omega arith
+total-le (suc n) f g h = omega (arith, total-le n f g (λ k l. h k (omega arith)), h n (omega arith))
+
+total-ones : (n : ℕ) → total n (λ k. 1) ≡ n
+unfolding total
+total-ones zero = refl
+total-ones (suc n) = omega (arith, total-ones n)
+
+pub sizes : (h : Shape) (n : ℕ) → ((e : ℕ) → e < n → h .group e < n) → total n (λ g. size h n g) ≡ n
+unfolding size
+sizes h n below =
+    total-swap n n (λ g e. same (h .group e) g)
+    ∙ total-same n _ (λ e. 1) (λ e l. total-same n (λ g. same (h .group e) g) (λ g. same (h .group e) g * 1) (λ g m. omega arith) ∙ total-one n (h .group e) (λ g. 1) (below e l))
+    ∙ total-ones n

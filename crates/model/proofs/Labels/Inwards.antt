@@ -1,0 +1,64 @@
+-- Trails through regular vertices, and the one from a leaf inwards.
+use mathlib.Core.Path.{_≡_, refl, sym, ap}
+use Prim.Native.Nat.{ℕ, zero, suc}
+use native.Mathlib.Omega.{arith}
+use mathlib.Core.Bool.{true, false}
+use mathlib.Core.List.{List, [], _∷_}
+use lib.ListN.{length}
+use borrow.Author.Tests.{eqb-true}
+use Rattle.model.specs.Graph.{Edge, Pass, degree, endsAt, far, isRegular, onwards, walk}
+use Rattle.model.specs.Labels.{inwards}
+use Rattle.model.proofs.Walks.Degree.{Proper}
+use Rattle.model.proofs.Walks.Turn.{At}
+use Rattle.model.proofs.Walks.Trail.{Trail, done, pass, Across, across, trail-walk}
+use Rattle.model.proofs.Walks.Snoc.{Clear}
+use Rattle.model.proofs.Walks.Ended.{trail-short}
+use Rattle.model.proofs.Walks.RingFree.{Ended, RingFree}
+use Rattle.model.proofs.Walks.Rings.{onlyEdge-is}
+use Rattle.model.proofs.Labels.Following.{Ith, here, later}
+
+pub trail-nil : {es : List Edge} {p f q g : ℕ} {ss : List Pass} → Trail es p f ss q g → ss ≡ [] → f ≡ g
+trail-nil done e = refl
+trail-nil (pass {ss = ss} t c tn u) e = absurd (let z : suc (length ss) ≡ 0 = ap length e in omega arith)
+
+pub record Head (es : List Edge) (f : ℕ) (u : Pass) : Type 0 where
+  pub head-at : u .at ≡ f
+  pub head-regular : isRegular es f ≡ true
+
+cons-head : (a b : Pass) (xs ys : List Pass) → a ∷ xs ≡ b ∷ ys → a ≡ b
+cons-head a b xs ys e = cc
+
+pub trail-head : {es : List Edge} {p f q g : ℕ} {ss : List Pass} (u : Pass) (us : List Pass) → Trail es p f ss q g → ss ≡ u ∷ us → Head es f u
+trail-head u us done e = absurd (let z : 0 ≡ suc (length us) = ap length e in omega arith)
+trail-head {f = f} u us (pass t c tn v) e = record { head-at = ap (λ (s : Pass). s .at) (sym (cons-head _ u _ us e)); head-regular = c }
+
+pub trail-regular : {es : List Edge} {p f q g : ℕ} {ss : List Pass} → Trail es p f ss q g → (i : ℕ) (s : Pass) → Ith s i ss → degree es (s .at) ≡ 2
+unfolding isRegular
+trail-regular done zero s j = elim j [ ]
+trail-regular done (suc i) s j = elim j [ ]
+trail-regular (pass t c tn u) zero s here = eqb-true _ _ c
+trail-regular (pass t c tn u) (suc i) s (later j) = trail-regular u i s j
+
+pub trail-clear : {es : List Edge} {q f r g : ℕ} {ss : List Pass} (p : Edge) → ((v : ℕ) → degree es v ≡ 2 → endsAt v p ≡ 0) → Trail es q f ss r g → Clear p ss
+unfolding isRegular
+trail-clear p n done = tt
+trail-clear p n (pass t c tn u) = (n _ (eqb-true _ _ c), trail-clear p n u)
+
+pub record Inward (es : List Edge) (x e : ℕ) (ss : List Pass) : Type 0 where
+  pub onto : ℕ
+  pub to : ℕ
+  pub trail : Trail es e (far es e x) ss onto to
+  pub singular : isRegular es to ≡ false
+
+module _ (es : List Edge) (pr : Proper es) (rf : RingFree es) where
+  pub inward-on : (x e : ℕ) → At es x e → Inward es x e (onwards es e (far es e x))
+  unfolding onwards
+  inward-on x e a =
+      let c : Across es e x = across es e x pr a in
+      let r : Ended es e (far es e x) = rf e (far es e x) (c .at) in
+      let w : walk (length es) es e (far es e x) ≡ r .passes = trail-walk (length es) (r .trail) (r .singular) (omega (arith, trail-short es pr (c .at) (r .trail) (r .singular))) in
+      record { onto = r .onto; to = r .to; trail = rw w (r .trail); singular = r .singular }
+
+  pub inward : (x e : ℕ) → degree es x ≡ 1 → At es x e → Inward es x e (inwards es x)
+  unfolding inwards
+  inward x e c a = rw (onlyEdge-is es x e pr c a) (inward-on x e a)

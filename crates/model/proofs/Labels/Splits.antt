@@ -1,0 +1,119 @@
+-- What the splits of one more edge leave of the labels.
+use mathlib.Core.Path.{_≡_, refl, sym, _∙_}
+use mathlib.Core.Logic.{_≢_, _⊎_, inl, inr}
+use Prim.Native.Nat.{ℕ, _≤_, _<_}
+use native.Mathlib.Omega.{arith}
+use native.Mathlib.Decide.{ℕ-discrete, decLt}
+use mathlib.Core.List.{List}
+use lib.ListN.{length, getD, set, length-set, List·getD-eq-default}
+use lib.Seq.{getD-set-same, getD-set-other}
+use lib.Dec.{eqb}
+use borrow.Author.Tests.{eq-eqb, ne-eqb}
+use Rattle.model.specs.Basics.{if_then_else_}
+use Rattle.model.specs.Graph.{Edge, degree, endsAt, isRegular}
+use Rattle.model.specs.Labels.{Marks, mark, relabelCount, split}
+use Rattle.model.proofs.Walks.Degree.{end-cases, end-first, end-second}
+use Rattle.model.proofs.Labels.Following.{re-same, re-off}
+
+-- a split, if the vertex is regular
+unfoldable pub unlabel : List Edge → ℕ → Marks → Marks
+unlabel es v m = if isRegular es v then split v m else m
+
+-- the marks after the splits: a regular vertex that the edge meets is bare, all else is as it was
+pub record Bare (es : List Edge) (p : Edge) (m m′ : Marks) : Type 0 where
+  pub label-off : (v : ℕ) → endsAt v p ≡ 1 → degree es v ≡ 2 → getD (m′ .labels) v 0 ≡ 0
+  pub label-kept : (v : ℕ) → degree es v ≢ 2 ⊎ (endsAt v p ≡ 0) → getD (m′ .labels) v 0 ≡ getD (m .labels) v 0
+  pub low-kept : (v : ℕ) → degree es v ≢ 2 ⊎ (endsAt v p ≡ 0) → getD (m′ .lows) v 0 ≡ getD (m .lows) v 0
+  pub labels-long : length (m′ .labels) ≡ length (m .labels)
+  pub lows-long : length (m′ .lows) ≡ length (m .lows)
+  pub no-move : relabelCount (m .labels) (m′ .labels) ≤ 0
+
+-- one split
+record Off (es : List Edge) (f : ℕ) (m m′ : Marks) : Type 0 where
+  off : (v : ℕ) → f ≡ v → degree es v ≡ 2 → getD (m′ .labels) v 0 ≡ 0
+  off-kept : (v : ℕ) → getD (m .labels) v 0 ≡ 0 → getD (m′ .labels) v 0 ≡ 0
+  kept-label : (v : ℕ) → degree es v ≢ 2 ⊎ (f ≢ v) → getD (m′ .labels) v 0 ≡ getD (m .labels) v 0
+  kept-low : (v : ℕ) → degree es v ≢ 2 ⊎ (f ≢ v) → getD (m′ .lows) v 0 ≡ getD (m .lows) v 0
+  long-labels : length (m′ .labels) ≡ length (m .labels)
+  long-lows : length (m′ .lows) ≡ length (m .lows)
+  move : (ts : List ℕ) → relabelCount ts (m′ .labels) ≤ relabelCount ts (m .labels)
+
+set-zero : (xs : List ℕ) (f v : ℕ) → getD xs v 0 ≡ 0 → getD (set xs f 0) v 0 ≡ 0
+set-zero xs f v z = go (ℕ-discrete v f) (decLt v (length xs))
+  where
+    go : Dec (v ≡ f) → Dec (v < length xs) → getD (set xs f 0) v 0 ≡ 0
+    go (no e) d = getD-set-other xs f v 0 0 e ∙ z
+    go (yes e) (yes l) = rw (← e) (getD-set-same xs v 0 0 l)
+    go (yes e) (no l) = List·getD-eq-default (set xs f 0) 0 (omega (arith, length-set xs f 0))
+
+set-off : (xs : List ℕ) (f : ℕ) → getD (set xs f 0) f 0 ≡ 0
+set-off xs f = go (decLt f (length xs))
+  where
+    go : Dec (f < length xs) → getD (set xs f 0) f 0 ≡ 0
+    go (yes l) = getD-set-same xs f 0 0 l
+    go (no l) = List·getD-eq-default (set xs f 0) 0 (omega (arith, length-set xs f 0))
+
+not-here : (es : List Edge) (f v : ℕ) → degree es f ≡ 2 → degree es v ≢ 2 ⊎ (f ≢ v) → v ≢ f
+not-here es f v c (inl n) e = n (rw e c)
+not-here es f v c (inr n) e = n (sym e)
+
+one-off : (es : List Edge) (f : ℕ) (m : Marks) → Off es f m (unlabel es f m)
+unfolding unlabel split isRegular mark
+one-off es f m = go (ℕ-discrete (degree es f) 2)
+  where
+    go : Dec (degree es f ≡ 2) → Off es f m (if eqb (degree es f) 2 then mark f 0 0 m else m)
+    go (yes c) = rw (eq-eqb (degree es f) 2 c) (record {
+      off = λ v e q. rw e (set-off (m .labels) v);
+      off-kept = λ v z. set-zero (m .labels) f v z;
+      kept-label = λ v o. getD-set-other (m .labels) f v 0 0 (not-here es f v c o);
+      kept-low = λ v o. getD-set-other (m .lows) f v 0 0 (not-here es f v c o);
+      long-labels = length-set (m .labels) f 0;
+      long-lows = length-set (m .lows) f 0;
+      move = λ ts. re-off ts (m .labels) f;
+    })
+    go (no c) = rw (ne-eqb (degree es f) 2 c) (record {
+      off = λ v e q. absurd (c (rw e q));
+      off-kept = λ v z. z;
+      kept-label = λ v o. refl;
+      kept-low = λ v o. refl;
+      long-labels = refl;
+      long-lows = refl;
+      move = λ ts. omega arith;
+    })
+
+pub splits : (es : List Edge) (p : Edge) (m : Marks) → p .first ≢ p .second → Bare es p m (unlabel es (p .second) (unlabel es (p .first) m))
+splits es p m d = record {
+  label-off = λ v o c. off v c (end-cases p v o);
+  label-kept = λ v o. t .kept-label v (other (p .second) v (end-second p d) o) ∙ s .kept-label v (other (p .first) v (end-first p d) o);
+  low-kept = λ v o. t .kept-low v (other (p .second) v (end-second p d) o) ∙ s .kept-low v (other (p .first) v (end-first p d) o);
+  labels-long = t .long-labels ∙ s .long-labels;
+  lows-long = t .long-lows ∙ s .long-lows;
+  no-move = omega (arith, t .move (m .labels), s .move (m .labels), re-same (m .labels));
+}
+  where
+    m₁ : Marks
+    m₁ = unlabel es (p .first) m
+
+    s : Off es (p .first) m m₁
+    s = one-off es (p .first) m
+
+    t : Off es (p .second) m₁ (unlabel es (p .second) m₁)
+    t = one-off es (p .second) m₁
+
+    other : (f v : ℕ) → endsAt f p ≡ 1 → degree es v ≢ 2 ⊎ (endsAt v p ≡ 0) → degree es v ≢ 2 ⊎ (f ≢ v)
+    other f v a (inl n) = inl n
+    other f v a (inr z) = inr (λ e. let a′ : endsAt v p ≡ 1 = rw e at a in omega arith)
+
+    off : (v : ℕ) → degree es v ≡ 2 → (p .first ≡ v) ⊎ (p .second ≡ v) → getD ((unlabel es (p .second) m₁) .labels) v 0 ≡ 0
+    off v c (inl e) = t .off-kept v (s .off v e c)
+    off v c (inr e) = t .off v e c
+
+pub no-splits : (es : List Edge) (p : Edge) (m : Marks) → ((v : ℕ) → endsAt v p ≡ 1 → degree es v ≡ 1) → Bare es p m m
+no-splits es p m f = record {
+  label-off = λ v o c. absurd (omega (arith, f v o));
+  label-kept = λ v o. refl;
+  low-kept = λ v o. refl;
+  labels-long = refl;
+  lows-long = refl;
+  no-move = omega (arith, re-same (m .labels));
+}

@@ -1,0 +1,6 @@
+pub mod Walks
+pub mod Chains
+pub mod Labels
+pub mod Groups
+pub mod Series
+pub mod Distances

@@ -1,0 +1,10 @@
+pub mod Labelled
+pub mod Sides
+pub mod Held
+pub mod Told
+pub mod Facts
+pub mod Whole
+pub mod Clearing
+pub mod Small
+pub mod Values
+pub mod Commute

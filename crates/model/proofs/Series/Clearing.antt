@@ -1,0 +1,142 @@
+-- Two sentences of the claim on series: 21 holds in none, and the last clearing is the last grow that is not refused with 25.
+use mathlib.Core.Path.{_≡_, refl, sym, ap, _∙_}
+use mathlib.Core.Logic.{_≢_}
+use Prim.Native.Nat.{ℕ, _≤_}
+use native.Mathlib.Omega.{arith}
+use mathlib.Core.Bool.{Bool, true, false, not, _&&_}
+use mathlib.Core.Option.{Option, none, some}
+use mathlib.Core.List.{List, [], _∷_, _++_, append-assoc, append-nil}
+use lib.ListN.{length}
+use lib.Dec.{ltb}
+use Rattle.model.specs.Basics.{if_then_else_, upTo}
+use Rattle.model.specs.Graph.{isRegular}
+use Rattle.model.specs.Register.{Register, empty}
+use Rattle.model.specs.Format.{growList}
+use Rattle.model.specs.Queries.{Reply, chainAt, find, found, listed, measure, measured, reach, reached, read, refuses, sheetNumbers, wearer}
+use Rattle.model.specs.Tables.{fits}
+use Rattle.model.specs.Calls.{Call, Effect, answers, effect, finds, grows, lands, measures, reaches, readEffect, sheetEffect, sheets, step}
+use Rattle.model.specs.Series.{Demand3, Landing, Made, accepts, after, afterCall, landedBy, series, since, start}
+use Rattle.model.proofs.Series.Whole.{demand3}
+
+-- ---- 21 holds in no series
+
+-- the refusal that a reply is, or 0
+unfoldable refusalOf : Reply → ℕ
+refusalOf (read s) = 0
+refusalOf (found d) = 0
+refusalOf (reached low high) = 0
+refusalOf (measured l) = 0
+refusalOf (listed n) = 0
+refusalOf (refuses n) = n
+
+-- a result, or one of the refusals up to 9: what a call on a register answers
+abbrev Own : Reply → Type 0
+Own a = refusalOf a ≤ 9
+
+own-refusal : (n : ℕ) → n ≤ 9 → Own (refuses n)
+unfolding refusalOf
+own-refusal n h = h
+
+either : (b : Bool) (n : ℕ) (x : Reply) → n ≤ 9 → Own x → Own (if b then refuses n else x)
+either true n x h k = own-refusal n h
+either false n x h k = k
+
+own-find : (r : Register) (label : ℕ) → Own (find r label)
+unfolding find refusalOf
+own-find r label = go (wearer r label (upTo (r .vertices)))
+  where
+    go : (o : Option ℕ) → Own (elim o [ some v ↦ found (chainAt r v) | none ↦ refuses 8 ])
+    go (some v) = omega arith
+    go none = omega arith
+
+own-reach : (r : Register) (v : ℕ) → Own (reach r v)
+unfolding reach refusalOf
+own-reach r v = either (not (ltb v (r .vertices))) 5 _ (omega arith) (either (not (isRegular (r .edges) v)) 8 _ (omega arith) (omega arith))
+
+own-measure : (r : Register) (v w : ℕ) → Own (measure r v w)
+unfolding measure refusalOf
+own-measure r v w = either (not (ltb v (r .vertices) && ltb w (r .vertices))) 5 _ (omega arith) (omega arith)
+
+own-sheet : (r : Register) (slice : List ℕ) → Own ((sheetEffect r slice) .reply)
+unfolding sheetEffect refusalOf
+own-sheet r slice = go (ltb (length slice) (length (sheetNumbers r))) _ _ (omega arith) (omega arith)
+  where
+    go : (b : Bool) (x y : Effect) → Own (x .reply) → Own (y .reply) → Own ((if b then x else y) .reply)
+    go true x y h k = h
+    go false x y h k = k
+
+own-effect : (c : Call) (r : Register) → Own ((effect c r) .reply)
+unfolding effect readEffect answers refusalOf
+own-effect (grows bs) r = omega arith
+own-effect (lands bs) r = omega arith
+own-effect (finds label) r = own-find r label
+own-effect (reaches v) r = own-reach r v
+own-effect (measures v w) r = own-measure r v w
+own-effect (sheets slice) r = own-sheet r slice
+
+twenty-one : (b : Bool) (x : Reply) → Own x → (if b then x else refuses 25) ≡ refuses 21 → ⊥
+unfolding refusalOf
+twenty-one true x h e = let z : refusalOf x ≡ 21 = ap refusalOf e in omega arith
+twenty-one false x h e = let z : _≡_ {A = ℕ} 25 21 = ap refusalOf e in omega arith
+
+pub never-21 : (ms : List Made) (m : Made) → (step (m .call) (record { stored = series ms start; scratch = m .scratch })) .reply ≢ refuses 21
+unfolding Demand3
+never-21 ms m e =
+    let r = after ms empty in
+    twenty-one (fits (m .scratch)) ((effect (m .call) r) .reply) (own-effect (m .call) r) (sym ((demand3 ms) .answers m) ∙ e)
+
+-- ---- the last clearing
+
+since-append : (ms ns : List Made) (r : Register) (ls : List Landing) → since (ms ++ ns) r ls ≡ since ns (after ms r) (since ms r ls)
+unfolding since after
+since-append [] ns r ls = refl
+since-append (m ∷ ms) ns r ls = since-append ms ns (afterCall m r) (if fits (m .scratch) then accepts (m .call) r ls else ls)
+
+abbrev pub IsGrow : Call → Type 0
+IsGrow (grows bs) = Unit {0}
+IsGrow (lands bs) = ⊥
+IsGrow (finds label) = ⊥
+IsGrow (reaches v) = ⊥
+IsGrow (measures v w) = ⊥
+IsGrow (sheets slice) = ⊥
+
+-- none of the calls clears: each is no grow, or is refused with 25
+abbrev pub NoneClears : List Made → Type 0
+NoneClears [] = Unit {0}
+NoneClears (m ∷ ms) = (fits (m .scratch) ≡ true → IsGrow (m .call) → ⊥) × NoneClears ms
+
+accepts-more : (c : Call) (r : Register) (ls ks : List Landing) → (IsGrow c → ⊥) → accepts c r (ls ++ ks) ≡ ls ++ accepts c r ks
+unfolding accepts
+accepts-more (grows bs) r ls ks n = absurd (n tt)
+accepts-more (lands bs) r ls ks n = append-assoc ls ks (landedBy r bs)
+accepts-more (finds label) r ls ks n = refl
+accepts-more (reaches v) r ls ks n = refl
+accepts-more (measures v w) r ls ks n = refl
+accepts-more (sheets slice) r ls ks n = refl
+
+since-more : (ms : List Made) (r : Register) (ls ks : List Landing) → NoneClears ms → since ms r (ls ++ ks) ≡ ls ++ since ms r ks
+unfolding since
+since-more [] r ls ks n = refl
+since-more (m ∷ ms) r ls ks n =
+    ap (λ (xs : List Landing). since ms (afterCall m r) xs) (go (fits (m .scratch)) refl)
+    ∙ since-more ms (afterCall m r) ls (if fits (m .scratch) then accepts (m .call) r ks else ks) (n .1)
+  where
+    go : (b : Bool) → fits (m .scratch) ≡ b
+        → (if fits (m .scratch) then accepts (m .call) r (ls ++ ks) else ls ++ ks)
+        ≡ ls ++ (if fits (m .scratch) then accepts (m .call) r ks else ks)
+    go true f = rw f (accepts-more (m .call) r ls ks (n .0 f))
+    go false f = rw f
+
+-- a grow that is not refused with 25 forgets what was before it
+pub clears : (ms ns : List Made) (m : Made) (bs : List ℕ) → m .call ≡ grows bs → fits (m .scratch) ≡ true
+    → since (ms ++ (m ∷ ns)) empty [] ≡ since ns ((growList bs) .register) (landedBy empty bs)
+unfolding since afterCall accepts effect readEffect
+clears ms ns m bs c f = since-append ms (m ∷ ns) empty [] ∙ rw (f, c)
+
+-- With the last clearing at m, the edges accepted since are those of its own list and those of the calls after it.
+pub last-clearing : (ms ns : List Made) (m : Made) (bs : List ℕ) → m .call ≡ grows bs → fits (m .scratch) ≡ true → NoneClears ns
+    → since (ms ++ (m ∷ ns)) empty [] ≡ landedBy empty bs ++ since ns ((growList bs) .register) []
+last-clearing ms ns m bs c f n =
+    clears ms ns m bs c f
+    ∙ ap (λ (xs : List Landing). since ns ((growList bs) .register) xs) (sym (append-nil (landedBy empty bs)))
+    ∙ since-more ns ((growList bs) .register) (landedBy empty bs) [] n

@@ -1,0 +1,148 @@
+-- Demand 3, whole: for every series of calls.
+use mathlib.Core.Path.{_≡_, refl, sym, ap, _∙_, subst}
+use Prim.Native.Nat.{ℕ, _*_, _≤_, _<_}
+use mathlib.Core.Bool.{Bool, true, false}
+use mathlib.Core.List.{List, [], _∷_, _++_}
+use lib.ListN.{length, getD, take, drop}
+use lib.Seq.{take-append-seam, drop-append-seam}
+use borrow.Author.Tests.{lt-ltb}
+use Rattle.model.specs.Basics.{floorLog, if_then_else_, sum}
+use Rattle.model.specs.Graph.{isRegular}
+use Rattle.model.specs.Register.{Register, empty}
+use Rattle.model.specs.Distance.{distance}
+use Rattle.model.specs.Queries.{chainAt, listed, measure, measured, refuses, sheet, sheetNumbers}
+use Rattle.model.specs.Tables.{Stored, countsOf, edgeLengths, fits, storedOf}
+use Rattle.model.specs.Calls.{Effect, Lent, Outcome, allFit, answers, effect, finds, measures, sheetEffect, sheets, step}
+use Rattle.model.specs.Series.{AtEnd, Demand3, DistanceAnswer, FindAnswer, Landing, Made, SheetAnswer, after, afterCall, ask, lengthColumn, lengthsSum, series, since}
+use Rattle.model.proofs.Walks.Degree.{Proper}
+use Rattle.model.proofs.Walks.RingFree.{RingFree}
+use Rattle.model.proofs.Chains.Sheet.{sheet-sum, sheet-length, sheet-into}
+use Rattle.model.proofs.Chains.Own.{own-chain, only-chain}
+use Rattle.model.proofs.Distances.Distance.{is-distance}
+use Rattle.model.proofs.Distances.Hops.{chains-distance, loose-distance}
+use Rattle.model.proofs.Series.Labelled.{labelled-bound, find-own}
+use Rattle.model.proofs.Series.Told.{Told, told, edges-count, lengths-are}
+use Rattle.model.proofs.Series.Facts.{Kept, kept-empty, kept-made, kept-after, kept-held, kept-fits, start-is, outcomeOf, step-fits, step-refused, ask-is}
+
+-- ---- a series does to what is stored what it does to the register
+
+-- what a call of a series is lent
+abbrev lentTo : Made → Register → Lent
+lentTo m r = record { stored = storedOf r; scratch = m .scratch }
+
+all-fit : (m : Made) (r : Register) → Kept r → allFit (lentTo m r) ≡ fits (m .scratch)
+unfolding allFit storedOf
+all-fit m r k = rw (kept-fits r k)
+
+step-does : (m : Made) (r : Register) → Kept r → ((step (m .call) (lentTo m r)) .lent .stored ≡ storedOf (afterCall m r))
+    × ((step (m .call) (lentTo m r)) .reply ≡ (if fits (m .scratch) then (effect (m .call) r) .reply else refuses 25))
+unfolding afterCall outcomeOf
+step-does m r k = go (fits (m .scratch)) refl
+  where
+    go : (b : Bool) → fits (m .scratch) ≡ b
+        → ((step (m .call) (lentTo m r)) .lent .stored ≡ storedOf (if b then (effect (m .call) r) .leaves else r))
+        × ((step (m .call) (lentTo m r)) .reply ≡ (if b then (effect (m .call) r) .reply else refuses 25))
+    go true f =
+        let e = step-fits (m .call) (lentTo m r) r (all-fit m r k ∙ f) (kept-held r k) in
+        (ap (λ (o : Outcome). o .lent .stored) e, ap (λ (o : Outcome). o .reply) e)
+    go false f =
+        let e = step-refused (m .call) (lentTo m r) (all-fit m r k ∙ f) in
+        (ap (λ (o : Outcome). o .lent .stored) e, ap (λ (o : Outcome). o .reply) e)
+
+series-is : (ms : List Made) (r : Register) → Kept r → series ms (storedOf r) ≡ storedOf (after ms r)
+unfolding series after
+series-is [] r k = refl
+series-is (m ∷ ms) r k = rw ((step-does m r k) .0) (series-is ms (afterCall m r) (kept-made m r k))
+
+-- ---- the facts of one register
+
+measure-is : (r : Register) (v w : ℕ) → v < r .vertices → w < r .vertices → measure r v w ≡ measured (distance (r .edges) v w)
+unfolding measure
+measure-is r v w a b = rw (lt-ltb v (r .vertices) a, lt-ltb w (r .vertices) b)
+
+module _ (r : Register) (k : Kept r) where
+  proper : Proper (r .edges)
+  proper = k .labelled .sound .proper
+
+  rings : RingFree (r .edges)
+  rings = k .labelled .sound .rings
+
+  sheet-answer : (slice : List ℕ) (total : ℕ) → sum (edgeLengths (r .edges)) ≡ total
+      → 5 * length (sheet r) ≤ length slice → SheetAnswer (storedOf r) r slice total
+  unfolding effect outcomeOf
+  sheet-answer slice total e h =
+      record {
+        reply-is = ap (λ (o : Outcome). o .reply) (ask-is (sheets slice) r k) ∙ ap (λ (x : Effect). x .reply) into;
+        front = front;
+        rest = ap (λ (xs : List ℕ). drop n xs) written ∙ parts .1;
+        adds-up = ap (λ (xs : List ℕ). sum (lengthColumn xs)) front ∙ sheet-sum r proper rings ∙ e;
+      }
+    where
+      ns : List ℕ
+      ns = sheetNumbers r
+
+      n : ℕ
+      n = 5 * length (sheet r)
+
+      into : sheetEffect r slice ≡ record { leaves = r; slice = ns ++ drop n slice; reply = listed (length (sheet r)) }
+      into = sheet-into r slice h
+
+      written : (ask (sheets slice) (storedOf r)) .slice ≡ ns ++ drop n slice
+      written = ap (λ (o : Outcome). o .slice) (ask-is (sheets slice) r k) ∙ ap (λ (x : Effect). x .slice) into
+
+      parts : (take n (ns ++ drop n slice) ≡ ns) × (drop n (ns ++ drop n slice) ≡ drop n slice)
+      parts =
+          subst (λ (l : ℕ). (take l (ns ++ drop n slice) ≡ ns) × (drop l (ns ++ drop n slice) ≡ drop n slice)) (sheet-length r)
+          (take-append-seam ns (drop n slice), drop-append-seam ns (drop n slice))
+
+      front : take n ((ask (sheets slice) (storedOf r)) .slice) ≡ ns
+      front = ap (λ (xs : List ℕ). take n xs) written ∙ parts .0
+
+  find-answer : (v : ℕ) → isRegular (r .edges) v ≡ true → FindAnswer (storedOf r) r v
+  unfolding effect outcomeOf answers chainAt
+  find-answer v c =
+      record {
+        name = chainAt r v;
+        reply-is = ap (λ (o : Outcome). o .reply) (ask-is (finds (getD (r .labels) v 0)) r k) ∙ find-own r (k .labelled) v c;
+        own = own-chain (r .edges) proper rings v c;
+        only = only-chain (r .edges) proper rings v c;
+      }
+
+  distance-answer : (v w : ℕ) → v < r .vertices → w < r .vertices → DistanceAnswer (storedOf r) r v w
+  unfolding effect outcomeOf answers
+  distance-answer v w a b =
+      let l = distance (r .edges) v w in
+      let e = is-distance (r .edges) v w in
+      record {
+        distance = l;
+        reply-is = ap (λ (o : Outcome). o .reply) (ask-is (measures v w) r k) ∙ measure-is r v w a b;
+        over-edges = e;
+        over-chains = chains-distance (r .edges) proper rings v w l e;
+        any-stops = loose-distance (r .edges) proper rings v w l e;
+      }
+
+  facts : (ls : List Landing) → Told r ls → AtEnd (storedOf r) r ls
+  unfolding storedOf countsOf
+  facts ls t =
+      let n : length (r .edges) ≡ length ls = ap length (sym (t .edges-are)) ∙ edges-count ls in
+      record {
+        holds = kept-held r k;
+        answers = λ m. (step-does m r k) .1;
+        right-sizes = kept-fits r k;
+        contents = refl;
+        accepted = t .edges-are;
+        total = t .total-is;
+        bound = λ l. subst (λ (m : ℕ). r .relabellings ≤ m * floorLog m) n (labelled-bound r (k .labelled));
+        lengths = λ slice h. sheet-answer slice (lengthsSum ls) (rw (← t .edges-are) (lengths-are ls)) h;
+        finds-own = find-answer;
+        distances = distance-answer;
+      }
+
+-- ---- the claim
+
+pub demand3 : Demand3
+unfolding Demand3
+demand3 ms =
+    subst (λ (s : Stored). AtEnd s (after ms empty) (since ms empty []))
+    (sym (ap (λ (s : Stored). series ms s) start-is ∙ series-is ms empty kept-empty))
+    (facts (after ms empty) (kept-after ms) (since ms empty []) (told ms))

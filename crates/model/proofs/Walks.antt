@@ -1,0 +1,10 @@
+pub mod Counting
+pub mod Degree
+pub mod Turn
+pub mod Trail
+pub mod Snoc
+pub mod NewEdge
+pub mod Ended
+pub mod RingFree
+pub mod Keeps
+pub mod Rings

@@ -1,0 +1,104 @@
+-- Degrees, the ends of an edge, and the edges at a vertex.
+use mathlib.Core.Path.{_≡_, refl, sym, _∙_}
+use mathlib.Core.Logic.{_≢_, _⊎_, inl, inr}
+use Prim.Native.Nat.{ℕ, zero, suc, _+_, _≤_}
+use native.Mathlib.Omega.{arith}
+use native.Mathlib.Decide.{ℕ-discrete}
+use mathlib.Core.Bool.{true, false}
+use mathlib.Core.List.{List, [], _∷_, _++_}
+use lib.ListN.{length}
+use borrow.Author.Tests.{eqb-true, eqb-false, eq-eqb, ne-eqb}
+use Rattle.model.specs.Graph.{Edge, degree, endsAt, incidentFrom, isRegular, same}
+use Rattle.model.proofs.Walks.Counting.{same-eq, same-ne}
+
+-- one edge more
+pub degree-snoc : (es : List Edge) (p : Edge) (f : ℕ) → degree (es ++ (p ∷ [])) f ≡ degree es f + endsAt f p
+unfolding degree
+degree-snoc [] p f = omega arith
+degree-snoc (q ∷ es) p f = omega (arith, degree-snoc es p f)
+
+-- regular is degree 2
+pub not-two : (es : List Edge) (v : ℕ) → isRegular es v ≡ false → degree es v ≢ 2
+unfolding isRegular
+not-two es v e = eqb-false (degree es v) 2 e
+
+pub is-two : (es : List Edge) (v : ℕ) → isRegular es v ≡ true → degree es v ≡ 2
+unfolding isRegular
+is-two es v e = eqb-true (degree es v) 2 e
+
+pub two-is : (es : List Edge) (v : ℕ) → degree es v ≡ 2 → isRegular es v ≡ true
+unfolding isRegular
+two-is es v e = eq-eqb (degree es v) 2 e
+
+-- every edge joins two different vertices
+abbrev pub Proper : List Edge → Type 0
+Proper [] = Unit {0}
+Proper (p ∷ es) = (p .first ≢ p .second) × Proper es
+
+pub proper-snoc : (es : List Edge) (p : Edge) → Proper es → p .first ≢ p .second → Proper (es ++ (p ∷ []))
+proper-snoc [] p h d = (d, tt)
+proper-snoc (q ∷ es) p h d = (h .0, proper-snoc es p (h .1) d)
+
+pub endsAt-le : (f : ℕ) (p : Edge) → p .first ≢ p .second → endsAt f p ≤ 1
+unfolding endsAt
+endsAt-le f p h = go (ℕ-discrete (p .first) f) (ℕ-discrete (p .second) f)
+  where
+    go : Dec (p .first ≡ f) → Dec (p .second ≡ f) → same (p .first) f + same (p .second) f ≤ 1
+    go (yes a) (yes b) = absurd (h (a ∙ sym b))
+    go (yes a) (no b) = omega (arith, same-eq _ _ a, same-ne _ _ b)
+    go (no a) (yes b) = omega (arith, same-ne _ _ a, same-eq _ _ b)
+    go (no a) (no b) = omega (arith, same-ne _ _ a, same-ne _ _ b)
+
+-- the two ends of an edge
+pub end-cases : (p : Edge) (x : ℕ) → endsAt x p ≡ 1 → (p .first ≡ x) ⊎ (p .second ≡ x)
+unfolding endsAt
+end-cases p x o = go (ℕ-discrete (p .first) x) (ℕ-discrete (p .second) x)
+  where
+    go : Dec (p .first ≡ x) → Dec (p .second ≡ x) → (p .first ≡ x) ⊎ (p .second ≡ x)
+    go (yes e) d = inl e
+    go (no m) (yes e) = inr e
+    go (no m) (no k) = absurd (omega (arith, same-ne (p .first) x m, same-ne (p .second) x k))
+
+pub end-first : (p : Edge) → p .first ≢ p .second → endsAt (p .first) p ≡ 1
+unfolding endsAt
+end-first p d = omega (arith, same-eq (p .first) (p .first) refl, same-ne (p .second) (p .first) (λ z. d (sym z)))
+
+pub end-second : (p : Edge) → p .first ≢ p .second → endsAt (p .second) p ≡ 1
+unfolding endsAt
+end-second p d = omega (arith, same-eq (p .second) (p .second) refl, same-ne (p .first) (p .second) d)
+
+pub two-ends : (p : Edge) (x y z : ℕ) → endsAt x p ≡ 1 → endsAt y p ≡ 1 → x ≢ y → endsAt z p ≡ 1 → (z ≡ x) ⊎ (z ≡ y)
+two-ends p x y z a b d c = go (end-cases p x a) (end-cases p y b) (end-cases p z c)
+  where
+    go : (p .first ≡ x) ⊎ (p .second ≡ x) → (p .first ≡ y) ⊎ (p .second ≡ y) → (p .first ≡ z) ⊎ (p .second ≡ z) → (z ≡ x) ⊎ (z ≡ y)
+    go (inl i) (inl j) (inl k) = inl (sym k ∙ i)
+    go (inl i) (inr j) (inl k) = inl (sym k ∙ i)
+    go (inr i) (inl j) (inl k) = inr (sym k ∙ j)
+    go (inr i) (inr j) (inl k) = absurd (d (sym i ∙ j))
+    go (inl i) (inl j) (inr k) = absurd (d (sym i ∙ j))
+    go (inl i) (inr j) (inr k) = inr (sym k ∙ j)
+    go (inr i) (inl j) (inr k) = inl (sym k ∙ i)
+    go (inr i) (inr j) (inr k) = inl (sym k ∙ i)
+
+-- the two cases of a step of `incidentFrom`
+pub incidentFrom-skip : (at : ℕ) (p : Edge) (es : List Edge) (f : ℕ) → endsAt f p ≡ 0 → incidentFrom at (p ∷ es) f ≡ incidentFrom (suc at) es f
+unfolding incidentFrom
+incidentFrom-skip at p es f e = rw (eq-eqb (endsAt f p) 0 e, incidentFrom)
+
+pub incidentFrom-take : (at : ℕ) (p : Edge) (es : List Edge) (f : ℕ) → endsAt f p ≡ 1 → incidentFrom at (p ∷ es) f ≡ at ∷ incidentFrom (suc at) es f
+unfolding incidentFrom
+incidentFrom-take at p es f e = rw (ne-eqb (endsAt f p) 0 (omega arith), incidentFrom)
+
+pub zero-or-one : (n : ℕ) → n ≤ 1 → (n ≡ 0) ⊎ (n ≡ 1)
+zero-or-one zero h = inl refl
+zero-or-one (suc n) h = inr (omega arith)
+
+-- as many edges at a vertex as its degree
+pub length-incidentFrom : (at : ℕ) (es : List Edge) (f : ℕ) → Proper es → length (incidentFrom at es f) ≡ degree es f
+unfolding incidentFrom degree
+length-incidentFrom at [] f h = refl
+length-incidentFrom at (p ∷ es) f h = go (zero-or-one (endsAt f p) (endsAt-le f p (h .0))) (length-incidentFrom (suc at) es f (h .1))
+  where
+    go : (endsAt f p ≡ 0) ⊎ (endsAt f p ≡ 1) → length (incidentFrom (suc at) es f) ≡ degree es f → length (incidentFrom at (p ∷ es) f) ≡ endsAt f p + degree es f
+    go (inl e) i = rw (incidentFrom-skip at p es f e) (omega arith)
+    go (inr e) i = rw (incidentFrom-take at p es f e) (omega arith)
