@@ -8,7 +8,7 @@ use lib.ListN.{length, getD}
 use lib.Dec.{eqb}
 use borrow.Author.Tests.{eq-eqb, ne-eqb, le-leb, lt-leb, lt-ltb, le-ltb}
 use Rattle.model.specs.Format.{byteAt, u16At, hasMark, headerRefusal}
-use Rattle.list.specs.Reading.{HeaderAt, good, refused, headerAt}
+use Rattle.list.specs.Reading.{HeaderAt, good, badHeader, headerAt}
 
 module _ (bs : List ℕ) where
   pub mark-short : length bs < 3 → false ≡ hasMark bs
@@ -27,15 +27,15 @@ module _ (bs : List ℕ) where
   unfolding hasMark byteAt
   mark-third l a b = rw (le-leb 3 (length bs) l, eq-eqb _ _ a, eq-eqb _ _ b)
 
-  pub header-mark : hasMark bs ≡ false → refused 1 ≡ headerAt bs
+  pub header-mark : hasMark bs ≡ false → badHeader 1 ≡ headerAt bs
   unfolding headerAt headerRefusal
   header-mark h = rw (h, headerAt)
 
-  pub header-cut : hasMark bs ≡ true → length bs < 5 → refused 3 ≡ headerAt bs
+  pub header-cut : hasMark bs ≡ true → length bs < 5 → badHeader 3 ≡ headerAt bs
   unfolding headerAt headerRefusal
   header-cut h l = rw (h, lt-ltb _ _ l, headerAt)
 
-  pub header-version : hasMark bs ≡ true → 5 ≤ length bs → u16At bs 3 ≢ 1 → refused 2 ≡ headerAt bs
+  pub header-version : hasMark bs ≡ true → 5 ≤ length bs → u16At bs 3 ≢ 1 → badHeader 2 ≡ headerAt bs
   unfolding headerAt headerRefusal
   header-version h l v = rw (h, le-ltb _ _ l, ne-eqb _ _ v, headerAt)
 

@@ -11,7 +11,7 @@ use lib.Dec.{eqb}
 use borrow.Author.Tests.{eq-eqb, ne-eqb, lt-ltb, le-ltb}
 use Rattle.model.specs.Graph.{Edge}
 use Rattle.model.specs.Format.{byteAt, u16At, u32At, firstRecord, vertex, edge, bad}
-use Rattle.list.specs.Reading.{RecordAt, ends, vertexTo, edgeTo, refused, recordOf, recordAt}
+use Rattle.list.specs.Reading.{RecordAt, ends, vertexTo, edgeTo, badRecord, recordOf, recordAt}
 
 -- numbers behind the first i + 1 bytes
 u16-behind : (bs : List ℕ) (i k n : ℕ) → i + k ≡ n → u16At (drop i bs) k ≡ u16At bs n
@@ -37,11 +37,11 @@ module _ (bs : List ℕ) (i : ℕ) where
   unfolding recordOf firstRecord
   record-vertex l k = rw (at-record l, eq-eqb _ _ k, recordOf)
 
-  pub record-kind : i < length bs → getD bs i 0 ≢ 0x46 → getD bs i 0 ≢ 0x50 → refused 4 ≡ recordAt bs i
+  pub record-kind : i < length bs → getD bs i 0 ≢ 0x46 → getD bs i 0 ≢ 0x50 → badRecord 4 ≡ recordAt bs i
   unfolding recordOf firstRecord
   record-kind l k h = rw (at-record l, ne-eqb _ _ k, ne-eqb _ _ h, recordOf)
 
-  pub record-cut : i < length bs → getD bs i 0 ≢ 0x46 → getD bs i 0 ≡ 0x50 → length bs - i < 9 → refused 3 ≡ recordAt bs i
+  pub record-cut : i < length bs → getD bs i 0 ≢ 0x46 → getD bs i 0 ≡ 0x50 → length bs - i < 9 → badRecord 3 ≡ recordAt bs i
   unfolding recordOf firstRecord
   record-cut l k h c =
       let n : length (drop (suc i) bs) < 8 = rw (length-drop (suc i) bs) (omega arith) in
