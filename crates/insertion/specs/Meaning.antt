@@ -1,9 +1,18 @@
 -- Document 01's values of the enums of this crate.
+use Prim.Native.Nat.{ℕ}
 use Rattle.model.specs.Cases as C
+use Rattle.model.specs.Tables.{Tables, Counts}
+use Rattle.counters.specs.Refusals.{numberOf}
+use Rattle.counters.specs.Answers.{countsIn}
+use Rattle.insertion.specs.Insertion.{AnswerIn, done, refusedIn, LandingIn, landingIn, insertIn}
 use Rattle.insertion.specs.declared.cases.Class.{Class}
 use Rattle.insertion.specs.declared.cases.Class.the-variants.{Isolated, Leaf, Regular, Branch}
 use Rattle.insertion.specs.declared.cases.Case.{Case}
 use Rattle.insertion.specs.declared.cases.Case.the-variants.{New, ExtendFirst, ExtendSecond, Merge, SplitExtendFirst, SplitExtendSecond, SplitFirst, SplitSecond, SplitBoth}
+use Rattle.insertion.specs.declared.landing.Inserted.{Inserted}
+use Rattle.insertion.specs.declared.landing.Inserted.the-variants as inserted
+use Rattle.insertion.specs.declared.landing.Checked.{Checked}
+use Rattle.insertion.specs.declared.landing.Checked.the-variants as checked
 
 abbrev pub classIn : Class → C.Class
 classIn Isolated = C.isolated
@@ -21,3 +30,12 @@ caseIn SplitExtendSecond = C.splitExtends C.secondNamed
 caseIn SplitFirst = C.splitNew C.firstNamed
 caseIn SplitSecond = C.splitNew C.secondNamed
 caseIn SplitBoth = C.splitBoth
+
+abbrev pub answerIn : Inserted → AnswerIn
+answerIn (inserted.Done c) = done (countsIn c)
+answerIn (inserted.Refused x) = refusedIn (numberOf x)
+
+-- what landing an edge from a to b comes to, once it was checked
+abbrev pub checkedIn : Checked → Tables → Counts → ℕ → ℕ → LandingIn
+checkedIn (checked.Passed l) t c a b = insertIn t c (record { first = a; second = b; len = l .0 })
+checkedIn (checked.Refused x) t c a b = landingIn t (refusedIn (numberOf x))

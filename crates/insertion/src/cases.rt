@@ -1,4 +1,7 @@
 // The case of an insertion, by the degrees of the two ends before it.
+ghost use mathlib.Core.Path.{_≡_};
+ghost use Rattle.model.specs.Cases.{isolated, leaf, regular, classOf, caseOf};
+ghost use Rattle.insertion.specs.Meaning.{classIn, caseIn};
 
 // Degrees 0, 1, 2, 3 and up.
 pub enum Class {
@@ -19,4 +22,60 @@ pub enum Case {
     SplitFirst,
     SplitSecond,
     SplitBoth,
+}
+
+pub fn class_of(degree: u16) -> Class
+    ensures { λ r. ⌜ classIn r ≡ classOf degree ⌝ }
+{
+    match degree {
+        0 => Class::Isolated,
+        1 => Class::Leaf,
+        2 => Class::Regular,
+        _ => Class::Branch,
+    }
+}
+
+pub fn case_of(first: Class, second: Class) -> Case
+    ensures { λ r. ⌜ caseIn r ≡ caseOf (classIn first) (classIn second) ⌝ }
+{
+    match first {
+        Class::Isolated => case_of_junction(second),
+        Class::Leaf => case_of_leaf(second),
+        Class::Regular => case_of_regular(second),
+        Class::Branch => case_of_junction(second),
+    }
+}
+
+// The first end is singular and no leaf: an isolated one and a branch make the same cases.
+pub fn case_of_junction(second: Class) -> Case
+    ensures { λ r. ⌜ caseIn r ≡ caseOf isolated (classIn second) ⌝ }
+{
+    match second {
+        Class::Isolated => Case::New,
+        Class::Leaf => Case::ExtendSecond,
+        Class::Regular => Case::SplitSecond,
+        Class::Branch => Case::New,
+    }
+}
+
+pub fn case_of_leaf(second: Class) -> Case
+    ensures { λ r. ⌜ caseIn r ≡ caseOf leaf (classIn second) ⌝ }
+{
+    match second {
+        Class::Isolated => Case::ExtendFirst,
+        Class::Leaf => Case::Merge,
+        Class::Regular => Case::SplitExtendFirst,
+        Class::Branch => Case::ExtendFirst,
+    }
+}
+
+pub fn case_of_regular(second: Class) -> Case
+    ensures { λ r. ⌜ caseIn r ≡ caseOf regular (classIn second) ⌝ }
+{
+    match second {
+        Class::Isolated => Case::SplitFirst,
+        Class::Leaf => Case::SplitExtendSecond,
+        Class::Regular => Case::SplitBoth,
+        Class::Branch => Case::SplitFirst,
+    }
 }

@@ -1,5 +1,9 @@
 pub mod Lines
+pub mod Same
 pub mod Partition
 pub mod Sums
+pub mod Exact
 pub mod Sheet
+pub mod Names
+pub mod Reaches
 pub mod Own

@@ -1,4 +1,6 @@
 pub mod Distance
 pub mod Ways
+pub mod HopTrails
 pub mod Hops
 pub mod HopLengths
+pub mod Nearer

@@ -2,6 +2,8 @@ pub mod FloorLog
 pub mod Shape
 pub mod Bound
 pub mod Grown
+pub mod GrownEnds
+pub mod GrownCourses
 pub mod Flip
 pub mod Seams
 pub mod Orient
@@ -9,7 +11,11 @@ pub mod Origins
 pub mod Blocks
 pub mod InPath
 pub mod Relabel
+pub mod Stands
+pub mod Realigned
 pub mod Laying
+pub mod Gaps
 pub mod Closing
+pub mod ClosingGaps
 pub mod Ghosts
 pub mod Unique

@@ -2,6 +2,8 @@ pub mod Following
 pub mod Cases
 pub mod Splits
 pub mod Inwards
+pub mod Laid
 pub mod Inserted
 pub mod Singular
 pub mod Rise
+pub mod Consecutive

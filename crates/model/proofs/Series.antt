@@ -5,6 +5,11 @@ pub mod Told
 pub mod Facts
 pub mod Whole
 pub mod Clearing
-pub mod Small
 pub mod Values
 pub mod Commute
+pub mod Reachable
+pub mod OnlyHeld
+pub mod RingTest
+pub mod Answers
+pub mod Lawful
+pub mod Small

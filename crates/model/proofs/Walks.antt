@@ -6,5 +6,9 @@ pub mod Snoc
 pub mod NewEdge
 pub mod Ended
 pub mod RingFree
+pub mod Once
 pub mod Keeps
+pub mod NewTurn
 pub mod Rings
+pub mod Whole
+pub mod Ring

@@ -12,5 +12,6 @@ pub mod Calls
 pub mod FromC
 pub mod Printing
 pub mod Series
+pub mod Notions
 pub mod Computing
 pub mod Values

@@ -1,1 +1,6 @@
-// The lent tables.
+// The lent tables: reads and writes that ask nothing of their callers, whole tables, single steps, and walks along a chain.
+// A contract is one equation with a definition of specs/, and no function has a `requires`.
+pub mod access;
+pub mod steps;
+pub mod walks;
+pub mod whole;

@@ -1,18 +1,17 @@
--- A chain found once, as a line from singular vertex to singular vertex, is the chain of each of its edges.
-use mathlib.Core.Path.{_≡_, refl, sym, ap, _∙_}
+-- A chain as a line: a trail from singular vertex to singular vertex. Where an edge stands on a trail, the trail can be cut.
+use mathlib.Core.Path.{_≡_, refl, sym, ap}
 use mathlib.Core.Logic.{_⊎_, inl, inr}
-use Prim.Native.Nat.{ℕ, _+_, _<_}
+use Prim.Native.Nat.{ℕ, _<_}
 use native.Mathlib.Omega.{arith}
 use native.Mathlib.Decide.{ℕ-discrete}
 use mathlib.Core.Bool.{true, false}
-use mathlib.Core.List.{List, [], _∷_, _++_, map, reverse, map-append, reverse-cons, reverse-append, reverse-reverse, List·Memᴰ as Mem, List·Memᴰ·cases-cons as mem-cases, List·Memᴰ·not-nil as mem-nil}
-use lib.ListN.{length, length-append}
-use lib.Seq.{append-snoc}
-use Rattle.model.specs.Graph.{Edge, Pass, afterOf, chainOf, edgeAt, endsAt, far, isRegular, onwards, turn}
-use Rattle.model.proofs.Walks.Degree.{Proper}
+use mathlib.Core.List.{List, [], _∷_, _++_, map, reverse, map-append, reverse-append, List·Memᴰ as Mem, List·Memᴰ·cases-cons as mem-cases, List·Memᴰ·not-nil as mem-nil}
+use lib.ListN.{length}
 use borrow.Author.Tests.{eqb-true}
+use Rattle.model.specs.Graph.{Edge, Pass, afterOf, edgeAt, endsAt, far, isRegular, turn}
+use Rattle.model.proofs.Walks.Degree.{Proper}
 use Rattle.model.proofs.Walks.Turn.{At, Turned, turned, two-edges}
-use Rattle.model.proofs.Walks.Trail.{Trail, done, pass, trail-back, trail-walk, backwards, flip, length-backwards, Across, across, far-first, far-second}
+use Rattle.model.proofs.Walks.Trail.{Trail, done, pass, backwards, flip, across, far-first, far-second}
 use Rattle.model.proofs.Walks.Counting.{same-ne}
 
 unfoldable pub afters : List Pass → List ℕ
@@ -88,42 +87,6 @@ trail-at {es} {p} {f} pr a (pass t c e u) =
     let at : At es f t = rw e at (tu .at) in
     trail-at pr ((across es t f pr at) .at) u
 
-whole-is : {es : List Edge} {p f k to : ℕ} {front : List Pass} (ss rest : List Pass) → Trail es p f front k to → ss ≡ front ++ rest
-    → p ∷ afters ss ≡ reverse (afters (backwards front)) ++ (k ∷ afters rest)
-unfolding afters
-whole-is {k = k} {front = front} ss rest u e =
-    rw (e, ← append-snoc (reverse (afters (backwards front))) k (afters rest), afters-back u) (simp map-append)
-
--- both walks from an edge of a line
-pub record Both (es : List Edge) (l : Line es) (k : ℕ) : Type 0 where
-  pub to : ℕ
-  pub front : List Pass
-  pub rest : List Pass
-  pub whole : lineEdges l ≡ reverse (afters (backwards front)) ++ (k ∷ afters rest)
-  pub at : At es to k
-  pub forward : onwards es k to ≡ rest
-  pub backward : onwards es k (far es k to) ≡ backwards front
-
-pub both : (es : List Edge) → Proper es → (l : Line es) (k : ℕ) → Mem k (lineEdges l) → Both es l k
-unfolding onwards
-both es pr l k m =
-    let x : Across es (l .first) (l .start) = across es (l .first) (l .start) pr (l .at) in
-    let r = cut k (l .trail) m in
-    let n : length (l .passes) ≡ length (r .front) + length (r .rest) = ap length (r .parts) ∙ length-append (r .front) (r .rest) in
-    let home : isRegular es (far es (l .first) (far es (l .first) (l .start))) ≡ false = rw (x .again) (l .starts) in
-    record {
-      to = r .to;
-      front = r .front;
-      rest = r .rest;
-      whole = whole-is (l .passes) (r .rest) (r .before) (r .parts);
-      at = trail-at pr (x .at) (r .before);
-      forward = trail-walk (length es) (r .behind) (l .stops) (omega (arith, l .short));
-      backward = trail-walk (length es) (trail-back pr (x .at) (r .before)) home (omega (arith, l .short, length-backwards (r .front)));
-    }
-
-turn-over : (a b : List ℕ) (k : ℕ) → reverse b ++ (k ∷ a) ≡ reverse (reverse a ++ (k ∷ b))
-turn-over a b k = sym (reverse-append (reverse a) (k ∷ b) ∙ rw (reverse-reverse a, reverse-cons k b) (append-snoc (reverse b) k a))
-
 -- which end of the edge a vertex is
 pub data Ends (es : List Edge) (k f : ℕ) : Type 0 where
   first-end : (edgeAt es k) .first ≡ f → (edgeAt es k) .second ≡ far es k f → Ends es k f
@@ -140,16 +103,3 @@ ends-of es k f pr a = go (ℕ-discrete (q .first) f) (ℕ-discrete (q .second) f
     go (yes e) d = first-end e (sym (far-first es k f e))
     go (no n) (yes e) = second-end e (sym (far-second es k f n))
     go (no n) (no m) = absurd (omega (arith, a .meets, same-ne (q .first) f n, same-ne (q .second) f m))
-
--- The chain of each edge of a line has the line's edges, in its order or in the other.
-pub chain-is-line : (es : List Edge) → Proper es → (l : Line es) (k : ℕ) → Mem k (lineEdges l)
-    → ((chainOf es k) .edges ≡ lineEdges l) ⊎ ((chainOf es k) .edges ≡ reverse (lineEdges l))
-unfolding chainOf afters
-chain-is-line es pr l k m = go (ends-of es k (b .to) pr (b .at))
-  where
-    b : Both es l k
-    b = both es pr l k m
-
-    go : Ends es k (b .to) → ((chainOf es k) .edges ≡ lineEdges l) ⊎ ((chainOf es k) .edges ≡ reverse (lineEdges l))
-    go (second-end s f) = inl (rw (s, f, b .forward, b .backward, b .whole) refl)
-    go (first-end s f) = inr (rw (s, f, b .forward, b .backward, b .whole) (turn-over (map afterOf (backwards (b .front))) (map afterOf (b .rest)) k))

@@ -2,27 +2,26 @@
 use mathlib.Core.Path.{_≡_, refl, sym, _∙_, subst}
 use mathlib.Core.Logic.{_⊎_, inl, inr}
 use Prim.Native.Nat.{ℕ, _<_}
-use native.Mathlib.Omega.{arith}
 use native.Mathlib.Decide.{ℕ-discrete}
-use mathlib.Core.Bool.{Bool, true, false}
+use mathlib.Core.Bool.{true, false}
 use mathlib.Core.List.{List, [], _∷_, _++_, map, reverse, reverse-reverse, List·Memᴰ as Mem, List·Memᴰ·head as at-head, List·Memᴰ·tail as in-tail, List·Memᴰ·cases-cons as mem-cases, List·Memᴰ·eq-of-singleton as mem-one, Memᴰ·cast, Memᴰ·append-left, Memᴰ·append-right, List·Memᴰ·append-cases as mem-append}
 use lib.ListN.{length, getD}
 use borrow.Author.Tests.{eqb-true}
-use Rattle.model.specs.Graph.{Edge, Pass, afterOf, atOf, chainOf, edgeAt, far, incident, isRegular, nameOf, onwards, walk}
+use Rattle.model.specs.Graph.{Edge, Pass, afterOf, atOf, chainOf, edgeAt, far, incident, isRegular, nameOf, onwards}
 use Rattle.model.specs.Distance.{back, forth}
 use Rattle.model.specs.Series.{OwnChain}
+use Rattle.model.proofs.Basics.Lists.{mem-reverse}
 use Rattle.model.proofs.Walks.Degree.{Proper}
 use Rattle.model.proofs.Walks.Turn.{At, TwoEdges, two-edges}
-use Rattle.model.proofs.Walks.Trail.{Trail, done, pass, trail-walk, far-first, far-second, proper-at}
+use Rattle.model.proofs.Walks.Trail.{Trail, done, pass, far-first, far-second, proper-at}
 use Rattle.model.proofs.Chains.Lines.{afters, lineEdges}
-use Rattle.model.proofs.Walks.Ended.{Next, next-edge, trail-short, other-end}
+use Rattle.model.proofs.Walks.Ended.{Next, next-edge, other-end}
 use Rattle.model.proofs.Walks.RingFree.{RingFree, turn-between}
-use Rattle.model.proofs.Chains.Partition.{On, on, mem-reverse, chain-mem, mem-chain, name-mem, same-name}
+use Rattle.model.proofs.Chains.Partition.{On, on, chain-mem, mem-chain, name-mem, same-name}
 use Rattle.model.proofs.Chains.Sums.{name-below}
 use Rattle.model.proofs.Distances.Ways.{joins-at}
-
-not-both : (b : Bool) → b ≡ true → b ≡ false → ⊥
-not-both b t f = let z : true ≡ false = sym t ∙ f in let y : _≡_ {A = ℕ} 0 1 = cc in omega arith
+use Rattle.model.proofs.Basics.Booleans.{not-both}
+use Rattle.model.proofs.Walks.Whole.{Onwards, onwards-ends}
 
 -- a trail from a regular vertex to a singular one passes the regular one
 begins : {es : List Edge} {p f q g : ℕ} {ss : List Pass} → Trail es p f ss q g → isRegular es g ≡ false → isRegular es f ≡ true → Mem f (map atOf ss)
@@ -61,20 +60,6 @@ module _ (es : List Edge) (pr : Proper es) (rf : RingFree es) where
       go (inl q) ih = here′ (subst (λ (z : ℕ). At es x z) q ax) (ℕ-discrete x f)
       go (inr n) ih = later (ih n)
 
-  -- one direction of a chain
-  record Side (k a : ℕ) : Type 0 where
-    onto : ℕ
-    to : ℕ
-    trail : Trail es k a (onwards es k a) onto to
-    singular : isRegular es to ≡ false
-
-  side : (k a : ℕ) → At es a k → Side k a
-  unfolding onwards
-  side k a at =
-      let r = rf k a at in
-      let w : walk (length es) es k a ≡ r .passes = trail-walk (length es) (r .trail) (r .singular) (omega (arith, trail-short es pr at (r .trail) (r .singular))) in
-      record { onto = r .onto; to = r .to; trail = subst (λ (z : List Pass). Trail es k a z (r .onto) (r .to)) (sym w) (r .trail); singular = r .singular }
-
   -- a regular vertex at an edge of a chain is one of the chain's regular vertices
   pub chain-inner : (k j x : ℕ) → k < length es → Mem j ((chainOf es k) .edges) → At es x j → isRegular es x ≡ true → Mem x ((chainOf es k) .inner)
   unfolding chainOf afters
@@ -98,11 +83,11 @@ module _ (es : List Edge) (pr : Proper es) (rf : RingFree es) where
       on-part : List Pass
       on-part = onwards es k b
 
-      sa : Side k a
-      sa = side k a at-a
+      sa : Onwards es k a
+      sa = onwards-ends es pr rf k a at-a
 
-      sb : Side k b
-      sb = side k b at-b
+      sb : Onwards es k b
+      sb = onwards-ends es pr rf k b at-b
 
       back-in : Mem x (map atOf back-part) → Mem x (reverse (map atOf back-part) ++ map atOf on-part)
       back-in y = Memᴰ·append-left (map atOf on-part) (mem-reverse x (map atOf back-part) y)
@@ -167,8 +152,8 @@ module _ (es : List Edge) (pr : Proper es) (rf : RingFree es) where
       go : Mem x (reverse (map atOf (onwards es k a))) ⊎ Mem x (map atOf (onwards es k b)) → Mem j (reverse (map afterOf (onwards es k a)) ++ (k ∷ map afterOf (onwards es k b)))
       go (inl y) =
           let y′ : Mem x (map atOf (onwards es k a)) = subst (λ (z : List ℕ). Mem x z) (reverse-reverse (map atOf (onwards es k a))) (mem-reverse x (reverse (map atOf (onwards es k a))) y) in
-          left (mem-cases (both-edges at-a ((side k a at-a) .trail) x j y′ aj))
-      go (inr y) = Memᴰ·append-right (reverse (map afterOf (onwards es k a))) (both-edges at-b ((side k b at-b) .trail) x j y aj)
+          left (mem-cases (both-edges at-a ((onwards-ends es pr rf k a at-a) .trail) x j y′ aj))
+      go (inr y) = Memᴰ·append-right (reverse (map afterOf (onwards es k a))) (both-edges at-b ((onwards-ends es pr rf k b at-b) .trail) x j y aj)
 
   first-edge : (f : ℕ) (two : TwoEdges es f) → getD (incident es f) 0 0 ≡ two .low
   first-edge f two = rw (two .list) refl

@@ -4,15 +4,17 @@ use mathlib.Core.Logic.{_⊎_, inl, inr}
 use Prim.Native.Nat.{ℕ, _≤_, _<_, min}
 use native.Mathlib.Omega.{arith}
 use native.Mathlib.Decide.{decLe}
-use mathlib.Core.List.{List, [], _∷_, _++_, map-append, reverse, reverse-cons, reverse-reverse, List·Memᴰ as Mem, List·Memᴰ·head as at-head, List·Memᴰ·tail as in-tail, List·Memᴰ·cases-cons as mem-cases, List·Memᴰ·eq-of-singleton as mem-one, Memᴰ·cast, Memᴰ·append-left, Memᴰ·append-right}
+use mathlib.Core.List.{List, [], _∷_, _++_, map-append, reverse, reverse-reverse, List·Memᴰ as Mem, List·Memᴰ·head as at-head, List·Memᴰ·tail as in-tail, List·Memᴰ·cases-cons as mem-cases, List·Memᴰ·eq-of-singleton as mem-one, Memᴰ·cast, Memᴰ·append-left}
 use lib.ListN.{length}
 use Rattle.model.specs.Basics.{least}
 use Rattle.model.specs.Graph.{Edge, Pass, afterOf, chainOf, edgeAt, endsAt, far, nameOf}
+use Rattle.model.proofs.Basics.Lists.{mem-reverse}
 use Rattle.model.proofs.Walks.Counting.{Distinct, AllBelow, same-eq, same-ne}
 use Rattle.model.proofs.Walks.Degree.{Proper}
 use Rattle.model.proofs.Walks.Turn.{At}
 use Rattle.model.proofs.Walks.Trail.{Trail, done, pass, trail-back, trail-append, backwards, across, proper-at}
-use Rattle.model.proofs.Chains.Lines.{Line, lineEdges, afters, trail-at, chain-is-line}
+use Rattle.model.proofs.Chains.Lines.{Line, lineEdges, afters, trail-at}
+use Rattle.model.proofs.Chains.Same.{chain-is-line}
 use Rattle.model.proofs.Walks.Ended.{trail-short, trail-distinct, trail-below}
 use Rattle.model.proofs.Walks.RingFree.{RingFree}
 
@@ -39,14 +41,6 @@ least-mem x (y ∷ ys) = go (mem-cases (least-mem (min x y) ys)) (decLe x y)
     go (inr k) d = in-tail (in-tail k)
     go (inl e) (yes h) = at-head (let z : least (min x y) ys ≡ x = omega arith in z)
     go (inl e) (no h) = in-tail (at-head (let z : least (min x y) ys ≡ y = omega arith in z))
-
-pub mem-reverse : (m : ℕ) (xs : List ℕ) → Mem m xs → Mem m (reverse xs)
-mem-reverse m [] h = h
-mem-reverse m (x ∷ xs) h = rw (reverse-cons x xs) (go (mem-cases h) (λ k. mem-reverse m xs k))
-  where
-    go : (m ≡ x) ⊎ Mem m xs → (Mem m xs → Mem m (reverse xs)) → Mem m (reverse xs ++ (x ∷ []))
-    go (inl e) j = Memᴰ·append-right (reverse xs) (at-head e)
-    go (inr k) j = Memᴰ·append-left (x ∷ []) (j k)
 
 -- where a trail ends, its last edge stands on it
 trail-last : {es : List Edge} {p f q g : ℕ} {ss : List Pass} → Trail es p f ss q g → Mem q (p ∷ afters ss)

@@ -48,11 +48,11 @@ lengths-total (e ∷ es) = omega (arith, total-front (length es) (λ d. lengthAt
 
 -- ---- the rows of the sheet
 
-rows-yes : (es : List Edge) (d : ℕ) (ds : List ℕ) → nameOf es d ≡ d → rowsOf es (d ∷ ds) ≡ row es d ∷ rowsOf es ds
+pub rows-yes : (es : List Edge) (d : ℕ) (ds : List ℕ) → nameOf es d ≡ d → rowsOf es (d ∷ ds) ≡ row es d ∷ rowsOf es ds
 unfolding rowsOf
 rows-yes es d ds e = rw (eq-eqb (nameOf es d) d e, rowsOf)
 
-rows-no : (es : List Edge) (d : ℕ) (ds : List ℕ) → nameOf es d ≢ d → rowsOf es (d ∷ ds) ≡ rowsOf es ds
+pub rows-no : (es : List Edge) (d : ℕ) (ds : List ℕ) → nameOf es d ≢ d → rowsOf es (d ∷ ds) ≡ rowsOf es ds
 unfolding rowsOf
 rows-no es d ds n = rw (ne-eqb (nameOf es d) d n, rowsOf)
 

@@ -11,7 +11,8 @@ use Rattle.model.specs.Basics.{sum}
 use Rattle.model.specs.Graph.{Edge, chainLength, chainOf, lengthAt, lengthsOf, nameOf, same}
 use Rattle.model.proofs.Walks.Counting.{occurs, Distinct, AllBelow, same-eq, same-ne}
 use Rattle.model.proofs.Walks.Degree.{Proper}
-use Rattle.model.proofs.Chains.Lines.{lineEdges, chain-is-line}
+use Rattle.model.proofs.Chains.Lines.{lineEdges}
+use Rattle.model.proofs.Chains.Same.{chain-is-line}
 use Rattle.model.proofs.Walks.Ended.{occurs-or}
 use Rattle.model.proofs.Walks.RingFree.{RingFree}
 use Rattle.model.proofs.Chains.Partition.{On, on, same-name, name-mem, chain-mem, mem-chain, line-distinct, line-below}
@@ -91,7 +92,7 @@ unfolding occurs
 occurs-reverse k [] = refl
 occurs-reverse k (x ∷ xs) = rw (reverse-cons x xs) (omega (arith, occurs-append k (reverse xs) (x ∷ []), occurs-reverse k xs))
 
-mem-occurs : (k : ℕ) (xs : List ℕ) → Mem k xs → 1 ≤ occurs k xs
+pub mem-occurs : (k : ℕ) (xs : List ℕ) → Mem k xs → 1 ≤ occurs k xs
 unfolding occurs
 mem-occurs k (x ∷ xs) (at-head e) = omega (arith, same-eq x k (sym e))
 mem-occurs k (x ∷ xs) (in-tail m) = omega (arith, mem-occurs k xs m)

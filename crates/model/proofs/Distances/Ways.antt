@@ -11,7 +11,7 @@ use Rattle.model.specs.Distance.{Hop, Joins, Way, along, back, forth, he
 use Rattle.model.proofs.Walks.Counting.{same-eq, same-ne}
 use Rattle.model.proofs.Walks.Degree.{Proper}
 use Rattle.model.proofs.Walks.Turn.{At}
-use Rattle.model.proofs.Walks.Trail.{Trail, done, pass, proper-at, across}
+use Rattle.model.proofs.Walks.Trail.{Trail, done, pass, proper-at}
 use Rattle.model.proofs.Chains.Lines.{Ends, first-end, second-end, ends-of}
 use Rattle.model.proofs.Walks.Ended.{Next, next-edge}
 

@@ -13,7 +13,7 @@ use Rattle.model.proofs.Walks.Turn.{At, TwoEdges, two-edges}
 use Rattle.model.proofs.Walks.Trail.{across}
 use Rattle.model.proofs.Walks.Ended.{far-ne}
 use Rattle.model.proofs.Groups.Shape.{Shape, size, pick, pick-yes, pick-no, Between, Courses}
-use Rattle.model.proofs.Labels.Inserted.{Near, none-near, near}
+use Rattle.model.proofs.Labels.Laid.{Near, none-near, near}
 use Rattle.model.proofs.Groups.Origins.{Origins, Aligned, Stand, Fits, LowIs, labelAt, lowAt}
 
 -- one more block, to which no regular vertex belongs yet

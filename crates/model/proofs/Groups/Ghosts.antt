@@ -14,17 +14,20 @@ use Rattle.model.proofs.Walks.Turn.{At, TwoEdges, two-edges}
 use Rattle.model.proofs.Walks.RingFree.{RingFree}
 use Rattle.model.proofs.Groups.Shape.{Shape, size, Courses, no-shape, no-courses}
 use Rattle.model.proofs.Groups.Flip.{flipped, flip-courses}
-use Rattle.model.proofs.Groups.Grown.{grown, Seam, grown-courses}
+use Rattle.model.proofs.Groups.Grown.{grown, Growth, Seam}
+use Rattle.model.proofs.Groups.GrownCourses.{grown-courses}
 use Rattle.model.proofs.Groups.Seams.{seam-new, seam-extend, seam-merge, seam-close}
 use Rattle.model.proofs.Labels.Following.{following, here, later, no-nil}
-use Rattle.model.proofs.Labels.Inserted.{Laid, Inserted, fresh, extends, merges}
+use Rattle.model.proofs.Labels.Laid.{Laid, Inserted, fresh, extends, merges}
 use Rattle.model.proofs.Groups.Orient.{High, high, Facing, facing, short}
 use Rattle.model.proofs.Groups.Origins.{Origins, Aligned, flippedL, flip-aligned, no-origins, no-aligned}
 use Rattle.model.proofs.Groups.Blocks.{Start, start-of}
 use Rattle.model.proofs.Groups.InPath.{InPath}
-use Rattle.model.proofs.Groups.Relabel.{OnPath, grownL, grown-aligned, open-aligned}
+use Rattle.model.proofs.Groups.Relabel.{OnPath, grownL, Relabelled}
+use Rattle.model.proofs.Groups.Realigned.{grown-aligned, open-aligned}
 use Rattle.model.proofs.Groups.Laying.{size-most, path-open, path-of}
-use Rattle.model.proofs.Groups.Closing.{closing, groups}
+use Rattle.model.proofs.Groups.Closing.{Joined, groups}
+use Rattle.model.proofs.Groups.ClosingGaps.{closing}
 use Rattle.model.proofs.Labels.Singular.{BareSingular, moves-extend, moves-merge}
 use Rattle.model.proofs.Labels.Splits.{Bare}
 
@@ -94,13 +97,15 @@ module _ (es : List Edge) (p : Edge) (pr : Proper es) (d : p .first ≢ p .secon
       let n = length es in
       let s = seam-new es p pr relabellings h w (p .first) (p .second) (end-first p d) (end-second p d) d ca cb in
       let lab : Aligned es m (res .blocks) h l = rw eb (g .ghost .aligned) in
+      let it : Growth = record { es = es; p = p; pr = pr; d = d; relabellings = relabellings; h = h; w = w; gx = n; gy = suc n; x = p .first; y = p .second; k = 0; b = true; s = s } in
+      let r = empty-path h l n (res .blocks) (grown h n n (suc n) (p .first) 0 true) ca cb in
+      let re : Relabelled = record { it = it; m = m; m′ = res .marks; br = b; blocks′ = res .blocks; l = l; lab = lab; path = []; up = true; label = 0; now = 0; start = 0; r = r; long = long; even = even } in
       record {
         shape = grown h n n (suc n) (p .first) 0 true;
         ghost = record {
-          courses = grown-courses es p pr d relabellings h w n (suc n) (p .first) (p .second) 0 true s;
+          courses = grown-courses it;
           origins = grownL l n (suc n) (size h n n) 0 [];
-          aligned = open-aligned es p pr d relabellings h w n (suc n) (p .first) (p .second) 0 true s m (res .marks) b (res .blocks) l lab [] true 0 0 0
-              (empty-path h l n (res .blocks) (grown h n n (suc n) (p .first) 0 true) ca cb) long even refl some;
+          aligned = open-aligned re refl some;
         };
       }
 
@@ -110,10 +115,9 @@ module _ (es : List Edge) (p : Edge) (pr : Proper es) (d : p .first ≢ p .secon
   on-extend x y e la ny = record {
     shape = grown h n gx n x 0 true;
     ghost = record {
-      courses = grown-courses es p pr d relabellings h w gx n x y 0 true s;
+      courses = grown-courses it;
       origins = grownL (st .origins) gx n (size h n gx) (st .now) path;
-      aligned = open-aligned es p pr d relabellings h w gx n x y 0 true s m (la .m′) (la .bare) (res .blocks) (st .origins) (st .aligned) path
-          (la .up) (la .label) (st .now) (h .place e) r long even refl some;
+      aligned = open-aligned re refl some;
     };
   }
     where
@@ -144,6 +148,28 @@ module _ (es : List Edge) (p : Edge) (pr : Proper es) (d : p .first ≢ p .secon
       r : OnPath es p h (grown h (length es) (h .group e) (length es) x 0 true) (st .origins) (h .group e) (res .blocks) true path (la .up) (la .label) (st .now) (h .place e)
       r = path-open es p pr d relabellings blocks m res x y e path la h w st (f .hi) (f .top) (length es) 0 true s
           (omega (arith, f .top, size-most h (length es) (h .group e), room)) (λ q. absurd (ny q)) (record { index = 0; pass-is = record { before = e; at = x; after = length es }; ith = here; at-is = refl }) refl
+
+      it : Growth
+      it = record { es = es; p = p; pr = pr; d = d; relabellings = relabellings; h = h; w = w; gx = gx; gy = n; x = x; y = y; k = 0; b = true; s = s }
+
+      re : Relabelled
+      re = record {
+        it = it;
+        m = m;
+        m′ = la .m′;
+        br = la .bare;
+        blocks′ = res .blocks;
+        l = st .origins;
+        lab = st .aligned;
+        path = path;
+        up = la .up;
+        label = la .label;
+        now = st .now;
+        start = h .place e;
+        r = r;
+        long = long;
+        even = even;
+      }
 
   -- two leaves
   on-merge : (x y e c : ℕ) (la : Laid es p blocks m res x y e (record { before = e; at = x; after = length es } ∷ record { before = length es; at = y; after = c } ∷ inwards es y))
@@ -195,29 +221,31 @@ module _ (es : List Edge) (p : Edge) (pr : Proper es) (d : p .first ≢ p .secon
           let s = seam-merge es p pr relabellings h w x y e (la .x-end) (la .y-end) (la .x-y) (la .x-leaf) (la .e-at) (f .hi) (f .top) c cy b (f .lo) (f .bot) k q kx ky in
           let gy = h .group c in
           let r = path-open es p pr d relabellings blocks m res x y e path la h w st (f .hi) (f .top) gy k true s fewer y-path x-path refl in
+          let it : Growth = record { es = es; p = p; pr = pr; d = d; relabellings = relabellings; h = h; w = w; gx = gx; gy = gy; x = x; y = y; k = k; b = true; s = s } in
+          let re : Relabelled = record { it = it; m = m; m′ = la .m′; br = la .bare; blocks′ = res .blocks; l = st .origins; lab = st .aligned; path = path; up = la .up; label = la .label; now = st .now; start = h .place e; r = r; long = long; even = even } in
           record {
             shape = grown h n gx gy x k true;
             ghost = record {
-              courses = grown-courses es p pr d relabellings h w gx gy x y k true s;
+              courses = grown-courses it;
               origins = grownL (st .origins) gx gy (size h n gx) (st .now) path;
-              aligned = open-aligned es p pr d relabellings h w gx gy x y k true s m (la .m′) (la .bare) (res .blocks) (st .origins) (st .aligned) path
-                  (la .up) (la .label) (st .now) (h .place e) r long even refl some;
+              aligned = open-aligned re refl some;
             };
           }
 
       shut : h .group c ≡ h .group e → Ghosts new (relabellings + k) (following (la .up) (la .label) path (la .m′)) (res .blocks)
       shut q =
           let s = seam-close es p pr relabellings h w x y e (la .x-end) (la .y-end) (la .x-y) (la .x-leaf) (la .e-at) (f .hi) (f .top) c cy b (f .lo) (f .bot) k q kx in
-          let r = path-of es p pr d relabellings blocks m res x y e path la h w st (f .hi) (f .top) n k false s fewer y-path x-path
-          (groups es p pr d rf relabellings blocks m res x y e c la h w st (f .hi) (f .top) cy b (f .lo) (f .bot) q le less k s long even) in
-          let cl = closing es p pr d rf relabellings blocks m res x y e c la h w st (f .hi) (f .top) cy b (f .lo) (f .bot) q le less k s long even r in
+          let jo : Joined = record { es = es; p = p; pr = pr; d = d; rf = rf; relabellings = relabellings; blocks = blocks; m = m; res = res; x = x; y = y; e = e; c = c; la = la; h = h; w = w; st = st; hi = f .hi; top = f .top; cy = cy; ac = b; lo = f .lo; bot = f .bot; eq = q; le = le; less = less; k = k; s = s; long = long; even = even } in
+          let r = path-of es p pr d relabellings blocks m res x y e path la h w st (f .hi) (f .top) n k false s fewer y-path x-path (groups jo) in
+          let cl = closing jo r in
+          let it : Growth = record { es = es; p = p; pr = pr; d = d; relabellings = relabellings; h = h; w = w; gx = gx; gy = n; x = x; y = y; k = k; b = false; s = s } in
+          let re : Relabelled = record { it = it; m = m; m′ = la .m′; br = la .bare; blocks′ = res .blocks; l = st .origins; lab = st .aligned; path = path; up = la .up; label = la .label; now = st .now; start = h .place e; r = r; long = long; even = even } in
           record {
             shape = grown h n gx n x k false;
             ghost = record {
-              courses = grown-courses es p pr d relabellings h w gx n x y k false s;
+              courses = grown-courses it;
               origins = grownL (st .origins) gx n (size h n gx) (st .now) path;
-              aligned = grown-aligned es p pr d relabellings h w gx n x y k false s m (la .m′) (la .bare) (res .blocks) (st .origins) (st .aligned) path
-                  (la .up) (la .label) (st .now) (h .place e) r long even (λ q. cl) some;
+              aligned = grown-aligned re (λ q. cl) some;
             };
           }
 

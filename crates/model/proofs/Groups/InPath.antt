@@ -9,7 +9,7 @@ use lib.ListN.{length}
 use Rattle.model.specs.Graph.{Edge, Pass, far, turn}
 use Rattle.model.proofs.Walks.Degree.{Proper, is-two}
 use Rattle.model.proofs.Walks.Turn.{At, two-edges}
-use Rattle.model.proofs.Walks.Trail.{Trail, done, pass, across}
+use Rattle.model.proofs.Walks.Trail.{Trail, done, pass}
 use Rattle.model.proofs.Walks.Ended.{Next, next-edge, other-end}
 use Rattle.model.proofs.Walks.RingFree.{turn-between}
 use Rattle.model.proofs.Groups.Shape.{Shape, pick, pick-yes, pick-no}

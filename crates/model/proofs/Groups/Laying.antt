@@ -17,9 +17,10 @@ use Rattle.model.proofs.Chains.Sums.{total}
 use Rattle.model.proofs.Groups.Shape.{Shape, size, Between, Courses}
 use Rattle.model.proofs.Groups.Flip.{Spot, Rises, Climb, climb}
 use Rattle.model.proofs.Walks.NewEdge.{length-new, at-new}
-use Rattle.model.proofs.Groups.Grown.{grown, Seam, grown-courses, old-x, old-end, open-gx}
+use Rattle.model.proofs.Groups.Grown.{grown, Growth, Seam, old-x, old-end, open-gx}
+use Rattle.model.proofs.Groups.GrownCourses.{grown-courses}
 use Rattle.model.proofs.Labels.Following.{labelOf, Ith}
-use Rattle.model.proofs.Labels.Inserted.{Laid}
+use Rattle.model.proofs.Labels.Laid.{Laid}
 use Rattle.model.proofs.Groups.Origins.{Fits}
 use Rattle.model.proofs.Groups.Blocks.{Start, between-or}
 use Rattle.model.proofs.Groups.InPath.{InPath, ith-below, rises-ith, Beside, itself, of-path, before-it, its-end, beside}
@@ -60,18 +61,21 @@ module _ (es : List Edge) (p : Edge) (pr : Proper es) (d : p .first ≢ p .secon
   abbrev h′ : Shape
   h′ = grown h (length es) (h .group e) gy x k b
 
+  abbrev it : Growth
+  it = record { es = es; p = p; pr = pr; d = d; relabellings = relabellings; h = h; w = w; gx = h .group e; gy = gy; x = x; y = y; k = k; b = b; s = s }
+
   e-in : e < length es
   e-in = la .e-at .inside
 
   seen-e : (h′ .group e ≡ gx) × (h′ .place e ≡ h .place e)
-  seen-e = let o = old-x es p pr d relabellings h w gx gy x y k b s e e-in refl in (o .group-is, o .place-is)
+  seen-e = let o = old-x it e e-in refl in (o .group-is, o .place-is)
 
   -- along the open course
   climbing : b ≡ true → Climb new h′ e path (la .onto) (la .to)
   climbing t =
-      climb new (proper-snoc es p pr d) (relabellings + k) h′ (grown-courses es p pr d relabellings h w gx gy x y k b s) (omega (arith, e-in, length-new es p))
-      (old-end es p pr d relabellings h w gx gy x y k b s e e-in ∙ hi)
-      (rw (seen-e .0) (open-gx es p pr d relabellings h w gx gy x y k b s ∙ t)) (la .trail)
+      climb new (proper-snoc es p pr d) (relabellings + k) h′ (grown-courses it) (omega (arith, e-in, length-new es p))
+      (old-end it e e-in ∙ hi)
+      (rw (seen-e .0) (open-gx it ∙ t)) (la .trail)
 
   spots : b ≡ true → (i : ℕ) (t : Pass) → Ith t i path → Spot new h′ gx (h .place e + i) t
   spots z i t j =

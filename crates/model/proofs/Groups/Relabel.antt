@@ -1,24 +1,23 @@
--- The labels after one more edge fit the groups after it.
+-- One more edge and its labels: the path wears new ones, all others what they wore, and each block keeps to its group.
 use mathlib.Core.Path.{_≡_, refl, sym, _∙_, subst}
 use mathlib.Core.Logic.{_≢_, _⊎_, inl, inr}
-use Prim.Native.Nat.{ℕ, suc, _+_, _*_, _≤_, _<_}
+use Prim.Native.Nat.{ℕ, suc, _+_, _≤_, _<_}
 use native.Mathlib.Omega.{arith}
-use native.Mathlib.Decide.{ℕ-discrete}
-use mathlib.Core.Bool.{Bool, true, false}
+use mathlib.Core.Bool.{Bool, true}
 use mathlib.Core.List.{List, [], _∷_, _++_}
 use lib.ListN.{length, getD}
 use Rattle.model.specs.Graph.{Edge, Pass, degree, endsAt}
 use Rattle.model.specs.Labels.{Marks, base}
-use Rattle.model.proofs.Walks.Degree.{Proper, degree-snoc, endsAt-le, zero-or-one}
+use Rattle.model.proofs.Walks.Degree.{degree-snoc, endsAt-le, zero-or-one}
 use Rattle.model.proofs.Walks.Turn.{At}
-use Rattle.model.proofs.Groups.Shape.{Shape, size, pick, pick-yes, pick-no, Courses}
+use Rattle.model.proofs.Groups.Shape.{Shape, size, pick, pick-yes, pick-no}
 use Rattle.model.proofs.Groups.Flip.{Spot}
 use Rattle.model.proofs.Walks.NewEdge.{last-at, old-edge}
-use Rattle.model.proofs.Groups.Grown.{grown, Seam, Look, new-one, in-x, in-y, elsewhere, look, seen-y, seen-old, old-x, size-x, size-o, between-x, between-y, between-o, open-gx, open-o}
 use Rattle.model.proofs.Labels.Following.{following, labelOf, lowOf, Ith, Wears, given, kept, wears}
-use Rattle.model.proofs.Groups.Origins.{Origins, Aligned, Stand, Fits, LowIs, labelAt, lowAt, gap}
+use Rattle.model.proofs.Groups.Origins.{Origins, Aligned, Fits, labelAt, lowAt}
 use Rattle.model.proofs.Groups.InPath.{InPath, pathBlock, given-in, given-out}
 use Rattle.model.proofs.Labels.Splits.{Bare}
+use Rattle.model.proofs.Groups.Grown.{grown, Growth, Look, new-one, in-x, in-y, elsewhere, look, seen-y, seen-old, old-x}
 
 unfoldable pub grownL : Origins → (gx gy s now : ℕ) → List Pass → Origins
 grownL l gx gy s now path = record {
@@ -42,20 +41,28 @@ pub record OnPath (es : List Edge) (p : Edge) (h h′ : Shape) (l : Origins) (gx
   pub now-fits : (i : ℕ) (t : Pass) → Ith t i path → Fits up (l .origin now) (base now) (suc (start + i)) (labelOf up label i)
   pub path-has : (v : ℕ) → endsAt v p ≡ 1 → degree (es ++ (p ∷ [])) v ≡ 2 → InPath path v
 
-fits-shift : (up : Bool) (q b i t c : ℕ) → Fits up q b i t → Fits up (c + q) b (c + i) t
-fits-shift true q b i t c e = omega (arith, e)
-fits-shift false q b i t c e = omega (arith, e)
+-- One more edge, and the labels: the marks m before it, m′ after the splits, and the path that is labelled from there
+pub record Relabelled : Type 0 where
+  pub it : Growth
+  pub m : Marks
+  pub m′ : Marks
+  pub br : Bare (it .es) (it .p) m m′
+  pub blocks′ : ℕ
+  pub l : Origins
+  pub lab : Aligned (it .es) m blocks′ (it .h) l
+  pub path : List Pass
+  pub up : Bool
+  pub label : ℕ
+  pub now : ℕ
+  pub start : ℕ
+  pub r : OnPath (it .es) (it .p) (it .h) (grown (it .h) (length (it .es)) (it .gx) (it .gy) (it .x) (it .k) (it .b)) l (it .gx) blocks′ (it .b) path up label now start
+  pub long : (v e : ℕ) → At (it .es ++ (it .p ∷ [])) v e → v < length (m .labels)
+  pub even : length (m .labels) ≡ length (m .lows)
 
-low-path : (up : Bool) (t : Pass) → LowIs up (t .before) (t .after) (lowOf up t)
-unfolding lowOf
-low-path true t = refl
-low-path false t = refl
+module _ (re : Relabelled) where
+  open Relabelled re using (it, m, m′, br, blocks′, l, lab, path, up, label, now, start, r, long, even)
+  open Growth it using (es, p, pr, d, relabellings, h, w, gx, gy, x, y, k, b, s)
 
-module _ (es : List Edge) (p : Edge) (pr : Proper es) (d : p .first ≢ p .second) (relabellings : ℕ) (h : Shape) (w : Courses es relabellings h)
-    (gx gy x y k : ℕ) (b : Bool) (s : Seam es p h gx gy x y k b)
-    (m m′ : Marks) (br : Bare es p m m′) (blocks′ : ℕ) (l : Origins) (lab : Aligned es m blocks′ h l)
-    (path : List Pass) (up : Bool) (label now start : ℕ) (r : OnPath es p h (grown h (length es) gx gy x k b) l gx blocks′ b path up label now start)
-    (long : (v e : ℕ) → At (es ++ (p ∷ [])) v e → v < length (m .labels)) (even : length (m .labels) ≡ length (m .lows)) where
   abbrev pub new : List Edge
   new = es ++ (p ∷ [])
 
@@ -107,7 +114,7 @@ module _ (es : List Edge) (p : Edge) (pr : Proper es) (d : p .first ≢ p .secon
   unfolding grownL
   owner-o k q = pick-no (l .owner k) gy _ _ q
 
-  origin-y : (k : ℕ) → l .owner k ≡ gy → l′ .origin k ≡ size h (length es) gx + 1 + l .origin k
+  pub origin-y : (k : ℕ) → l .owner k ≡ gy → l′ .origin k ≡ size h (length es) gx + 1 + l .origin k
   unfolding grownL
   origin-y k q = pick-yes (l .owner k) gy _ _ q
 
@@ -119,22 +126,22 @@ module _ (es : List Edge) (p : Edge) (pr : Proper es) (d : p .first ≢ p .secon
   unfolding grownL
   rising-is k = refl
 
-  owned′ : (v e : ℕ) → degree new v ≡ 2 → At new v e → l′ .owner (l′ .block v) ≡ h′ .group e
+  pub owned′ : (v e : ℕ) → degree new v ≡ 2 → At new v e → l′ .owner (l′ .block v) ≡ h′ .group e
   owned′ v e c a = go (view v e c a)
     where
       go : Now v → l′ .owner (l′ .block v) ≡ h′ .group e
       go (in-path i t j q f g bl) = rw bl (owner-now now (r .now-owner i t j) ∙ sym (r .path-group i t e j (subst (λ (z : ℕ). At new z e) (sym q) a)))
-      go (as-was c′ z n f g bl) = rw bl (inner (look es p pr d relabellings h w gx gy x y k b s e (a .inside)))
+      go (as-was c′ z n f g bl) = rw bl (inner (look it e (a .inside)))
         where
           o : l .owner (l .block v) ≡ h .group e
           o = lab .owned v e c′ (old-edge es p v e z a)
 
-          inner : Look es p pr d relabellings h w gx gy x y k b s e → l′ .owner (l .block v) ≡ h′ .group e
+          inner : Look it e → l′ .owner (l .block v) ≡ h′ .group e
           inner (new-one i) = absurd (let a′ : At new v (length es) = rw i at a in omega (arith, last-at es p a′))
-          inner (in-x i q) = owner-now (l .block v) (o ∙ q) ∙ sym ((old-x es p pr d relabellings h w gx gy x y k b s e i q) .group-is)
-          inner (in-y i q) = owner-y (l .block v) (o ∙ q) ∙ sym ((seen-y es p pr d relabellings h w gx gy x y k b s e i q) .group-is)
+          inner (in-x i q) = owner-now (l .block v) (o ∙ q) ∙ sym ((old-x it e i q) .group-is)
+          inner (in-y i q) = owner-y (l .block v) (o ∙ q) ∙ sym ((seen-y it e i q) .group-is)
           inner (elsewhere i q q′) =
-              owner-o (l .block v) (λ u. q′ (sym o ∙ u)) ∙ o ∙ sym ((seen-old es p pr d relabellings h w gx gy x y k b s e i q′) .group-is)
+              owner-o (l .block v) (λ u. q′ (sym o ∙ u)) ∙ o ∙ sym ((seen-old it e i q′) .group-is)
 
   along-path : (v u e i : ℕ) (t : Pass) → Ith t i path → t .at ≡ v → degree new u ≡ 2 → At new v e → At new u e → l′ .block u ≡ now
   along-path v u e i t j q c a a′ = go (r .path-beside i t u e j c (subst (λ (z : ℕ). At new z e) (sym q) a) a′)
@@ -147,7 +154,7 @@ module _ (es : List Edge) (p : Edge) (pr : Proper es) (d : p .first ≢ p .secon
       go (inl f) = block-in u (f .index) (f .pass-is) (f .ith) (f .at-is)
       go (inr z) = was z (view u e c a′)
 
-  along′ : (v u e : ℕ) → degree new v ≡ 2 → degree new u ≡ 2 → At new v e → At new u e → l′ .block v ≡ l′ .block u
+  pub along′ : (v u e : ℕ) → degree new v ≡ 2 → degree new u ≡ 2 → At new v e → At new u e → l′ .block v ≡ l′ .block u
   along′ v u e c c′ a a′ = go (view v e c a) (view u e c′ a′)
     where
       go : Now v → Now u → l′ .block v ≡ l′ .block u
@@ -155,217 +162,16 @@ module _ (es : List Edge) (p : Edge) (pr : Proper es) (d : p .first ≢ p .secon
       go (as-was d₁ z n f g bl) (in-path i t j q f′ g′ bl′) = along-path u v e i t j q c a′ a ∙ sym bl′
       go (as-was d₁ z n f g bl) (as-was d₂ z′ n′ f′ g′ bl′) = bl ∙ lab .along v u e d₁ d₂ (old-edge es p v e z a) (old-edge es p u e z′ a′) ∙ sym bl′
 
-  least′ : (v e : ℕ) → degree new v ≡ 2 → At new v e → 1 ≤ l′ .block v
+  pub least′ : (v e : ℕ) → degree new v ≡ 2 → At new v e → 1 ≤ l′ .block v
   least′ v e c a = go (view v e c a)
     where
       go : Now v → 1 ≤ l′ .block v
       go (in-path i t j q f g bl) = rw bl (r .now-least i t j)
       go (as-was d₁ z n f g bl) = rw bl (lab .least v d₁)
 
-  most′ : (v e : ℕ) → degree new v ≡ 2 → At new v e → l′ .block v ≤ blocks′
+  pub most′ : (v e : ℕ) → degree new v ≡ 2 → At new v e → l′ .block v ≤ blocks′
   most′ v e c a = go (view v e c a)
     where
       go : Now v → l′ .block v ≤ blocks′
       go (in-path i t j q f g bl) = rw bl (r .now-most i t j)
       go (as-was d₁ z n f g bl) = rw bl (lab .most v d₁)
-
-  -- where regular vertices stand
-  stand-path : b ≡ true → (v i : ℕ) (t : Pass) → Ith t i path → t .at ≡ v → labelAt mN v ≡ labelOf up label i → lowAt mN v ≡ lowOf up t → l′ .block v ≡ now → Stand new mN h′ l′ v gx
-  stand-path tr v i t j q f g bl =
-      let sp = r .path-spot tr i t j in
-      let o : l′ .origin now ≡ l .origin now = origin-o now (λ z. s .differ (sym (r .now-owner i t j) ∙ z)) in
-      let ri : l′ .rising now ≡ up = rising-is now ∙ r .now-rising i t j in
-      record {
-        spot = record {
-          lo = t .before;
-          hi = t .after;
-          lo-at = subst (λ (z : ℕ). At new z (t .before)) q (sp .before-at);
-          hi-at = subst (λ (z : ℕ). At new z (t .after)) q (sp .after-at);
-          lo-group = sp .before-group;
-          hi-group = sp .after-group;
-          step = omega (arith, sp .before-place, sp .after-place);
-          lo-end = sp .before-end ∙ q;
-          hi-end = sp .after-end ∙ q;
-        };
-        first = rw (bl, o) (r .now-first i t j);
-        last = rw (bl, o, size-x es p pr d relabellings h w gx gy x y k b s) (omega (arith, r .now-last i t j));
-        fits = rw (bl, ri, o, sp .after-place, f) (r .now-fits i t j);
-        low-is = rw (bl, ri, g) (low-path up t);
-      }
-
-  stand-x : (v : ℕ) → l .owner (l .block v) ≡ gx → labelAt mN v ≡ labelAt m v → lowAt mN v ≡ lowAt m v → l′ .block v ≡ l .block v → Stand es m h l v gx → Stand new mN h′ l′ v gx
-  unfolding between-x
-  stand-x v ow f g bl st =
-      let u = st .spot in
-      let o : l′ .origin (l .block v) ≡ l .origin (l .block v) = origin-o (l .block v) (λ z. s .differ (sym ow ∙ z)) in
-      let ri = rising-is (l .block v) in
-      record {
-        spot = between-x es p pr d relabellings h w gx gy x y k b s v u;
-        first = rw (bl, o) (st .first);
-        last = rw (bl, o, size-x es p pr d relabellings h w gx gy x y k b s) (omega (arith, st .last));
-        fits = rw (bl, ri, o, (old-x es p pr d relabellings h w gx gy x y k b s (u .hi) (u .hi-at .inside) (u .hi-group)) .place-is, f) (st .fits);
-        low-is = rw (bl, ri, g) (st .low-is);
-      }
-
-  stand-y : (v : ℕ) → l .owner (l .block v) ≡ gy → labelAt mN v ≡ labelAt m v → lowAt mN v ≡ lowAt m v → l′ .block v ≡ l .block v → Stand es m h l v gy → Stand new mN h′ l′ v gx
-  unfolding between-y
-  stand-y v ow f g bl st =
-      let u = st .spot in
-      let o = origin-y (l .block v) ow in
-      let ri = rising-is (l .block v) in
-      record {
-        spot = between-y es p pr d relabellings h w gx gy x y k b s v u;
-        first = rw (bl, o) (omega (arith, st .first));
-        last = rw (bl, o, size-x es p pr d relabellings h w gx gy x y k b s) (omega (arith, st .last));
-        fits = rw (bl, ri, o, (seen-y es p pr d relabellings h w gx gy x y k b s (u .hi) (u .hi-at .inside) (u .hi-group)) .place-is, f)
-            (fits-shift (l .rising (l .block v)) (l .origin (l .block v)) (base (l .block v)) (h .place (u .hi)) (labelAt m v) (size h (length es) gx + 1) (st .fits));
-        low-is = rw (bl, ri, g) (st .low-is);
-      }
-
-  stand-o : (v c : ℕ) → c ≢ gx → c ≢ gy → l .owner (l .block v) ≡ c → labelAt mN v ≡ labelAt m v → lowAt mN v ≡ lowAt m v → l′ .block v ≡ l .block v → Stand es m h l v c → Stand new mN h′ l′ v c
-  unfolding between-o
-  stand-o v c n n′ ow f g bl st =
-      let u = st .spot in
-      let o : l′ .origin (l .block v) ≡ l .origin (l .block v) = origin-o (l .block v) (λ z. n′ (sym ow ∙ z)) in
-      let ri = rising-is (l .block v) in
-      record {
-        spot = between-o es p pr d relabellings h w gx gy x y k b s v c n n′ u;
-        first = rw (bl, o) (st .first);
-        last = rw (bl, o, size-o es p pr d relabellings h w gx gy x y k b s c n n′) (st .last);
-        fits = rw (bl, ri, o, (seen-old es p pr d relabellings h w gx gy x y k b s (u .hi) (u .hi-at .inside) (λ z. n′ (sym (u .hi-group) ∙ z))) .place-is, f) (st .fits);
-        low-is = rw (bl, ri, g) (st .low-is);
-      }
-
-  -- a regular vertex of another group is as it was
-  pub record Other (v e : ℕ) : Type 0 where
-    pub was-two : degree es v ≡ 2
-    pub was-at : At es v e
-    pub not-x : h .group e ≢ gx
-    pub not-y : h .group e ≢ gy
-    pub group-is : h′ .group e ≡ h .group e
-    pub label-is : labelAt mN v ≡ labelAt m v
-    pub low-is : lowAt mN v ≡ lowAt m v
-    pub block-is : l′ .block v ≡ l .block v
-
-  other : (v e : ℕ) → degree new v ≡ 2 → At new v e → h′ .group e ≢ gx → Other v e
-  other v e c a n = go (view v e c a)
-    where
-      go : Now v → Other v e
-      go (in-path i t j q f g bl) = absurd (n (r .path-group i t e j (subst (λ (z : ℕ). At new z e) (sym q) a)))
-      go (as-was c′ z nr f g bl) = inner (look es p pr d relabellings h w gx gy x y k b s e (a .inside))
-        where
-          inner : Look es p pr d relabellings h w gx gy x y k b s e → Other v e
-          inner (new-one i) = absurd (let a′ : At new v (length es) = rw i at a in omega (arith, last-at es p a′))
-          inner (in-x i q) = absurd (n ((old-x es p pr d relabellings h w gx gy x y k b s e i q) .group-is))
-          inner (in-y i q) = absurd (n ((seen-y es p pr d relabellings h w gx gy x y k b s e i q) .group-is))
-          inner (elsewhere i q q′) = record {
-            was-two = c′;
-            was-at = old-edge es p v e z a;
-            not-x = q;
-            not-y = q′;
-            group-is = (seen-old es p pr d relabellings h w gx gy x y k b s e i q′) .group-is;
-            label-is = f;
-            low-is = g;
-            block-is = bl;
-          }
-
-  stands-gx : (v e : ℕ) → degree new v ≡ 2 → At new v e → b ≡ true → h′ .group e ≡ gx → Stand new mN h′ l′ v gx
-  stands-gx v e c a tr q = go (view v e c a)
-    where
-      go : Now v → Stand new mN h′ l′ v gx
-      go (in-path i t j e f g bl) = stand-path tr v i t j e f g bl
-      go (as-was c′ z nr f g bl) = inner (look es p pr d relabellings h w gx gy x y k b s e (a .inside))
-        where
-          a′ : At es v e
-          a′ = old-edge es p v e z a
-
-          inner : Look es p pr d relabellings h w gx gy x y k b s e → Stand new mN h′ l′ v gx
-          inner (new-one i) = absurd (let o : At new v (length es) = rw i at a in omega (arith, last-at es p o))
-          inner (in-x i u) = stand-x v (lab .owned v e c′ a′ ∙ u) f g bl (rw u at (lab .stands v e c′ a′ (rw u (s .open-x e i u))))
-          inner (in-y i u) = stand-y v (lab .owned v e c′ a′ ∙ u) f g bl (rw u at (lab .stands v e c′ a′ (rw u (s .open-y e i u))))
-          inner (elsewhere i u u′) = absurd (u (sym ((seen-old es p pr d relabellings h w gx gy x y k b s e i u′) .group-is) ∙ q))
-
-  stands′ : (v e : ℕ) → degree new v ≡ 2 → At new v e → h′ .isOpen (h′ .group e) ≡ true → Stand new mN h′ l′ v (h′ .group e)
-  stands′ v e c a t = go (ℕ-discrete (h′ .group e) gx)
-    where
-      go : Dec (h′ .group e ≡ gx) → Stand new mN h′ l′ v (h′ .group e)
-      go (yes q) =
-          let t′ : h′ .isOpen gx ≡ true = rw q at t in
-          rw q (stands-gx v e c a (sym (open-gx es p pr d relabellings h w gx gy x y k b s) ∙ t′) q)
-      go (no q) =
-          let o = other v e c a q in
-          let t′ : h′ .isOpen (h .group e) ≡ true = rw (o .group-is) at t in
-          let t″ : h .isOpen (h .group e) ≡ true = sym (open-o es p pr d relabellings h w gx gy x y k b s (h .group e) (o .not-x)) ∙ t′ in
-          rw (o .group-is) (stand-o v (h .group e) (o .not-x) (o .not-y) (lab .owned v e (o .was-two) (o .was-at)) (o .label-is) (o .low-is) (o .block-is) (lab .stands v e (o .was-two) (o .was-at) t″))
-
-  -- a closed group: these facts where it is the one that the edge closes
-  pub record Closing : Type 0 where
-    pub single-x : (v u e c : ℕ) → degree new v ≡ 2 → degree new u ≡ 2 → At new v e → At new u c → h′ .group e ≡ gx → h′ .group c ≡ gx → l′ .block v ≡ l′ .block u → labelAt mN v ≡ labelAt mN u → v ≡ u
-    pub within-x : (v e : ℕ) → degree new v ≡ 2 → At new v e → h′ .group e ≡ gx → gap (labelAt mN v) (base (l′ .block v)) + 1 ≤ 2 * size h′ (length new) gx
-    pub within-two-x : (v u e c : ℕ) → degree new v ≡ 2 → degree new u ≡ 2 → At new v e → At new u c → h′ .group e ≡ gx → h′ .group c ≡ gx → l′ .block v ≢ l′ .block u
-        → gap (labelAt mN v) (base (l′ .block v)) + gap (labelAt mN u) (base (l′ .block u)) + 1 ≤ 2 * size h′ (length new) gx
-
-  module _ (closing : b ≡ false → Closing) where
-    shut-x : (e : ℕ) → h′ .isOpen (h′ .group e) ≡ false → h′ .group e ≡ gx → b ≡ false
-    shut-x e t q = let t′ : h′ .isOpen gx ≡ false = rw q at t in sym (open-gx es p pr d relabellings h w gx gy x y k b s) ∙ t′
-
-    shut-o : (v e : ℕ) → Other v e → h′ .isOpen (h′ .group e) ≡ false → h .isOpen (h .group e) ≡ false
-    shut-o v e o t = let t′ : h′ .isOpen (h .group e) ≡ false = rw (o .group-is) at t in sym (open-o es p pr d relabellings h w gx gy x y k b s (h .group e) (o .not-x)) ∙ t′
-
-    single′ : (v u e c : ℕ) → degree new v ≡ 2 → degree new u ≡ 2 → At new v e → At new u c → h′ .isOpen (h′ .group e) ≡ false → h′ .group c ≡ h′ .group e
-        → l′ .block v ≡ l′ .block u → labelAt mN v ≡ labelAt mN u → v ≡ u
-    single′ v u e c cv cu av au t q bl tg = go (ℕ-discrete (h′ .group e) gx)
-      where
-        go : Dec (h′ .group e ≡ gx) → v ≡ u
-        go (yes z) = (closing (shut-x e t z)) .single-x v u e c cv cu av au z (q ∙ z) bl tg
-        go (no z) =
-            let o = other v e cv av z in
-            let o′ = other u c cu au (λ i. z (sym q ∙ i)) in
-            lab .single v u e c (o .was-two) (o′ .was-two) (o .was-at) (o′ .was-at) (shut-o v e o t) (sym (o′ .group-is) ∙ q ∙ o .group-is)
-            (sym (o .block-is) ∙ bl ∙ o′ .block-is) (sym (o .label-is) ∙ tg ∙ o′ .label-is)
-
-    within′ : (v e : ℕ) → degree new v ≡ 2 → At new v e → h′ .isOpen (h′ .group e) ≡ false → gap (labelAt mN v) (base (l′ .block v)) + 1 ≤ 2 * size h′ (length new) (h′ .group e)
-    within′ v e c a t = go (ℕ-discrete (h′ .group e) gx)
-      where
-        go : Dec (h′ .group e ≡ gx) → gap (labelAt mN v) (base (l′ .block v)) + 1 ≤ 2 * size h′ (length new) (h′ .group e)
-        go (yes z) = rw z ((closing (shut-x e t z)) .within-x v e c a z)
-        go (no z) =
-            let o = other v e c a z in
-            rw (o .label-is, o .block-is, o .group-is, size-o es p pr d relabellings h w gx gy x y k b s (h .group e) (o .not-x) (o .not-y)) (lab .within v e (o .was-two) (o .was-at) (shut-o v e o t))
-
-    within-two′ : (v u e c : ℕ) → degree new v ≡ 2 → degree new u ≡ 2 → At new v e → At new u c → h′ .isOpen (h′ .group e) ≡ false → h′ .group c ≡ h′ .group e
-        → l′ .block v ≢ l′ .block u → gap (labelAt mN v) (base (l′ .block v)) + gap (labelAt mN u) (base (l′ .block u)) + 1 ≤ 2 * size h′ (length new) (h′ .group e)
-    within-two′ v u e c cv cu av au t q bl = go (ℕ-discrete (h′ .group e) gx)
-      where
-        go : Dec (h′ .group e ≡ gx) → gap (labelAt mN v) (base (l′ .block v)) + gap (labelAt mN u) (base (l′ .block u)) + 1 ≤ 2 * size h′ (length new) (h′ .group e)
-        go (yes z) = rw z ((closing (shut-x e t z)) .within-two-x v u e c cv cu av au z (q ∙ z) bl)
-        go (no z) =
-            let o = other v e cv av z in
-            let o′ = other u c cu au (λ i. z (sym q ∙ i)) in
-            rw (o .label-is, o .block-is, o .group-is, o′ .label-is, o′ .block-is, size-o es p pr d relabellings h w gx gy x y k b s (h .group e) (o .not-x) (o .not-y))
-            (lab .within-two v u e c (o .was-two) (o′ .was-two) (o .was-at) (o′ .was-at) (shut-o v e o t) (sym (o′ .group-is) ∙ q ∙ o .group-is)
-            (λ i. bl (o .block-is ∙ i ∙ sym (o′ .block-is))))
-
-    pub grown-aligned : ((v : ℕ) → degree (es ++ (p ∷ [])) v ≡ 2 → (e : ℕ) × At (es ++ (p ∷ [])) v e)
-        → Aligned (es ++ (p ∷ [])) (following up label path m′) blocks′ (grown h (length es) gx gy x k b) (grownL l gx gy (size h (length es) gx) now path)
-    grown-aligned some = record {
-      owned = owned′;
-      least = λ v c. let f = some v c in least′ v (f .0) c (f .1);
-      most = λ v c. let f = some v c in most′ v (f .0) c (f .1);
-      along = along′;
-      stands = stands′;
-      single = single′;
-      within = within′;
-      within-two = within-two′;
-    }
-
-  -- where the course stays open
-  pub open-aligned : b ≡ true → ((v : ℕ) → degree (es ++ (p ∷ [])) v ≡ 2 → (e : ℕ) × At (es ++ (p ∷ [])) v e)
-      → Aligned (es ++ (p ∷ [])) (following up label path m′) blocks′ (grown h (length es) gx gy x k b) (grownL l gx gy (size h (length es) gx) now path)
-  open-aligned t some = grown-aligned shut some
-    where
-      clash : b ≡ false → ⊥
-      clash f = let z : _≡_ {A = ℕ} 0 1 = cc in omega arith
-
-      shut : b ≡ false → Closing
-      shut f = absurd (clash f)

@@ -16,7 +16,7 @@ use Rattle.model.proofs.Chains.Sums.{total}
 use Rattle.model.proofs.Groups.Shape.{Shape, size, Courses}
 use Rattle.model.proofs.Groups.Origins.{Origins, Aligned, Stand, Fits, labelAt, gap}
 use Rattle.model.proofs.Groups.Laying.{size-most, base-least}
-use Rattle.model.proofs.Groups.Closing.{fits-gap, fits-one, gap-le}
+use Rattle.model.proofs.Groups.Gaps.{fits-gap, fits-one, gap-le}
 
 -- two groups are together at most all edges
 one-of : (x g c : ℕ) → g ≢ c → same x g + same x c ≤ 1

@@ -17,18 +17,18 @@ use Rattle.model.specs.Labels.{Marks, base, isRelabelled, labelPath, mar
 -- ---- relabellings
 
 -- 1 where a label was changed to another, else 0
-unfoldable moved : ℕ → ℕ → ℕ
+unfoldable pub moved : ℕ → ℕ → ℕ
 moved t u = if isRelabelled t u then 1 else 0
 
 choice-le : (b : Bool) → (if b then 1 else 0) ≤ 1
 choice-le true = omega arith
 choice-le false = omega arith
 
-moved-le : (t u : ℕ) → moved t u ≤ 1
+pub moved-le : (t u : ℕ) → moved t u ≤ 1
 unfolding moved
 moved-le t u = choice-le (isRelabelled t u)
 
-moved-old : (t u : ℕ) → t ≡ 0 → moved t u ≡ 0
+pub moved-old : (t u : ℕ) → t ≡ 0 → moved t u ≡ 0
 unfolding moved isRelabelled
 moved-old t u e = rw (eq-eqb t 0 e)
 
@@ -45,7 +45,7 @@ moved-new : (t : ℕ) → moved t 0 ≡ 0
 unfolding moved isRelabelled
 moved-new t = rw (eq-eqb 0 0 refl) (or-true (eqb t 0) (eqb t 0))
 
-moved-same : (t : ℕ) → moved t t ≡ 0
+pub moved-same : (t : ℕ) → moved t t ≡ 0
 unfolding moved isRelabelled
 moved-same t = rw (eq-eqb t t refl) (or-last (eqb t 0) (eqb t 0))
 
@@ -61,7 +61,7 @@ re-at i j (t ∷ ts) (u ∷ us) = go (isRelabelled t u) refl (re-at (suc i) (suc
     go true e h = rw (e, relabelledFrom) (omega (arith, h))
     go false e h = rw (e, relabelledFrom) h
 
-re-cons : (t u : ℕ) (ts us : List ℕ) → relabelCount (t ∷ ts) (u ∷ us) ≡ moved t u + relabelCount ts us
+pub re-cons : (t u : ℕ) (ts us : List ℕ) → relabelCount (t ∷ ts) (u ∷ us) ≡ moved t u + relabelCount ts us
 unfolding relabelCount relabelled relabelledFrom moved
 re-cons t u ts us = go (isRelabelled t u) refl (re-at 1 0 ts us)
   where

@@ -1,97 +1,32 @@
--- One more edge, the six cases in one form: a path is labelled upwards or downwards, from a label on.
+-- Each of the six cases of one more edge has the form that Labels/Laid states.
 use mathlib.Core.Path.{_≡_, refl, sym, _∙_}
 use mathlib.Core.Logic.{_≢_, _⊎_, inl, inr}
-use Prim.Native.Nat.{ℕ, _+_, _-_, _≤_}
+use Prim.Native.Nat.{ℕ, _≤_}
 use native.Mathlib.Omega.{arith}
 use native.Mathlib.Decide.{ℕ-discrete}
 use mathlib.Core.Bool.{Bool, true, false}
 use mathlib.Core.List.{List, [], _∷_, _++_}
-use lib.ListN.{length, getD}
+use lib.ListN.{length}
 use lib.Dec.{leb}
 use borrow.Author.Tests.{eq-eqb, ne-eqb, leb-true, leb-false}
 use Rattle.model.specs.Basics.{if_then_else_}
-use Rattle.model.specs.Graph.{Edge, Pass, degree, endsAt, far, isLeaf, isRegular, onlyEdge, onwards, turn}
+use Rattle.model.specs.Graph.{Edge, Pass, degree, endsAt, far, isLeaf, isRegular, onlyEdge, onwards}
 use Rattle.model.specs.Cases.{closesRing}
-use Rattle.model.specs.Labels.{Labelling, Marks, attach, base, extend, inwards, joinPath, labelEdge, merge}
-use Rattle.model.proofs.Walks.Degree.{Proper, degree-snoc, endsAt-le, zero-or-one, is-two, two-is, not-two, proper-snoc, end-first, end-second, two-ends}
-use Rattle.model.proofs.Walks.Turn.{At, two-edges}
+use Rattle.model.specs.Labels.{Marks, attach, extend, inwards, joinPath, labelEdge, merge}
+use Rattle.model.proofs.Walks.Degree.{Proper, degree-snoc, endsAt-le, zero-or-one, is-two, not-two, proper-snoc, end-first, end-second, two-ends}
+use Rattle.model.proofs.Walks.Turn.{At}
 use Rattle.model.proofs.Walks.Trail.{Trail, done, pass, Across, across}
 use Rattle.model.proofs.Chains.Lines.{trail-at}
 use Rattle.model.proofs.Walks.Snoc.{far-old, Clear, trail-old}
-use Rattle.model.proofs.Walks.Ended.{never, other-end, far-ne}
-use Rattle.model.proofs.Walks.RingFree.{RingFree, turn-between, OneEdge, one-edge}
+use Rattle.model.proofs.Walks.Ended.{never, far-ne}
+use Rattle.model.proofs.Walks.RingFree.{RingFree, OneEdge, one-edge}
 use Rattle.model.proofs.Walks.Rings.{no-ring, onlyEdge-is}
-use Rattle.model.proofs.Walks.NewEdge.{at-new, at-last}
-use Rattle.model.proofs.Labels.Following.{following, from-base}
+use Rattle.model.proofs.Walks.NewEdge.{at-new}
 use Rattle.model.proofs.Labels.Cases.{compact, edge-compact}
 use Rattle.model.proofs.Labels.Splits.{unlabel, Bare, splits, no-splits}
 use Rattle.model.proofs.Labels.Inwards.{trail-nil, trail-head, trail-clear, Inward, inward-on, inward}
-
--- ---- attaching
-
--- from which label on a path is labelled, and in which direction
-pub data Kind (blocks e : ℕ) (kept : List Pass) (m : Marks) (up : Bool) (label blocks′ : ℕ) : Type 0 where
-  newBlock : kept ≡ [] → up ≡ true → label ≡ base (blocks + 1) - 1 → blocks′ ≡ blocks + 1 → Kind blocks e kept m up label blocks′
-  goes-up : (u : Pass) (us : List Pass) → kept ≡ u ∷ us → label ≡ getD (m .labels) (u .at) 0 → up ≡ true → getD (m .lows) (u .at) 0 ≢ e → blocks′ ≡ blocks
-      → Kind blocks e kept m up label blocks′
-  goes-down : (u : Pass) (us : List Pass) → kept ≡ u ∷ us → label ≡ getD (m .labels) (u .at) 0 → up ≡ false → getD (m .lows) (u .at) 0 ≡ e → blocks′ ≡ blocks
-      → Kind blocks e kept m up label blocks′
-
-pub record AttachOf (blocks e : ℕ) (kept path : List Pass) (m : Marks) (res : Labelling) : Type 0 where
-  pub up : Bool
-  pub label : ℕ
-  pub marks-is : res .marks ≡ following up label path m
-  pub kind : Kind blocks e kept m up label (res .blocks)
-
-pub attach-of : (blocks e : ℕ) (kept path : List Pass) (m : Marks) → AttachOf blocks e kept path m (attach blocks e kept path m)
-unfolding attach following
-attach-of blocks e [] path m = record { up = true; label = base (blocks + 1) - 1; marks-is = from-base blocks path m; kind = newBlock refl refl refl refl }
-attach-of blocks e (u ∷ us) path m = go (ℕ-discrete (getD (m .lows) (u .at) 0) e)
-  where
-    go : Dec (getD (m .lows) (u .at) 0 ≡ e) → AttachOf blocks e (u ∷ us) path m (attach blocks e (u ∷ us) path m)
-    go (yes q) = record {
-      up = false;
-      label = getD (m .labels) (u .at) 0;
-      marks-is = rw (eq-eqb (getD (m .lows) (u .at) 0) e q);
-      kind = goes-down u us refl refl refl q refl;
-    }
-    go (no q) = record {
-      up = true;
-      label = getD (m .labels) (u .at) 0;
-      marks-is = rw (ne-eqb (getD (m .lows) (u .at) 0) e q);
-      kind = goes-up u us refl refl refl q refl;
-    }
-
--- the same by the neighbour f of the first vertex of the path
-pub data Near (es : List Edge) (p : Edge) (f blocks e : ℕ) (m : Marks) (up : Bool) (label blocks′ : ℕ) : Type 0 where
-  none-near : degree (es ++ (p ∷ [])) f ≢ 2 → up ≡ true → label ≡ base (blocks + 1) - 1 → blocks′ ≡ blocks + 1 → Near es p f blocks e m up label blocks′
-  near : degree es f ≡ 2 → endsAt f p ≡ 0 → label ≡ getD (m .labels) f 0 → blocks′ ≡ blocks
-      → ((up ≡ true) × (getD (m .lows) f 0 ≢ e)) ⊎ ((up ≡ false) × (getD (m .lows) f 0 ≡ e)) → Near es p f blocks e m up label blocks′
-
--- a path is labelled that begins at the leaf x, whose only edge is e; y is the other end of the new edge
-pub record Laid (es : List Edge) (p : Edge) (blocks : ℕ) (m : Marks) (res : Labelling) (x y e : ℕ) (path : List Pass) : Type 0 where
-  pub x-end : endsAt x p ≡ 1
-  pub y-end : endsAt y p ≡ 1
-  pub x-y : x ≢ y
-  pub x-leaf : degree es x ≡ 1
-  pub e-at : At es x e
-  pub m′ : Marks
-  pub bare : Bare es p m m′
-  pub up : Bool
-  pub label : ℕ
-  pub marks-is : res .marks ≡ following up label path m′
-  pub onto : ℕ
-  pub to : ℕ
-  pub trail : Trail (es ++ (p ∷ [])) e x path onto to
-  pub stops : degree (es ++ (p ∷ [])) to ≢ 2
-  pub by : Near es p (far es e x) blocks e m up label (res .blocks)
-
-pub data Inserted (es : List Edge) (p : Edge) (blocks : ℕ) (m : Marks) (res : Labelling) : Type 0 where
-  fresh : degree es (p .first) ≢ 1 → degree es (p .second) ≢ 1 → res .blocks ≡ blocks → Bare es p m (res .marks) → Inserted es p blocks m res
-  extends : (x y e : ℕ) → degree es y ≢ 1 → Laid es p blocks m res x y e (record { before = e; at = x; after = length es } ∷ []) → Inserted es p blocks m res
-  merges : (x y e c : ℕ) → degree es y ≡ 1 → At es y c → length (inwards es y) ≤ length (inwards es x)
-      → Laid es p blocks m res x y e (record { before = e; at = x; after = length es } ∷ record { before = length es; at = y; after = c } ∷ inwards es y)
-      → Inserted es p blocks m res
+use Rattle.model.proofs.Labels.Laid.{Kind, newBlock, goes-up, goes-down, attach-of, Near, none-near, near, Inserted, fresh, extends, merges}
+use Rattle.model.proofs.Walks.NewTurn.{NewTurn, new-turn, far-last}
 
 module _ (es : List Edge) (p : Edge) (pr : Proper es) (d : p .first ≢ p .second) (rf : RingFree es) (rf′ : RingFree (es ++ (p ∷ [])))
     (nr : closesRing es (p .first) (p .second) ≡ false) (blocks : ℕ) (m : Marks) where
@@ -100,19 +35,6 @@ module _ (es : List Edge) (p : Edge) (pr : Proper es) (d : p .first ≢ p .secon
 
   proper-new : Proper new
   proper-new = proper-snoc es p pr d
-
-  -- at an end x of the new edge that was a leaf, turning from its old edge leads to the new one, and back
-  turn-on : (x e : ℕ) → endsAt x p ≡ 1 → degree es x ≡ 1 → At es x e → turn new e x ≡ length es
-  turn-on x e o c a = turn-between new x e (length es) (two-edges new x proper-new (omega (arith, degree-snoc es p x))) (at-new es p a) (at-last es p o) (λ z. omega (arith, a .inside))
-
-  turn-off : (x e : ℕ) → endsAt x p ≡ 1 → degree es x ≡ 1 → At es x e → turn new (length es) x ≡ e
-  turn-off x e o c a = turn-between new x (length es) e (two-edges new x proper-new (omega (arith, degree-snoc es p x))) (at-last es p o) (at-new es p a) (λ z. omega (arith, a .inside))
-
-  regular-now : (x : ℕ) → endsAt x p ≡ 1 → degree es x ≡ 1 → isRegular new x ≡ true
-  regular-now x o c = two-is new x (omega (arith, degree-snoc es p x))
-
-  far-last : (x y : ℕ) → endsAt x p ≡ 1 → endsAt y p ≡ 1 → x ≢ y → far new (length es) x ≡ y
-  far-last x y a b n = sym (other-end new (length es) x y proper-new (at-last es p a) (at-last es p b) (λ z. n (sym z)))
 
   -- ---- extending
   near-extends : (x y e : ℕ) (m′ : Marks) (up : Bool) (label blocks′ : ℕ) → endsAt x p ≡ 1 → endsAt y p ≡ 1 → x ≢ y → degree es y ≢ 1 → At es x e → Bare es p m m′
@@ -163,8 +85,9 @@ module _ (es : List Edge) (p : Edge) (pr : Proper es) (d : p .first ≢ p .secon
   path-extend : (x y e : ℕ) → endsAt x p ≡ 1 → endsAt y p ≡ 1 → x ≢ y → degree es x ≡ 1 → At es x e
       → Trail new e x (record { before = e; at = x; after = length es } ∷ []) (length es) y
   path-extend x y e ox oy xy cx a =
-      let v : Trail new (length es) (far new (length es) x) [] (length es) y = rw (far-last x y ox oy xy) done in
-      pass (length es) (regular-now x ox cx) (turn-on x e ox cx a) v
+      let v : Trail new (length es) (far new (length es) x) [] (length es) y = rw (far-last es p pr d x y ox oy xy) done in
+      let t : NewTurn es p x e = new-turn es p pr d x e ox cx a in
+      pass (length es) (t .regular) (t .out) v
 
   laid-extend : (x y : ℕ) (m′ : Marks) → endsAt x p ≡ 1 → endsAt y p ≡ 1 → x ≢ y → degree es x ≡ 1 → degree es y ≢ 1 → Bare es p m m′
       → Inserted es p blocks m (extend es new blocks x m′)
@@ -254,9 +177,11 @@ module _ (es : List Edge) (p : Edge) (pr : Proper es) (d : p .first ≢ p .secon
       let clear : Clear p ss = trail-clear p (λ v q. no-end v q (zero-or-one (endsAt v p) (endsAt-le v p d))) (i .trail) in
       let t : Trail new c (far es c y) ss (i .onto) (i .to) = trail-old p pr ((across es c y pr b) .at) clear (i .trail) in
       let t′ : Trail new c (far new c y) ss (i .onto) (i .to) = rw (far-old es p c y (b .inside)) t in
-      let u : Trail new (length es) y (record { before = length es; at = y; after = c } ∷ ss) (i .onto) (i .to) = pass c (regular-now y oy cy) (turn-off y c oy cy b) t′ in
-      let u′ : Trail new (length es) (far new (length es) x) (record { before = length es; at = y; after = c } ∷ ss) (i .onto) (i .to) = rw (far-last x y ox oy xy) u in
-      pass (length es) (regular-now x ox cx) (turn-on x e ox cx a) u′
+      let ty : NewTurn es p y c = new-turn es p pr d y c oy cy b in
+      let u : Trail new (length es) y (record { before = length es; at = y; after = c } ∷ ss) (i .onto) (i .to) = pass c (ty .regular) (ty .back) t′ in
+      let u′ : Trail new (length es) (far new (length es) x) (record { before = length es; at = y; after = c } ∷ ss) (i .onto) (i .to) = rw (far-last es p pr d x y ox oy xy) u in
+      let tx : NewTurn es p x e = new-turn es p pr d x e ox cx a in
+      pass (length es) (tx .regular) (tx .out) u′
     where
       no-end : (v : ℕ) → degree es v ≡ 2 → (endsAt v p ≡ 0) ⊎ (endsAt v p ≡ 1) → endsAt v p ≡ 0
       no-end v q (inl z) = z

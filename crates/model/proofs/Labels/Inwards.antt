@@ -6,16 +6,16 @@ use mathlib.Core.Bool.{true, false}
 use mathlib.Core.List.{List, [], _∷_}
 use lib.ListN.{length}
 use borrow.Author.Tests.{eqb-true}
-use Rattle.model.specs.Graph.{Edge, Pass, degree, endsAt, far, isRegular, onwards, walk}
+use Rattle.model.specs.Graph.{Edge, Pass, degree, endsAt, far, isRegular, onwards}
 use Rattle.model.specs.Labels.{inwards}
 use Rattle.model.proofs.Walks.Degree.{Proper}
 use Rattle.model.proofs.Walks.Turn.{At}
-use Rattle.model.proofs.Walks.Trail.{Trail, done, pass, Across, across, trail-walk}
+use Rattle.model.proofs.Walks.Trail.{Trail, done, pass, across}
 use Rattle.model.proofs.Walks.Snoc.{Clear}
-use Rattle.model.proofs.Walks.Ended.{trail-short}
-use Rattle.model.proofs.Walks.RingFree.{Ended, RingFree}
+use Rattle.model.proofs.Walks.RingFree.{RingFree}
 use Rattle.model.proofs.Walks.Rings.{onlyEdge-is}
 use Rattle.model.proofs.Labels.Following.{Ith, here, later}
+use Rattle.model.proofs.Walks.Whole.{Onwards, onwards-ends}
 
 pub trail-nil : {es : List Edge} {p f q g : ℕ} {ss : List Pass} → Trail es p f ss q g → ss ≡ [] → f ≡ g
 trail-nil done e = refl
@@ -52,12 +52,9 @@ pub record Inward (es : List Edge) (x e : ℕ) (ss : List Pass) : Type 0 where
 
 module _ (es : List Edge) (pr : Proper es) (rf : RingFree es) where
   pub inward-on : (x e : ℕ) → At es x e → Inward es x e (onwards es e (far es e x))
-  unfolding onwards
   inward-on x e a =
-      let c : Across es e x = across es e x pr a in
-      let r : Ended es e (far es e x) = rf e (far es e x) (c .at) in
-      let w : walk (length es) es e (far es e x) ≡ r .passes = trail-walk (length es) (r .trail) (r .singular) (omega (arith, trail-short es pr (c .at) (r .trail) (r .singular))) in
-      record { onto = r .onto; to = r .to; trail = rw w (r .trail); singular = r .singular }
+      let o : Onwards es e (far es e x) = onwards-ends es pr rf e (far es e x) ((across es e x pr a) .at) in
+      record { onto = o .onto; to = o .to; trail = o .trail; singular = o .singular }
 
   pub inward : (x e : ℕ) → degree es x ≡ 1 → At es x e → Inward es x e (inwards es x)
   unfolding inwards

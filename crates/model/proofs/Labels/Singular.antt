@@ -10,7 +10,7 @@ use Rattle.model.specs.Graph.{Edge, Pass, degree, endsAt}
 use Rattle.model.specs.Labels.{Labelling, Marks, relabelCount}
 use Rattle.model.proofs.Walks.Degree.{degree-snoc, endsAt-le, zero-or-one}
 use Rattle.model.proofs.Labels.Following.{following, labelOf, Wears, given, kept, wears, re-path, re-first, following-long}
-use Rattle.model.proofs.Labels.Inserted.{Laid}
+use Rattle.model.proofs.Labels.Laid.{Laid}
 use Rattle.model.proofs.Labels.Splits.{Bare}
 use Rattle.model.proofs.Labels.Inwards.{trail-regular}
 

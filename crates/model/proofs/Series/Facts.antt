@@ -1,12 +1,12 @@
 -- The invariant of every register in a series, and what a call does to what is stored for such a register.
-use mathlib.Core.Path.{_≡_, refl, sym, ap, subst}
-use Prim.Native.Nat.{ℕ, zero, suc, _*_, _≤_}
+use mathlib.Core.Path.{_≡_, refl, sym, subst}
+use Prim.Native.Nat.{ℕ, _*_, _≤_}
 use native.Mathlib.Omega.{arith}
 use mathlib.Core.Bool.{Bool, true, false}
 use mathlib.Core.Option.{some}
 use mathlib.Core.List.{List, [], _∷_}
 use lib.ListN.{length, drop, replicate, length-append, length-drop, length-replicate, length-map}
-use Rattle.model.specs.Basics.{countFrom, if_then_else_, maxEdges, maxVertices, upTo}
+use Rattle.model.specs.Basics.{if_then_else_, maxEdges, maxVertices, upTo}
 use Rattle.model.specs.Graph.{Edge, degree}
 use Rattle.model.specs.Register.{Register, empty}
 use Rattle.model.specs.Format.{growList}
@@ -15,6 +15,7 @@ use Rattle.model.specs.Tables.{cleared, edgeLengths, endsOf, fits, held,
 use Rattle.model.specs.Calls.{Call, Lent, Outcome, admits, allFit, answers, bars, effect, finds, gate, grows, lands, measures, reaches, readEffect, registerFor, scratchAfter, sheets, sliceOf, step}
 use Rattle.model.specs.Series.{Made, after, afterCall, ask, start}
 use Rattle.model.specs.Computing.{computing}
+use Rattle.model.proofs.Basics.Lists.{length-upTo}
 use Rattle.model.proofs.Walks.Keeps.{Accepted, Added, list-keeps}
 use Rattle.model.proofs.Chains.Sheet.{sheet-leaves}
 use Rattle.model.proofs.Series.Held.{Regrows, is-held, empty-regrows, vertex-regrows, edge-regrows, length-ends, length-lengths, eqList-refl}
@@ -86,15 +87,6 @@ start-is = refl
 
 -- ---- the sizes of the tables
 
-length-countFrom : (at n : ℕ) → length (countFrom at n) ≡ n
-unfolding countFrom
-length-countFrom at zero = refl
-length-countFrom at (suc n) = ap suc (length-countFrom (suc at) n)
-
-length-upTo : (n : ℕ) → length (upTo n) ≡ n
-unfolding upTo
-length-upTo n = length-countFrom 0 n
-
 length-sides : (r : Register) (vs : List ℕ) → length (sidesOf r vs) ≡ 2 * length vs
 unfolding sidesOf
 length-sides r [] = refl
@@ -158,7 +150,7 @@ scratch-kept : (l : Lent) → allFit l ≡ false → scratchAfter l ≡ l .scrat
 unfolding scratchAfter
 scratch-kept l a = rw a
 
-step-admits : (c : Call) (l : Lent) (r : Register) → allFit l ≡ true → registerFor c l ≡ some r → step c l ≡ outcomeOf c r
+pub step-admits : (c : Call) (l : Lent) (r : Register) → allFit l ≡ true → registerFor c l ≡ some r → step c l ≡ outcomeOf c r
 unfolding step outcomeOf
 step-admits c l r a h = rw (gate-admits c l r a h, step) (rw (scratch-cleared l a))
 

@@ -1,6 +1,5 @@
 -- What is stored for a register is held: growing its own vertices and edges from empty leaves it again.
 use mathlib.Core.Path.{_≡_, refl, sym, ap, ap₂, _∙_, subst}
-use mathlib.Core.Logic.{_≢_}
 use Prim.Native.Nat.{ℕ, zero, suc, _+_, _*_, _≤_, _<_}
 use native.Mathlib.Omega.{arith}
 use native.Mathlib.Nat.{not-suc-le-zero, add-zero}
@@ -10,12 +9,13 @@ use mathlib.Core.List.{List, [], _∷_, _++_, map}
 use lib.ListN.{length, getD, drop, replicate, List·getD-append}
 use lib.Seq.{drop-cons, drop-length}
 use borrow.Author.Tests.{eq-eqb, ne-eqb, lt-ltb, le-ltb, lt-leb}
-use Rattle.model.specs.Basics.{countFrom, maxEdges, maxLength, maxVertices, upTo}
+use Rattle.model.specs.Basics.{countFrom, if_then_else_, maxEdges, maxLength, maxVertices, upTo}
 use Rattle.model.specs.Graph.{Edge, edgeAt, noEdge}
 use Rattle.model.specs.Cases.{closesRing}
 use Rattle.model.specs.Register.{Landed, Register, empty, landEdge, landVertex, landed, refused, withEdge, withVertex}
 use Rattle.model.specs.Tables.{Counts, Stored, Tables, countsOf, edgeIn, edgeLengths, edgesIn, endsOf, eqCounts, eqList, eqStored, eqTables, growFrom, held, landEdges, landVertices, padded, storedOf, tablesOf}
-use Rattle.model.proofs.Walks.Keeps.{Accepted, accepted, Added}
+use Rattle.model.specs.Notions.{Admissible}
+use Rattle.model.proofs.Walks.Keeps.{Accepted, accepted, Added, landed-is}
 use Rattle.model.proofs.Series.Commute.{commute}
 
 -- a register of n vertices alone
@@ -37,33 +37,41 @@ pub record Regrows (r : Register) : Type 0 where
 
 -- ---- landing edges
 
--- an edge that meets the conditions is landed
-pub edge-lands : (r : Register) (e : Edge) → e .first < r .vertices → e .second < r .vertices → e .first ≢ e .second → 1 ≤ e .len
-    → e .len ≤ maxLength → length (r .edges) < maxEdges → closesRing (r .edges) (e .first) (e .second) ≡ false
-    → landEdge r e ≡ landed (withEdge r e)
+-- where no other refusal holds, the ring test decides
+pub edge-tested : (r : Register) (e : Edge) → Admissible r e
+    → landEdge r e ≡ (if closesRing (r .edges) (e .first) (e .second) then refused 24 else landed (withEdge r e))
 unfolding landEdge
-edge-lands r e a b n s m l c =
+edge-tested r e a =
     rw (
-      lt-ltb (e .first) (r .vertices) a,
-      lt-ltb (e .second) (r .vertices) b,
-      ne-eqb (e .first) (e .second) n,
-      ne-eqb (e .len) 0 (λ z. omega arith),
-      le-ltb maxLength (e .len) m,
-      lt-leb maxEdges (length (r .edges)) l,
-      c,
+      lt-ltb (e .first) (r .vertices) (a .first-landed),
+      lt-ltb (e .second) (r .vertices) (a .second-landed),
+      ne-eqb (e .first) (e .second) (a .differ),
+      ne-eqb (e .len) 0 (λ z. omega (arith, a .some-length)),
+      le-ltb maxLength (e .len) (a .most-length),
+      lt-leb maxEdges (length (r .edges)) (a .room),
     )
 
+pub edge-lands : (r : Register) (e : Edge) → Admissible r e → closesRing (r .edges) (e .first) (e .second) ≡ false
+    → landEdge r e ≡ landed (withEdge r e)
+edge-lands r e a c = edge-tested r e a ∙ rw c
+
+pub edge-refused : (r : Register) (e : Edge) → Admissible r e → closesRing (r .edges) (e .first) (e .second) ≡ true → landEdge r e ≡ refused 24
+edge-refused r e a c = edge-tested r e a ∙ rw c
+
 -- .. on one vertex more as well
-lands-more : (r : Register) (e : Edge) (r′ : Register) → landEdge r e ≡ landed r′ → landEdge (withVertex r) e ≡ landed (withVertex r′)
+pub lands-more : (r : Register) (e : Edge) (r′ : Register) → landEdge r e ≡ landed r′ → landEdge (withVertex r) e ≡ landed (withVertex r′)
 unfolding withVertex
 lands-more r e r′ h =
     let a = accepted r e r′ h in
-    edge-lands (withVertex r) e (omega (arith, a .first-landed)) (omega (arith, a .second-landed)) (a .differ) (a .some-length)
-    (a .most-length) (a .room) (a .no-ring)
+    edge-lands (withVertex r) e (record {
+      first-landed = omega (arith, a .first-landed);
+      second-landed = omega (arith, a .second-landed);
+      differ = a .differ;
+      some-length = a .some-length;
+      most-length = a .most-length;
+      room = a .room;
+    }) (a .no-ring)
     ∙ ap {B = Landed} landed (commute r e ∙ ap withVertex (a .result))
-
-landed-is : (r s : Register) → landed r ≡ landed s → r ≡ s
-landed-is r s e = cc
 
 not-refused : (x : ℕ) (r : Register) → refused x ≡ landed r → ⊥
 not-refused x r e = let z : _≡_ {A = ℕ} 0 1 = cc in omega arith
@@ -229,7 +237,7 @@ pub held-from : (s : Stored) (r : Register) → growFrom (s .counts .vertices) (
 unfolding held
 held-from s r h k = rw (h, held) (rw k)
 
-grow-again : (r : Register) → Regrows r
+pub grow-again : (r : Register) → Regrows r
     → growFrom ((storedOf r) .counts .vertices) (edgesIn ((storedOf r) .tables) ((storedOf r) .counts .edges)) ≡ landed r
 unfolding storedOf countsOf
 grow-again r g =

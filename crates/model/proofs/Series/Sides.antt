@@ -9,14 +9,14 @@ use lib.ListN.{length}
 use Rattle.model.specs.Graph.{Edge, Pass, degree, endsAt}
 use Rattle.model.specs.Labels.{Labelling, Marks, inwards, labelEdge}
 use Rattle.model.specs.Register.{Register, empty, marksOf, withEdge, withVertex}
-use Rattle.model.specs.Format.{landList}
 use Rattle.model.proofs.Walks.Degree.{Proper, degree-snoc, end-first, end-second, two-ends}
 use Rattle.model.proofs.Walks.Turn.{At}
-use Rattle.model.proofs.Walks.Keeps.{Accepted, list-keeps}
+use Rattle.model.proofs.Walks.Keeps.{Accepted, Added}
 use Rattle.model.proofs.Walks.RingFree.{RingFree, ring-free}
 use Rattle.model.proofs.Walks.Rings.{no-ring}
 use Rattle.model.proofs.Labels.Following.{here, later}
-use Rattle.model.proofs.Labels.Inserted.{Inserted, fresh, extends, merges, inserted}
+use Rattle.model.proofs.Labels.Laid.{Inserted, fresh, extends, merges}
+use Rattle.model.proofs.Labels.Inserted.{inserted}
 use Rattle.model.proofs.Groups.Origins.{labelAt}
 use Rattle.model.proofs.Groups.InPath.{InPath}
 use Rattle.model.proofs.Series.Labelled.{Labelled, labelled-edge, label-not-zero, ends-landed}
@@ -91,13 +91,10 @@ full-edge r p r′ f a = record { kept = subst Kept (sym (a .result)) (kept-edge
     pos : (v : ℕ) → degree (es ++ (p ∷ [])) v ≡ 2 → 1 ≤ labelAt (res .marks) v
     pos v two = label-not-zero (withEdge r p) (labelled-edge r p r′ c a) v two
 
-pub full-list : (r : Register) (bs : List ℕ) → Full r → Full ((landList r bs) .register)
+pub full-vertex : (r r′ : Register) → Full r → Added r r′ → Full r′
 unfolding withVertex marksOf
-full-list r bs h =
-    list-keeps Full
-    (λ r r′ f a. subst Full (a .result) (record { kept = subst Kept (sym (a .result)) (kept-vertex r r′ (f .kept) a); sided = f .sided }))
-    (λ r p r′ f a. subst Full (a .result) (full-edge r p r′ f a))
-    r bs h
+full-vertex r r′ f a =
+    subst Full (a .result) (record { kept = subst Kept (sym (a .result)) (kept-vertex r r′ (f .kept) a); sided = f .sided })
 
 pub full-empty : Full empty
 unfolding empty marksOf degree

@@ -10,7 +10,7 @@ use lib.Seq.{append-snoc}
 use Rattle.model.specs.Basics.{if_then_else_, sum}
 use Rattle.model.specs.Graph.{Edge}
 use Rattle.model.specs.Register.{Landed, Register, empty, landEdge, landVertex, landed, refused, withEdge, withVertex}
-use Rattle.model.specs.Format.{Read, Record, bad, edge, firstRecord, growList, headerRefusal, landList, landRecords, vertex}
+use Rattle.model.specs.Format.{Record, bad, edge, firstRecord, growList, headerRefusal, landList, landRecords, vertex}
 use Rattle.model.specs.Tables.{edgeLengths, fits}
 use Rattle.model.specs.Calls.{Call, answers, effect, finds, grows, lands, measures, reaches, readEffect, sheets}
 use Rattle.model.specs.Series.{Landing, Made, accepts, after, afterCall, landedBy, landedEdges, landings, lengthsSum, relabelledBy, since}
@@ -45,18 +45,18 @@ lengths-are (l ∷ ls) = omega (arith, lengths-are ls)
 
 -- ---- one record
 
-told-empty : Told empty []
+pub told-empty : Told empty []
 unfolding empty landedEdges relabelledBy
 told-empty = record { edges-are = refl; total-is = refl }
 
-told-vertex : (r r′ : Register) (ls : List Landing) → Told r ls → Added r r′ → Told r′ ls
+pub told-vertex : (r r′ : Register) (ls : List Landing) → Told r ls → Added r r′ → Told r′ ls
 unfolding withVertex
 told-vertex r r′ ls t a = subst (λ (s : Register). Told s ls) (a .result) (record { edges-are = t .edges-are; total-is = t .total-is })
 
-unfoldable landingOf : Register → Edge → Register → Landing
+unfoldable pub landingOf : Register → Edge → Register → Landing
 landingOf r e r′ = record { edge = e; before = r .labels; after = r′ .labels }
 
-told-edge : (r : Register) (e : Edge) (r′ : Register) (ls : List Landing) → Told r ls → Accepted r e r′
+pub told-edge : (r : Register) (e : Edge) (r′ : Register) (ls : List Landing) → Told r ls → Accepted r e r′
     → Told r′ (ls ++ (landingOf r e r′ ∷ []))
 unfolding withEdge landingOf landedEdges relabelledBy
 told-edge r e r′ ls t a =

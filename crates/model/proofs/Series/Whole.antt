@@ -56,7 +56,7 @@ series-is (m ∷ ms) r k = rw ((step-does m r k) .0) (series-is ms (afterCall m 
 
 -- ---- the facts of one register
 
-measure-is : (r : Register) (v w : ℕ) → v < r .vertices → w < r .vertices → measure r v w ≡ measured (distance (r .edges) v w)
+pub measure-is : (r : Register) (v w : ℕ) → v < r .vertices → w < r .vertices → measure r v w ≡ measured (distance (r .edges) v w)
 unfolding measure
 measure-is r v w a b = rw (lt-ltb v (r .vertices) a, lt-ltb w (r .vertices) b)
 

@@ -9,28 +9,17 @@ use mathlib.Core.List.{List, [], _∷_}
 use lib.ListN.{length, drop}
 use lib.Dec.{eqb, leb, ltb}
 use borrow.Author.Tests.{ltb-true, ltb-false, leb-false, eqb-false}
-use Rattle.model.specs.Basics.{if_then_else_}
+use Rattle.model.specs.Basics.{if_then_else_, maxEdges, maxLength}
 use Rattle.model.specs.Graph.{Edge}
 use Rattle.model.specs.Cases.{closesRing}
 use Rattle.model.specs.Register.{Landed, Register, landEdge, landVertex, landed, refused, withEdge, withVertex}
 use Rattle.model.specs.Format.{Record, bad, edge, firstRecord, headerRefusal, landList, landRecords, vertex}
+use Rattle.model.proofs.Basics.Booleans.{not-false, and-true, or-false}
 
 -- one refusal taken off
 unless : (b : Bool) (n : ℕ) (x : Landed) (r : Register) → (if b then refused n else x) ≡ landed r → (b ≡ false) × (x ≡ landed r)
 unless true n x r e = absurd (let z : _≡_ {A = ℕ} 0 1 = cc in omega arith)
 unless false n x r e = (refl, e)
-
-not-false : (b : Bool) → not b ≡ false → b ≡ true
-not-false true e = refl
-not-false false e = cc
-
-and-true : (a b : Bool) → (a && b) ≡ true → (a ≡ true) × (b ≡ true)
-and-true true b e = (refl, e)
-and-true false b e = (cc, cc)
-
-or-false : (a b : Bool) → (a || b) ≡ false → (a ≡ false) × (b ≡ false)
-or-false true b e = (cc, cc)
-or-false false b e = (refl, e)
 
 -- an edge that is landed meets every condition
 pub record Accepted (r : Register) (p : Edge) (r′ : Register) : Type 0 where
@@ -47,7 +36,7 @@ pub record Accepted (r : Register) (p : Edge) (r′ : Register) : Type 0 where
 pos : (n : ℕ) → (n ≡ 0 → ⊥) → 1 ≤ n
 pos n h = omega arith
 
-landed-is : (r s : Register) → landed r ≡ landed s → r ≡ s
+pub landed-is : (r s : Register) → landed r ≡ landed s → r ≡ s
 landed-is r s e = cc
 
 pub accepted : (r : Register) (p : Edge) (r′ : Register) → landEdge r p ≡ landed r′ → Accepted r p r′
@@ -72,15 +61,44 @@ accepted r p r′ e =
       result = landed-is _ _ (h₂₄ .1);
     }
 
+-- an edge that is refused with 24 passes all other tests, and the ring test holds of it
+pub record RefusedRing (r : Register) (p : Edge) : Type 0 where
+  pub differ : p .first ≢ p .second
+  pub closes : closesRing (r .edges) (p .first) (p .second) ≡ true
+
+other-number : (m n : ℕ) → refused m ≡ refused n → m ≡ n
+other-number m n e = cc
+
+unless-24 : (b : Bool) (n : ℕ) (x : Landed) → n < 24 → (if b then refused n else x) ≡ refused 24 → (b ≡ false) × (x ≡ refused 24)
+unless-24 true n x h e = absurd (let z = other-number n 24 e in omega arith)
+unless-24 false n x h e = (refl, e)
+
+below-24 : (5 < 24) × ((6 < 24) × ((7 < 24) × (23 < 24)))
+below-24 = (omega arith, (omega arith, (omega arith, omega arith)))
+
+last-24 : (b : Bool) (r : Register) → (if b then refused 24 else landed r) ≡ refused 24 → b ≡ true
+last-24 true r e = refl
+last-24 false r e = absurd (let z : _≡_ {A = ℕ} 0 1 = cc in omega arith)
+
+pub refused-24 : (r : Register) (p : Edge) → landEdge r p ≡ refused 24 → RefusedRing r p
+unfolding landEdge
+refused-24 r p e =
+    let h₅ = unless-24 (not (ltb (p .first) (r .vertices) && ltb (p .second) (r .vertices))) 5 _ (below-24 .0) e in
+    let h₆ = unless-24 (eqb (p .first) (p .second)) 6 _ (below-24 .1 .0) (h₅ .1) in
+    let h₇ = unless-24 (eqb (p .len) 0 || ltb maxLength (p .len)) 7 _ (below-24 .1 .1 .0) (h₆ .1) in
+    let h₂₃ = unless-24 (leb maxEdges (length (r .edges))) 23 _ (below-24 .1 .1 .1) (h₇ .1) in
+    record { differ = eqb-false _ _ (h₆ .0); closes = last-24 (closesRing (r .edges) (p .first) (p .second)) (withEdge r p) (h₂₃ .1) }
+
 pub record Added (r r′ : Register) : Type 0 where
   pub room : r .vertices < 4096
+  pub lands : landVertex r ≡ landed r′
   pub result : withVertex r ≡ r′
 
 pub added : (r r′ : Register) → landVertex r ≡ landed r′ → Added r r′
 unfolding landVertex
 added r r′ e =
     let h = unless (leb 4096 (r .vertices)) 22 (landed (withVertex r)) r′ e in
-    record { room = leb-false _ _ (h .0); result = landed-is _ _ (h .1) }
+    record { room = leb-false _ _ (h .0); lands = e; result = landed-is _ _ (h .1) }
 
 -- induction over the records of a list
 module _ (P : Register → Type 0)

@@ -17,6 +17,7 @@ use Rattle.model.proofs.Walks.Trail.{Trail, done, pass, trail-back, tra
 use Rattle.model.proofs.Chains.Lines.{trail-at}
 use Rattle.model.proofs.Walks.Ended.{trail-short}
 use Rattle.model.proofs.Walks.RingFree.{RingFree, OneEdge, one-edge}
+use Rattle.model.proofs.Basics.Booleans.{and-intro}
 
 pub trail-endOf : {es : List Edge} {p f q g : ℕ} {ss : List Pass} → Trail es p f ss q g → endOf es f ss ≡ g
 unfolding endOf
@@ -39,7 +40,9 @@ module _ (es : List Edge) (pr : Proper es) where
       let x = across es e a pr at in
       let j = leaf-singular es b hb in
       let w : walk (length es) es e (far es e a) ≡ ss = trail-walk (length es) u j (omega (arith, trail-short es pr (x .at) u j)) in
-      rw (eq-eqb (degree es a) 1 ha, eq-eqb (degree es b) 1 hb, onlyEdge-is es a e pr ha at, w, trail-endOf u) (eq-eqb b b refl)
+      let z : endOf es (far es e a) (walk (length es) es e (far es e a)) ≡ b = rw w (trail-endOf u) in
+      and-intro (and-intro (eq-eqb (degree es a) 1 ha) (eq-eqb (degree es b) 1 hb))
+      (rw (onlyEdge-is es a e pr ha at) (eq-eqb (endOf es (far es e a) (walk (length es) es e (far es e a))) b z))
 
 pub no-ring : (es : List Edge) (n : Edge) → Proper es → closesRing es (n .first) (n .second) ≡ false
     → (x y e q : ℕ) (ss : List Pass) → endsAt x n ≡ 1 → endsAt y n ≡ 1 → degree es x ≡ 1 → degree es y ≡ 1

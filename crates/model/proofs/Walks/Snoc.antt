@@ -5,11 +5,11 @@ use Prim.Native.Nat.{ℕ, suc, _<_}
 use native.Mathlib.Omega.{arith}
 use mathlib.Core.List.{List, [], _∷_, _++_}
 use lib.ListN.{length, List·getD-append}
+use borrow.Author.Tests.{eqb-true}
 use Rattle.model.specs.Graph.{Edge, Pass, degree, edgeAt, endsAt, far, incident, incidentFrom, isRegular, noEdge, turn}
 use Rattle.model.proofs.Walks.Degree.{Proper, degree-snoc, endsAt-le, zero-or-one, incidentFrom-skip, incidentFrom-take}
 use Rattle.model.proofs.Walks.Turn.{At, turned, Turned, two-edges}
 use Rattle.model.proofs.Walks.Trail.{Trail, done, pass, Across, across}
-use borrow.Author.Tests.{eqb-true}
 
 module _ (es : List Edge) (n : Edge) where
   abbrev new : List Edge

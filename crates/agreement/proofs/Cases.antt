@@ -1,0 +1,63 @@
+-- Which table function an insertion is, by which of its ends are leaves.
+use mathlib.Core.Path.{_≡_, refl}
+use Prim.Native.Nat.{ℕ, zero, suc}
+use native.Mathlib.Omega.{arith}
+use mathlib.Core.Bool.{Bool, true, false, _&&_}
+use mathlib.Core.List.{List}
+use lib.Dec.{eqb}
+use borrow.Author.Tests.{eqb-true, ne-eqb}
+use Rattle.model.specs.Basics.{if_then_else_}
+use Rattle.model.specs.Graph.{Edge, degree, isLeaf}
+use Rattle.model.specs.Cases.{Class, branch, caseOf, classOf, closesRing, isolated, leaf, regular}
+use Rattle.insertion.specs.Insertion.{Placed, openBothIn, placeExtend, placeIn, placeMerge}
+use Rattle.model.proofs.Basics.Booleans.{and-true}
+
+isLeafClass : Class → Bool
+isLeafClass isolated = false
+isLeafClass leaf = true
+isLeafClass regular = false
+isLeafClass branch = false
+
+class-leaf : (n : ℕ) → eqb n 1 ≡ isLeafClass (classOf n)
+unfolding isLeafClass classOf
+class-leaf zero = refl
+class-leaf (suc zero) = refl
+class-leaf (suc (suc zero)) = refl
+class-leaf (suc (suc (suc n))) = ne-eqb (suc (suc (suc n))) 1 (λ e. omega arith)
+
+module _ (d ends s l : List ℕ) (blocks a b e n : ℕ) where
+  abbrev pub byLeaves : Bool → Bool → Placed
+  byLeaves la lb =
+      if la
+      then (if lb then placeMerge d ends s l blocks a b e n else placeExtend d ends s l blocks a a b e)
+      else (if lb then placeExtend d ends s l blocks b a b e else openBothIn d s l blocks a b e)
+
+  place-class : (c k : Class) → placeIn (caseOf c k) d ends s l blocks a b e n ≡ byLeaves (isLeafClass c) (isLeafClass k)
+  unfolding placeIn caseOf isLeafClass
+  place-class isolated isolated = refl
+  place-class isolated leaf = refl
+  place-class isolated regular = refl
+  place-class isolated branch = refl
+  place-class leaf isolated = refl
+  place-class leaf leaf = refl
+  place-class leaf regular = refl
+  place-class leaf branch = refl
+  place-class regular isolated = refl
+  place-class regular leaf = refl
+  place-class regular regular = refl
+  place-class regular branch = refl
+  place-class branch isolated = refl
+  place-class branch leaf = refl
+  place-class branch regular = refl
+  place-class branch branch = refl
+
+  pub place-leaves : (p q : ℕ) → placeIn (caseOf (classOf p) (classOf q)) d ends s l blocks a b e n ≡ byLeaves (eqb p 1) (eqb q 1)
+  place-leaves p q = rw (class-leaf p, class-leaf q) (place-class (classOf p) (classOf q))
+
+-- only leaves close a ring
+pub leaf-ends : (es : List Edge) (a b : ℕ) → closesRing es a b ≡ true → (degree es a ≡ 1) × (degree es b ≡ 1)
+unfolding closesRing isLeaf
+leaf-ends es a b c =
+    let h = and-true (eqb (degree es a) 1 && eqb (degree es b) 1) _ c in
+    let g = and-true (eqb (degree es a) 1) (eqb (degree es b) 1) (h .0) in
+    (eqb-true _ _ (g .0), eqb-true _ _ (g .1))

@@ -1,0 +1,185 @@
+-- A walk over the tables of a register is the walk over its edges: it ends where that one ends, passes as many regular vertices,
+-- and the sum of its lengths is never cut at 32 bits.
+use mathlib.Core.Path.{_≡_, refl, ap}
+use mathlib.Core.Logic.{_≢_}
+use Prim.Native.Nat.{ℕ, zero, suc, _+_, _*_, _≤_, _<_}
+use native.Mathlib.Omega.{arith}
+use native.Mathlib.Decide.{decLt}
+use mathlib.Core.Bool.{Bool, true, false}
+use mathlib.Core.List.{List, [], _∷_, map}
+use lib.ListN.{length, getD, length-map, List·getD-eq-default}
+use borrow.Author.Tests.{eq-eqb, ne-eqb}
+use Rattle.model.specs.Basics.{maxEdges, maxLength, sum}
+use Rattle.model.specs.Graph.{Edge, Pass, afterOf, edgeAt, endOf, endOnwards, far, isRegular, lengthAt, lengthsOf, noEdge, onwards, turn, walk}
+use Rattle.model.specs.Register.{Register}
+use Rattle.model.specs.Tables.{Tables, edgeIn, tablesOf}
+use Rattle.tables.specs.Steps.{farIn, sum32, tables, turnIn}
+use Rattle.queries.specs.Chains.{Walked, walkIn, walked}
+use Rattle.model.proofs.Walks.Degree.{end-first, end-second}
+use Rattle.model.proofs.Walks.Turn.{At}
+use Rattle.model.proofs.Walks.Trail.{proper-at, walk-on, walk-stop}
+use Rattle.model.proofs.Walks.Ended.{Next, next-edge}
+use Rattle.model.proofs.Series.Held.{edge-read}
+use Rattle.agreement.proofs.Lists.{PairAt}
+use Rattle.agreement.proofs.Linked.{far-agrees}
+use Rattle.agreement.proofs.Lockstep.{Shows, shows-regular, shows-singular, shows-turn}
+use Rattle.agreement.proofs.Tables.{shows}
+use Rattle.agreement.proofs.Growing.{Grown, landed-below, lawful, low-at, proper, room}
+
+-- ---- what the tables say of an edge
+
+pub ends-are : (r : Register) (d : ℕ) → d < length (r .edges) → PairAt ((tablesOf r) .ends) d ((edgeAt (r .edges) d) .first) ((edgeAt (r .edges) d) .second)
+unfolding edgeIn
+ends-are r d h = (ap (λ (e : Edge). e .first) (edge-read r d h), ap (λ (e : Edge). e .second) (edge-read r d h))
+
+pub length-is : (r : Register) (d : ℕ) → d < length (r .edges) → getD ((tablesOf r) .lengths) d 0 ≡ lengthAt (r .edges) d
+unfolding edgeIn lengthAt
+length-is r d h = ap (λ (e : Edge). e .len) (edge-read r d h)
+
+pub far-is : (r : Register) (d v : ℕ) → d < length (r .edges) → farIn ((tablesOf r) .ends) d v ≡ far (r .edges) d v
+far-is r d v h = far-agrees (r .edges) ((tablesOf r) .ends) d v (ends-are r d h)
+
+module _ (r : Register) (g : Grown r) where
+  -- an edge lies at its two ends
+  pub at-first : (d : ℕ) → d < length (r .edges) → At (r .edges) ((edgeAt (r .edges) d) .first) d
+  at-first d h = record { inside = h; meets = end-first (edgeAt (r .edges) d) (proper-at (r .edges) d (proper r g) h) }
+
+  pub at-second : (d : ℕ) → d < length (r .edges) → At (r .edges) ((edgeAt (r .edges) d) .second) d
+  at-second d h = record { inside = h; meets = end-second (edgeAt (r .edges) d) (proper-at (r .edges) d (proper r g) h) }
+
+  pub length-few : (d : ℕ) → lengthAt (r .edges) d ≤ maxLength
+  unfolding lengthAt edgeAt noEdge
+  length-few d = go (decLt d (length (r .edges)))
+    where
+      go : Dec (d < length (r .edges)) → lengthAt (r .edges) d ≤ maxLength
+      go (yes h) = lawful r g d h .most-length
+      go (no h) =
+          let past : length (r .edges) ≤ d = omega arith in
+          let none : lengthAt (r .edges) d ≡ 0 = ap (λ (e : Edge). e .len) (List·getD-eq-default (r .edges) noEdge past) in
+          omega arith
+
+-- ---- one step over the tables
+
+-- from the regular vertex v, reached by edge d, to the next vertex
+pub record Step (r : Register) (d v : ℕ) : Type 0 where
+  pub regular : getD ((tablesOf r) .degrees) v 0 ≡ 2
+  pub turns : turnIn ((tablesOf r) .sides) d v ≡ turn (r .edges) d v
+  pub arrives : farIn ((tablesOf r) .ends) (turn (r .edges) d v) v ≡ far (r .edges) (turn (r .edges) d v) v
+  pub inside : turn (r .edges) d v < length (r .edges)
+  pub at : At (r .edges) (far (r .edges) (turn (r .edges) d v) v) (turn (r .edges) d v)
+
+module _ (r : Register) (g : Grown r) (d v : ℕ) (a : At (r .edges) v d) where
+  grown-shows : Shows (r .edges) ((tablesOf r) .degrees) ((tablesOf r) .ends) ((tablesOf r) .sides) (r .lows)
+  grown-shows = shows r (low-at r g) (landed-below r g)
+
+  pub steps : isRegular (r .edges) v ≡ true → Step r d v
+  steps q =
+      let es : List Edge = r .edges in
+      let t : Tables = tablesOf r in
+      let x : Next es d v (turn es d v) = next-edge es d v (turn es d v) (proper r g) a q refl in
+      record {
+        regular = shows-regular es (proper r g) (t .degrees) (t .ends) (t .sides) (r .lows) grown-shows v d a q;
+        turns = shows-turn es (proper r g) (t .degrees) (t .ends) (t .sides) (r .lows) grown-shows v d (turn es d v) a q refl;
+        arrives = far-is r (turn es d v) v (x .at .inside);
+        inside = x .at .inside;
+        at = x .across .at;
+      }
+
+  pub stops : isRegular (r .edges) v ≡ false → getD ((tablesOf r) .degrees) v 0 ≢ 2
+  stops q = shows-singular (r .edges) (proper r g) ((tablesOf r) .degrees) ((tablesOf r) .ends) ((tablesOf r) .sides) (r .lows) grown-shows v d a q
+
+-- ---- the sum of lengths
+
+pub sum32-is : (m n : ℕ) → m + n ≤ 4294967295 → sum32 m n ≡ m + n
+unfolding sum32
+sum32-is m n h = omega arith
+
+walk-most : (n : ℕ) (es : List Edge) (d v : ℕ) → length (walk n es d v) ≤ n
+unfolding walk
+walk-most zero es d v = omega arith
+walk-most (suc n) es d v = go (isRegular es v) refl (walk-most n es (turn es d v) (far es (turn es d v) v))
+  where
+    go : (b : Bool) → isRegular es v ≡ b → length (walk n es (turn es d v) (far es (turn es d v) v)) ≤ n → length (walk (suc n) es d v) ≤ suc n
+    go true c ih = rw (walk-on n es d v c) (omega arith)
+    go false c ih = rw (walk-stop (suc n) es d v c) (omega arith)
+
+sum-most : (es : List Edge) (xs : List ℕ) → ((d : ℕ) → lengthAt es d ≤ maxLength) → sum (lengthsOf es xs) ≤ maxLength * length xs
+unfolding sum lengthsOf
+sum-most es [] h = omega arith
+sum-most es (x ∷ xs) h = omega (arith, h x, sum-most es xs h)
+
+-- a walk of n steps
+walk-sum : (r : Register) → Grown r → (n d v : ℕ) → sum (lengthsOf (r .edges) (map afterOf (walk n (r .edges) d v))) ≤ maxLength * n
+walk-sum r g n d v =
+    let ss : List Pass = walk n (r .edges) d v in
+    omega (arith, sum-most (r .edges) (map afterOf ss) (length-few r g), length-map ss afterOf, walk-most n (r .edges) d v)
+
+pub onwards-sum : (r : Register) → Grown r → (d v : ℕ) → sum (lengthsOf (r .edges) (map afterOf (onwards (r .edges) d v))) ≤ 409600000
+unfolding onwards
+onwards-sum r g d v = omega (arith, walk-sum r g (length (r .edges)) d v, room r g)
+
+-- ---- the walk
+
+module _ (t : Tables) where
+  walkIn-stop : (n d v : ℕ) → getD (t .degrees) v 0 ≢ 2 → walkIn t n d v ≡ walked v 0 0
+  unfolding walkIn
+  walkIn-stop zero d v h = refl
+  walkIn-stop (suc n) d v h = rw (ne-eqb _ _ h)
+
+  walkIn-on : (n d v c w : ℕ) → getD (t .degrees) v 0 ≡ 2 → turnIn (t .sides) d v ≡ c → farIn (t .ends) c v ≡ w
+      → let rest = walkIn t n c w in
+      walkIn t (suc n) d v ≡ walked (rest .at) (suc (rest .inner)) (sum32 (getD (t .lengths) c 0) (rest .length))
+  unfolding walkIn
+  walkIn-on n d v c w h i j = rw (eq-eqb _ _ h, i, j)
+
+-- what a walk from v that passes `ss` comes to
+abbrev walkedBy : List Edge → ℕ → List Pass → Walked
+walkedBy es v ss = walked (endOf es v ss) (length ss) (sum (lengthsOf es (map afterOf ss)))
+
+module _ (r : Register) (g : Grown r) where
+  walks : (n d v : ℕ) → n ≤ maxEdges → At (r .edges) v d → walkIn (tablesOf r) n d v ≡ walkedBy (r .edges) v (walk n (r .edges) d v)
+  unfolding walkIn walk endOf sum lengthsOf afterOf
+  walks zero d v m a = refl
+  walks (suc n) d v m a = go (isRegular es v) refl (λ c at. walks n c (far es c v) (omega arith) at)
+    where
+      es : List Edge
+      es = r .edges
+
+      t : Tables
+      t = tablesOf r
+
+      Goal : Type 0
+      Goal = walkIn t (suc n) d v ≡ walkedBy es v (walk (suc n) es d v)
+
+      go : (b : Bool) → isRegular es v ≡ b
+          → ((c : ℕ) → At es (far es c v) c → walkIn t n c (far es c v) ≡ walkedBy es (far es c v) (walk n es c (far es c v))) → Goal
+      go false q ih = rw (walk-stop (suc n) es d v q, walkIn-stop t (suc n) d v (stops r g d v a q))
+      go true q ih =
+          let c : ℕ = turn es d v in
+          let x : Step r d v = steps r g d v a q in
+          rw (
+            walk-on n es d v q,
+            walkIn-on t n d v c (far es c v) (x .regular) (x .turns) (x .arrives),
+            ih c (x .at),
+            length-is r c (x .inside),
+            sum32-is (lengthAt es c) (sum (lengthsOf es (map afterOf (walk n es c (far es c v)))))
+                (omega (arith, length-few r g c, walk-sum r g n c (far es c v))),
+          )
+
+  pub walk-agrees : (d v : ℕ) → At (r .edges) v d
+      → walkIn (tablesOf r) (length (r .edges)) d v
+      ≡ walked (endOnwards (r .edges) d v) (length (onwards (r .edges) d v)) (sum (lengthsOf (r .edges) (map afterOf (onwards (r .edges) d v))))
+  unfolding endOnwards onwards
+  walk-agrees d v a = walks (length (r .edges)) d v (room r g) a
+
+-- ---- a walk does not read the labels
+
+abbrev pub withLabels : Tables → List ℕ → Tables
+withLabels t labels = tables (t .degrees) (t .sides) (t .ends) (t .lengths) labels
+
+pub walkIn-labels : (t : Tables) (labels : List ℕ) (n d v : ℕ) → walkIn (withLabels t labels) n d v ≡ walkIn t n d v
+unfolding walkIn
+walkIn-labels t labels zero d v = refl
+walkIn-labels t labels (suc n) d v =
+    let c = turnIn (t .sides) d v in
+    rw (walkIn-labels t labels n c (farIn (t .ends) c v))

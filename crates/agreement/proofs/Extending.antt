@@ -1,0 +1,144 @@
+-- A leaf of the new edge whose other end is no leaf: its chain goes on over the edge.
+use mathlib.Core.Path.{_≡_, refl, sym, ap, _∙_}
+use mathlib.Core.Logic.{_≢_}
+use Prim.Native.Nat.{ℕ, _+_, _*_, _<_}
+use native.Mathlib.Omega.{arith}
+use mathlib.Core.Bool.{Bool, true, false, not}
+use mathlib.Core.List.{List, [], _∷_, _++_}
+use lib.ListN.{length, getD}
+use lib.Dec.{eqb}
+use borrow.Author.Tests.{eq-eqb, ne-eqb}
+use Rattle.model.specs.Basics.{maxVertices}
+use Rattle.model.specs.Graph.{Edge, Pass, degree, endsAt, far, isRegular, onlyEdge, onwards, turn, walk}
+use Rattle.model.specs.Labels.{Labelling, Marks, attach, base, extend, labelPath, next}
+use Rattle.tables.specs.Steps.{farIn, more16, nextIn}
+use Rattle.insertion.specs.Labelling.{after, extendAt, extendIn, labelIn, worn}
+use Rattle.model.proofs.Walks.Degree.{Proper, degree-snoc, is-two, not-two, proper-snoc}
+use Rattle.model.proofs.Walks.Turn.{At}
+use Rattle.model.proofs.Walks.Trail.{across, walk-on, walk-stop}
+use Rattle.model.proofs.Walks.Snoc.{far-old}
+use Rattle.model.proofs.Walks.NewEdge.{at-last, at-new, length-new}
+use Rattle.model.proofs.Walks.Ended.{far-ne}
+use Rattle.model.proofs.Walks.RingFree.{OneEdge, one-edge}
+use Rattle.model.proofs.Walks.Rings.{onlyEdge-is}
+use Rattle.model.proofs.Labels.Following.{here}
+use Rattle.agreement.proofs.Linked.{Linked}
+use Rattle.agreement.proofs.Laying.{Between, Everywhere, Kept, Off, between, kept-where, lay-kept, layIn, next-agrees}
+use Rattle.agreement.proofs.Opening.{OpenedBoth}
+
+-- ---- attaching: the two cases of the definition
+
+abbrev pub labelling : ℕ → Marks → Labelling
+labelling blocks m = record { blocks = blocks; marks = m }
+
+pub attach-none : (blocks d : ℕ) (path : List Pass) (m : Marks) → attach blocks d [] path m ≡ labelling (blocks + 1) (labelPath true (base (blocks + 1)) path m)
+unfolding attach
+attach-none blocks d path m = refl
+
+pub attach-some : (blocks d : ℕ) (u : Pass) (us path : List Pass) (m : Marks)
+    → let up = not (eqb (getD (m .lows) (u .at) 0) d) in
+    attach blocks d (u ∷ us) path m ≡ labelling blocks (labelPath up (next up (getD (m .labels) (u .at) 0)) path m)
+unfolding attach
+attach-some blocks d u us path m = refl
+
+-- ---- the two cases of the table function
+
+pub more16-agrees : (n : ℕ) → n < 65535 → more16 n ≡ n + 1
+unfolding more16
+more16-agrees n h = omega arith
+
+module _ (degrees ends sides labels : List ℕ) (blocks x e d u : ℕ) (a : getD sides (2 * x) 0 ≡ d) (b : farIn ends d x ≡ u) where
+  extend-after : (up : Bool) (label : ℕ) → getD degrees u 0 ≡ 2 → not (eqb (getD sides (2 * u) 0) d) ≡ up → nextIn up (getD labels u 0) ≡ label
+      → extendIn degrees ends sides labels blocks x e
+      ≡ worn (labelIn sides labels x label d e up .sides) (labelIn sides labels x label d e up .labels) blocks
+  unfolding extendIn extendAt
+  extend-after up label h i j = rw (a, b, eq-eqb _ _ h, i, j)
+
+  extend-new : (k : ℕ) → getD degrees u 0 ≢ 2 → more16 blocks ≡ k
+      → extendIn degrees ends sides labels blocks x e
+      ≡ worn (labelIn sides labels x (base k) d e true .sides) (labelIn sides labels x (base k) d e true .labels) k
+  unfolding extendIn extendAt
+  extend-new k h i = rw (a, b, ne-eqb _ _ h, i)
+
+-- ---- a leaf of before becomes regular
+
+module _ (es : List Edge) (n : Edge) (pr : Proper es) (df : n .first ≢ n .second) (x : ℕ) (one : degree es x ≡ 1) where
+  pub leaf-at : At es x (onlyEdge es x)
+  leaf-at =
+      let e : OneEdge es x = one-edge es x pr one in
+      rw (onlyEdge-is es x (e .edge) pr one (e .at)) (e .at)
+
+  pub leaf-between : endsAt x n ≡ 1 → Between (es ++ (n ∷ [])) x (onlyEdge es x) (length es)
+  leaf-between o =
+      between (es ++ (n ∷ [])) x (onlyEdge es x) (length es) (proper-snoc es n pr df) (omega (arith, degree-snoc es n x))
+      (at-new es n leaf-at) (at-last es n o) (λ e. omega (arith, leaf-at .inside))
+
+-- ---- they agree
+
+-- the sides, labels and blocks that a labelling says
+pub record Wears (es : List Edge) (sides labels : List ℕ) (blocks : ℕ) (g : Labelling) : Type 0 where
+  pub kept : Kept es Everywhere sides labels (g .marks)
+  pub blocks-are : blocks ≡ g .blocks
+
+module _ (es : List Edge) (n : Edge) (pr : Proper es) (df : n .first ≢ n .second) (below : (v d : ℕ) → At (es ++ (n ∷ [])) v d → v < maxVertices)
+    (degrees ends : List ℕ) (ds : (v : ℕ) → v < maxVertices → getD degrees v 0 ≡ degree (es ++ (n ∷ [])) v)
+    (fars : (d v : ℕ) → d < length es → farIn ends d v ≡ far es d v)
+    (x : ℕ) (o : endsAt x n ≡ 1) (one : degree es x ≡ 1) (apart : (v : ℕ) → v ≢ x → endsAt v n ≡ 1 → degree es v ≢ 1) where
+  abbrev new : List Edge
+  new = es ++ (n ∷ [])
+
+  abbrev d : ℕ
+  d = onlyEdge es x
+
+  abbrev u : ℕ
+  u = far es d x
+
+  abbrev path : List Pass
+  path = record { before = d; at = x; after = length es } ∷ []
+
+  off-path : (v : ℕ) → Off path v → endsAt v n ≡ 1 → degree es v ≢ 1
+  off-path v f = apart v (λ e. f 0 _ here (sym e))
+
+  pub extended : (sides labels : List ℕ) (blocks : ℕ) (m : Marks) → OpenedBoth es n sides labels m → blocks < 65535 → ((v : ℕ) → getD labels v 0 < 4294967295)
+      → let w = extendIn degrees ends sides labels blocks x (length es) in Wears new (w .sides) (w .labels) (w .count) (extend es new blocks x m)
+  unfolding extend onwards layIn after
+  extended sides labels blocks m q bb lb = go (isRegular new u) refl
+    where
+      a : At es x d
+      a = leaf-at es n pr df x one
+
+      u-is : far new d x ≡ u
+      u-is = far-old es n d x (a .inside)
+
+      u-below : u < maxVertices
+      u-below = below u d (at-new es n ((across es d x pr a) .at))
+
+      -- the one vertex is labelled
+      laid : (up : Bool) (label : ℕ) → let w = labelIn sides labels x label d (length es) up in Kept new Everywhere (w .sides) (w .labels) (labelPath up label path m)
+      laid up label = lay-kept new below up label path sides labels m (leaf-between es n pr df x one o, tt) (kept-where (Off path) off-path (q .kept))
+
+      go : (c : Bool) → isRegular new u ≡ c → let w = extendIn degrees ends sides labels blocks x (length es) in
+          Wears new (w .sides) (w .labels) (w .count) (attach blocks d (walk (length new) new d (far new d x)) path m)
+      go true c =
+          let k : Linked new sides (m .lows) u = q .kept .links u u-below (apart u (far-ne es d x pr a)) in
+          let up : Bool = not (eqb (getD (m .lows) u 0) d) in
+          let label : ℕ = getD (m .labels) u 0 in
+          let t : getD labels u 0 ≡ label = ap (λ (l : List ℕ). getD l u 0) (q .kept .labels-are) in
+          let s : walk (length new) new d (far new d x) ≡ record { before = d; at = u; after = turn new d u } ∷ walk (length es) new (turn new d u) (far new (turn new d u) u) =
+          rw (u-is, length-new es n) (walk-on (length es) new d u c) in
+          rw (
+            s,
+            attach-some blocks d (record { before = d; at = u; after = turn new d u }) (walk (length es) new (turn new d u) (far new (turn new d u) u)) path m,
+            extend-after degrees ends sides labels blocks x (length es) d u (q .leaf x o one) (fars d x (a .inside)) up (next up label) (ds u u-below ∙ is-two new u c)
+                (ap (λ (z : ℕ). not (eqb z d)) ((k .regular (is-two new u c)) .0)) (rw t (next-agrees up label (omega (arith, lb u, t)))),
+          )
+          (record { kept = laid up (next up label); blocks-are = refl })
+      go false c =
+          let s : walk (length new) new d (far new d x) ≡ [] = rw u-is (walk-stop (length new) new d u c) in
+          rw (
+            s,
+            attach-none blocks d path m,
+            extend-new degrees ends sides labels blocks x (length es) d u (q .leaf x o one) (fars d x (a .inside)) (blocks + 1) (λ z. not-two new u c (sym (ds u u-below) ∙ z))
+                (more16-agrees blocks bb),
+          )
+          (record { kept = laid true (base (blocks + 1)); blocks-are = refl })

@@ -1,0 +1,163 @@
+-- Find and reach over the tables answer what the definitions answer.
+use mathlib.Core.Path.{_≡_, refl, sym, ap, _∙_}
+use mathlib.Core.Logic.{_≢_}
+use Prim.Native.Nat.{ℕ, zero, suc, _+_, _*_, _<_}
+use native.Mathlib.Omega.{arith}
+use native.Mathlib.Nat.{not-suc-le-zero}
+use native.Mathlib.Decide.{ℕ-discrete}
+use mathlib.Core.Bool.{Bool, true, false, not}
+use mathlib.Core.Option.{Option, none, some}
+use mathlib.Core.List.{List, [], _∷_, map}
+use lib.ListN.{length, getD}
+use lib.Dec.{eqb, ltb}
+use borrow.Author.Tests.{ne-eqb, eqb-true, eqb-false, ltb-true}
+use Rattle.model.specs.Basics.{if_then_else_, maxVertices, sum}
+use Rattle.model.specs.Graph.{Edge, afterOf, degree, far, isRegular, lengthAt, lengthsOf, onwards, turn}
+use Rattle.model.specs.Distance.{lengthVia}
+use Rattle.model.specs.Register.{Register}
+use Rattle.model.specs.Queries.{chainAt, find, lengthTo, reach, reached, refuses}
+use Rattle.model.specs.Tables.{Tables, countsOf, tablesOf}
+use Rattle.queries.specs.Chains.{findIn, firstAt, firstFrom, lengthToIn, nameIn, reachIn}
+use Rattle.model.proofs.Walks.Degree.{is-two, two-is}
+use Rattle.model.proofs.Walks.Turn.{At, Turned, TwoEdges, turned, two-edges}
+use Rattle.model.proofs.Walks.Trail.{across}
+use Rattle.model.proofs.Series.Labelled.{Labelled, find-none, find-own, label-not-zero, regular-landed}
+use Rattle.agreement.proofs.Lists.{PairAt}
+use Rattle.agreement.proofs.Tables.{degrees-read, sides-linked}
+use Rattle.agreement.proofs.Growing.{Grown, few, labelled, labels-long, low-at, no-label, proper}
+use Rattle.agreement.proofs.Chaining.{far-is, length-few, length-is, onwards-sum, sum32-is, walk-agrees}
+use Rattle.agreement.proofs.Lowest.{name-agrees, one-name}
+
+-- the sides of a regular vertex
+sides-are : (r : Register) → Grown r → (v : ℕ) → v < maxVertices → degree (r .edges) v ≡ 2
+    → PairAt ((tablesOf r) .sides) v (getD (r .lows) v 0) (turn (r .edges) (getD (r .lows) v 0) v)
+sides-are r g v h two = sides-linked r (low-at r g) v h .regular two
+
+-- ---- reach
+
+length-to : (r : Register) → Grown r → (d v : ℕ) → At (r .edges) v d → lengthToIn (tablesOf r) (length (r .edges)) d v ≡ lengthTo (r .edges) d v
+unfolding lengthToIn lengthTo lengthVia sum lengthsOf
+length-to r g d v a =
+    let es : List Edge = r .edges in
+    let w : ℕ = far es d v in
+    rw (length-is r d (a .inside), far-is r d v (a .inside), walk-agrees r g d w ((across es d v (proper r g) a) .at))
+    (sum32-is (lengthAt es d) (sum (lengthsOf es (map afterOf (onwards es d w)))) (omega (arith, length-few r g d, onwards-sum r g d w)))
+
+pub reach-agrees : (r : Register) → Grown r → (v : ℕ) → reachIn (tablesOf r) (countsOf r) v ≡ reach r v
+unfolding reachIn reach countsOf isRegular
+reach-agrees r g v = below (ltb v (r .vertices)) refl
+  where
+    es : List Edge
+    es = r .edges
+
+    t : Tables
+    t = tablesOf r
+
+    low : ℕ
+    low = getD (r .lows) v 0
+
+    regular : (b : Bool) → v < r .vertices → eqb (degree es v) 2 ≡ b
+        → (if not (eqb (getD (t .degrees) v 0) 2) then refuses 8
+        else reached (lengthToIn t (length es) (getD (t .sides) (2 * v) 0) v) (lengthToIn t (length es) (getD (t .sides) (2 * v + 1) 0) v))
+        ≡ (if not (eqb (degree es v) 2) then refuses 8 else reached (lengthTo es low v) (lengthTo es (turn es low v) v))
+    regular false l e = rw (degrees-read r v (omega (arith, few r g)), e)
+    regular true l e =
+        let h : v < maxVertices = omega (arith, few r g) in
+        let two : degree es v ≡ 2 = eqb-true _ _ e in
+        let k = sides-are r g v h two in
+        let x : Turned es v low = turned es v low (two-edges es v (proper r g) two) (low-at r g v two) in
+        rw (degrees-read r v h, e, k .0, k .1, length-to r g low v (low-at r g v two), length-to r g (turn es low v) v (x .at))
+
+    below : (b : Bool) → ltb v (r .vertices) ≡ b → reachIn (tablesOf r) (countsOf r) v ≡ reach r v
+    below false e = rw e
+    below true e = rw e (regular (eqb (degree es v) 2) (ltb-true _ _ e) refl)
+
+-- ---- find
+
+-- what is found has the label, ..
+record Holds (at label v : ℕ) (xs : List ℕ) : Type 0 where
+  place : ℕ
+  found-at : v ≡ at + place
+  inside : place < length xs
+  label-is : getD xs place 0 ≡ label
+
+some-is : (v w : ℕ) → some v ≡ some w → v ≡ w
+some-is v w e = cc
+
+none-some : (v : ℕ) → none ≡ some v → ⊥
+none-some v e = let z : _≡_ {A = ℕ} 0 1 = cc in omega arith
+
+first-some : (at label v : ℕ) (xs : List ℕ) → firstFrom at label xs ≡ some v → Holds at label v xs
+unfolding firstFrom
+first-some at label v [] e = absurd (none-some v e)
+first-some at label v (x ∷ xs) e = go (eqb x label) refl (λ h. first-some (suc at) label v xs h)
+  where
+    go : (b : Bool) → eqb x label ≡ b → (firstFrom (suc at) label xs ≡ some v → Holds (suc at) label v xs) → Holds at label v (x ∷ xs)
+    go true q ih =
+        let i : at ≡ v = some-is at v (rw (q, firstFrom) at e) in
+        record { place = 0; found-at = omega arith; inside = omega arith; label-is = eqb-true x label q }
+    go false q ih =
+        let k = ih (rw (q, firstFrom) at e) in
+        record { place = suc (k .place); found-at = omega (arith, k .found-at); inside = omega (arith, k .inside); label-is = k .label-is }
+
+-- .. and where nothing is found nothing has it
+first-none : (at label : ℕ) (xs : List ℕ) → firstFrom at label xs ≡ none → (i : ℕ) → i < length xs → getD xs i 0 ≢ label
+unfolding firstFrom
+first-none at label [] e i h = absurd (not-suc-le-zero h)
+first-none at label (x ∷ xs) e i h = go (eqb x label) refl i h (λ k j l. first-none (suc at) label xs k j l)
+  where
+    go : (b : Bool) → eqb x label ≡ b → (i : ℕ) → i < length (x ∷ xs)
+        → (firstFrom (suc at) label xs ≡ none → (j : ℕ) → j < length xs → getD xs j 0 ≢ label) → getD (x ∷ xs) i 0 ≢ label
+    go true q i h ih = absurd (none-some at (sym (rw (q, firstFrom) at e)))
+    go false q zero h ih = eqb-false x label q
+    go false q (suc j) h ih = ih (rw (q, firstFrom) at e) j (omega arith)
+
+module _ (r : Register) (g : Grown r) where
+  -- only a regular vertex wears a label that is not 0
+  worn-regular : (v label : ℕ) → label ≢ 0 → getD (r .labels) v 0 ≡ label → degree (r .edges) v ≡ 2
+  worn-regular v label n e = go (ℕ-discrete (degree (r .edges) v) 2)
+    where
+      go : Dec (degree (r .edges) v ≡ 2) → degree (r .edges) v ≡ 2
+      go (yes two) = two
+      go (no h) = absurd (n (sym e ∙ no-label r g v h))
+
+  -- the chain of a regular vertex, by its edge on the low side
+  chain-found : (v : ℕ) → v < maxVertices → degree (r .edges) v ≡ 2
+      → nameIn (tablesOf r) (length (r .edges)) (getD ((tablesOf r) .sides) (2 * v) 0) ≡ chainAt r v
+  unfolding chainAt
+  chain-found v h two =
+      let es : List Edge = r .edges in
+      let low : ℕ = getD (r .lows) v 0 in
+      let a : At es v low = low-at r g v two in
+      let e : TwoEdges es v = two-edges es v (proper r g) two in
+      rw ((sides-are r g v h two) .0, e .list)
+      (name-agrees r g low (a .inside) ∙ one-name r g v low (e .low) (two-is es v two) a (e .low-at))
+
+labels-are : (r : Register) → (tablesOf r) .labels ≡ r .labels
+unfolding tablesOf
+labels-are r = refl
+
+pub find-agrees : (r : Register) → Grown r → (label : ℕ) → findIn (tablesOf r) (countsOf r) label ≡ find r label
+unfolding findIn countsOf firstAt
+find-agrees r g label = zero? (eqb label 0) refl
+  where
+    k : Labelled r
+    k = labelled r g
+
+    search : label ≢ 0 → (o : Option ℕ) → firstFrom 0 label (r .labels) ≡ o → findIn (tablesOf r) (countsOf r) label ≡ find r label
+    search n none e =
+        rw (ne-eqb label 0 n, labels-are r, e, findIn)
+        (sym (find-none r label k (λ v q. first-none 0 label (r .labels) e v (omega (arith, regular-landed r k v q, few r g, labels-long r g)))))
+    search n (some v) e =
+        let w : Holds 0 label v (r .labels) = first-some 0 label v (r .labels) e in
+        let i : v ≡ w .place = omega (arith, w .found-at) in
+        let l : getD (r .labels) v 0 ≡ label = rw i (w .label-is) in
+        let two : degree (r .edges) v ≡ 2 = worn-regular r g v label n l in
+        rw (ne-eqb label 0 n, labels-are r, e, findIn, chain-found r g v (omega (arith, w .inside, labels-long r g)) two)
+        (sym (find-own r k v (two-is (r .edges) v two)) ∙ ap (find r) l)
+
+    zero? : (b : Bool) → eqb label 0 ≡ b → findIn (tablesOf r) (countsOf r) label ≡ find r label
+    zero? true e =
+        rw (e, findIn)
+        (sym (find-none r label k (λ v q h. omega (arith, eqb-true label 0 e, label-not-zero r k v (is-two (r .edges) v q)))))
+    zero? false e = search (eqb-false label 0 e) (firstFrom 0 label (r .labels)) refl

@@ -1,0 +1,98 @@
+-- Grown: a register that landing leaves. What holds of it, and that every landing keeps it.
+use mathlib.Core.Path.{_≡_}
+use mathlib.Core.Logic.{_≢_}
+use Prim.Native.Nat.{ℕ, _≤_, _<_}
+use native.Mathlib.Omega.{arith}
+use mathlib.Core.List.{List, [], _∷_, _++_}
+use mathlib.Core.Option.{some}
+use lib.ListN.{length, getD}
+use Rattle.model.specs.Basics.{maxEdges, maxVertices}
+use Rattle.model.specs.Graph.{Edge, degree}
+use Rattle.model.specs.Register.{Register, empty, landEdge, landVertex, landed, marksOf}
+use Rattle.model.specs.Format.{landList}
+use Rattle.model.specs.Tables.{held, landEdges, landVertices, storedOf}
+use Rattle.model.specs.Notions.{Reachable, with-edge, with-vertex}
+use Rattle.model.proofs.Walks.Degree.{Proper}
+use Rattle.model.proofs.Walks.Turn.{At}
+use Rattle.model.proofs.Walks.RingFree.{RingFree}
+use Rattle.model.proofs.Groups.Origins.{lowAt}
+use Rattle.model.proofs.Series.Held.{Regrows}
+use Rattle.model.proofs.Series.Labelled.{Labelled, ends-landed}
+use Rattle.model.proofs.Series.Facts.{kept-held}
+use Rattle.model.proofs.Series.Lawful.{AllLawful, edges-lawful}
+use Rattle.model.proofs.Series.OnlyHeld.{edges-reach, vertices-reach}
+use Rattle.model.proofs.Series.Reachable as reachable
+
+abbrev pub Grown : Register → Type 0
+Grown r = Reachable r
+
+-- ---- what holds of it
+
+module _ (r : Register) (g : Grown r) where
+  pub labelled : Labelled r
+  labelled = (reachable.full r g) .kept .labelled
+
+  pub proper : Proper (r .edges)
+  proper = labelled .sound .proper
+
+  pub rings : RingFree (r .edges)
+  rings = labelled .sound .rings
+
+  pub room : length (r .edges) ≤ maxEdges
+  room = labelled .room
+
+  pub few : r .vertices ≤ maxVertices
+  few = labelled .few
+
+  pub landed-below : (v d : ℕ) → At (r .edges) v d → v < maxVertices
+  landed-below v d a = omega (arith, labelled .landed-ends v d a, few)
+
+  -- .. with one edge more
+  pub new-below : (e : Edge) → e .first < r .vertices → e .second < r .vertices → (v d : ℕ) → At (r .edges ++ (e ∷ [])) v d → v < maxVertices
+  new-below e a b v d at = omega (arith, ends-landed (r .edges) e (r .vertices) a b (labelled .landed-ends) v d at, few)
+
+  pub labels-long : length (r .labels) ≡ maxVertices
+  labels-long = labelled .labels-long
+
+  pub lows-long : length (r .lows) ≡ maxVertices
+  lows-long = labelled .lows-long
+
+  pub low-at : (v : ℕ) → degree (r .edges) v ≡ 2 → At (r .edges) v (getD (r .lows) v 0)
+  unfolding lowAt marksOf
+  low-at = (reachable.full r g) .sided .low-at
+
+  pub no-label : (v : ℕ) → degree (r .edges) v ≢ 2 → getD (r .labels) v 0 ≡ 0
+  unfolding marksOf
+  no-label = labelled .bare
+
+  -- every edge has landed ends and a length from 1 to 100,000
+  pub lawful : AllLawful (r .vertices) (r .edges)
+  lawful = edges-lawful r g
+
+-- ---- it is kept
+
+pub empty-grown : Grown empty
+empty-grown = reachable.reachable-empty
+
+pub vertex-grown : (r r′ : Register) → Grown r → landVertex r ≡ landed r′ → Grown r′
+vertex-grown r r′ g e = with-vertex g e
+
+pub edge-grown : (r : Register) (e : Edge) (r′ : Register) → Grown r → landEdge r e ≡ landed r′ → Grown r′
+edge-grown r e r′ g q = with-edge e g q
+
+pub list-grown : (r : Register) (bs : List ℕ) → Grown r → Grown ((landList r bs) .register)
+list-grown r bs g = reachable.reachable-list r bs g
+
+pub vertices-grown : (n : ℕ) (r r′ : Register) → Grown r → landVertices n r ≡ landed r′ → Grown r′
+vertices-grown n r r′ g e = vertices-reach n r r′ g e
+
+pub edges-grown : (es : List Edge) (r r′ : Register) → Grown r → landEdges es r ≡ landed r′ → Grown r′
+edges-grown es r r′ g e = edges-reach es r r′ g e
+
+-- what is stored for it is held
+pub grown-held : (r : Register) → Grown r → held (storedOf r) ≡ some r
+grown-held r g = kept-held r ((reachable.full r g) .kept)
+
+-- and growing its own vertices and edges leaves it again
+pub grown-regrows : (r : Register) → Grown r → Regrows r
+grown-regrows r g = (reachable.full r g) .kept .regrows

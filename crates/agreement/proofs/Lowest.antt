@@ -1,0 +1,135 @@
+-- The name of a chain: two walks over the tables that keep the least number find it.
+use mathlib.Core.Path.{_≡_, refl, sym, ap, _∙_}
+use mathlib.Core.Logic.{_≢_}
+use Prim.Native.Nat.{ℕ, zero, suc, _≤_, _<_, min}
+use native.Mathlib.Omega.{arith}
+use mathlib.Core.Bool.{Bool, true, false}
+use mathlib.Core.List.{List, [], _∷_, _++_, map, reverse, reverse-cons, List·Memᴰ as Mem}
+use lib.ListN.{length, getD}
+use borrow.Author.Tests.{eq-eqb, ne-eqb}
+use Rattle.model.specs.Basics.{least}
+use Rattle.model.specs.Graph.{Edge, afterOf, chainOf, edgeAt, far, isRegular, nameOf, onwards, turn, walk}
+use Rattle.model.specs.Register.{Register}
+use Rattle.model.specs.Tables.{Tables, tablesOf}
+use Rattle.tables.specs.Steps.{farIn, turnIn}
+use Rattle.queries.specs.Chains.{lowestIn, nameIn}
+use Rattle.model.proofs.Walks.Degree.{Proper}
+use Rattle.model.proofs.Walks.Turn.{At}
+use Rattle.model.proofs.Walks.Trail.{walk-on, walk-stop}
+use Rattle.model.proofs.Walks.RingFree.{RingFree}
+use Rattle.model.proofs.Chains.Partition.{On, chain-mem, mem-chain, on, same-name}
+use Rattle.model.proofs.Chains.Own.{chain-inner, inner-chain}
+use Rattle.agreement.proofs.Growing.{Grown, proper, rings}
+use Rattle.agreement.proofs.Chaining.{Step, at-first, at-second, ends-are, steps, stops}
+
+-- ---- the least of x and the numbers of a list, x compared first
+
+unfoldable pub lower : List ℕ → ℕ → ℕ
+lower [] x = x
+lower (y ∷ ys) x = min y (lower ys x)
+
+pub lower-min : (ys : List ℕ) (x y : ℕ) → lower ys (min y x) ≡ min y (lower ys x)
+unfolding lower
+lower-min [] x y = refl
+lower-min (z ∷ ys) x y = omega (arith, lower-min ys x y)
+
+pub lower-most : (ys : List ℕ) (x : ℕ) → lower ys x ≤ x
+unfolding lower
+lower-most [] x = omega arith
+lower-most (y ∷ ys) x = omega (arith, lower-most ys x)
+
+least-lower : (x : ℕ) (ys : List ℕ) → least x ys ≡ lower ys x
+unfolding least lower
+least-lower x [] = refl
+least-lower x (y ∷ ys) =
+    let e : min x y ≡ min y x = omega arith in
+    least-lower (min x y) ys ∙ ap (lower ys) e ∙ lower-min ys x y
+
+lower-append : (xs ys : List ℕ) (z : ℕ) → lower (xs ++ ys) z ≡ lower xs (lower ys z)
+unfolding lower
+lower-append [] ys z = refl
+lower-append (x ∷ xs) ys z = ap (λ (k : ℕ). min x k) (lower-append xs ys z)
+
+lower-reverse : (xs : List ℕ) (z : ℕ) → lower (reverse xs) z ≡ lower xs z
+unfolding lower
+lower-reverse [] z = refl
+lower-reverse (x ∷ xs) z =
+    rw (reverse-cons x xs) (lower-append (reverse xs) (x ∷ []) z ∙ lower-reverse xs (min x z) ∙ lower-min xs z x)
+
+-- a name by the walks from the edge's two ends
+pub name-is : (es : List Edge) (d : ℕ)
+    → nameOf es d ≡ lower (map afterOf (onwards es d ((edgeAt es d) .first))) (lower (map afterOf (onwards es d ((edgeAt es d) .second))) d)
+unfolding nameOf chainOf lower
+name-is es d =
+    let back : List ℕ = map afterOf (onwards es d ((edgeAt es d) .first)) in
+    let on : List ℕ = map afterOf (onwards es d ((edgeAt es d) .second)) in
+    let own : min d (lower on d) ≡ lower on d = omega (arith, lower-most on d) in
+    least-lower d (reverse back ++ (d ∷ on)) ∙ lower-append (reverse back) (d ∷ on) d ∙ lower-reverse back (lower (d ∷ on) d) ∙ ap (lower back) own
+
+-- ---- the name, by two walks that keep the least number
+
+module _ (t : Tables) where
+  lowest-stop : (n x d v : ℕ) → getD (t .degrees) v 0 ≢ 2 → lowestIn t n x d v ≡ x
+  unfolding lowestIn
+  lowest-stop zero x d v h = refl
+  lowest-stop (suc n) x d v h = rw (ne-eqb _ _ h)
+
+  lowest-on : (n x d v c w : ℕ) → getD (t .degrees) v 0 ≡ 2 → turnIn (t .sides) d v ≡ c → farIn (t .ends) c v ≡ w
+      → lowestIn t (suc n) x d v ≡ min c (lowestIn t n x c w)
+  unfolding lowestIn
+  lowest-on n x d v c w h i j = rw (eq-eqb _ _ h, i, j)
+
+lowest-agrees : (r : Register) → Grown r → (n x d v : ℕ) → At (r .edges) v d
+    → lowestIn (tablesOf r) n x d v ≡ lower (map afterOf (walk n (r .edges) d v)) x
+unfolding lowestIn walk lower afterOf
+lowest-agrees r g zero x d v a = refl
+lowest-agrees r g (suc n) x d v a = go (isRegular es v) refl (λ c at. lowest-agrees r g n x c (far es c v) at)
+  where
+    es : List Edge
+    es = r .edges
+
+    t : Tables
+    t = tablesOf r
+
+    go : (b : Bool) → isRegular es v ≡ b
+        → ((c : ℕ) → At es (far es c v) c → lowestIn t n x c (far es c v) ≡ lower (map afterOf (walk n es c (far es c v))) x)
+        → lowestIn t (suc n) x d v ≡ lower (map afterOf (walk (suc n) es d v)) x
+    go false q ih = rw (walk-stop (suc n) es d v q, lowest-stop t (suc n) x d v (stops r g d v a q))
+    go true q ih =
+        let c : ℕ = turn es d v in
+        let y : Step r d v = steps r g d v a q in
+        rw (walk-on n es d v q, lowest-on t n x d v c (far es c v) (y .regular) (y .turns) (y .arrives), ih c (y .at))
+
+pub name-agrees : (r : Register) → Grown r → (d : ℕ) → d < length (r .edges) → nameIn (tablesOf r) (length (r .edges)) d ≡ nameOf (r .edges) d
+unfolding nameIn onwards
+name-agrees r g d h =
+    let es : List Edge = r .edges in
+    let a : ℕ = (edgeAt es d) .first in
+    let b : ℕ = (edgeAt es d) .second in
+    rw (
+      (ends-are r d h) .0,
+      (ends-are r d h) .1,
+      lowest-agrees r g (length es) d d b (at-second r g d h),
+      lowest-agrees r g (length es) (lower (map afterOf (walk (length es) es d b)) d) d a (at-first r g d h),
+    )
+    (sym (name-is es d))
+
+-- the edges of a regular vertex lie on one chain
+pub one-name : (r : Register) → Grown r → (v d c : ℕ) → isRegular (r .edges) v ≡ true → At (r .edges) v d → At (r .edges) v c
+    → nameOf (r .edges) d ≡ nameOf (r .edges) c
+one-name r g v d c q a b = same-name es pr rf (o .line) d c (o .mem) (mem-chain es pr rf (o .line) d c (o .mem) (inner-chain es pr rf d c v (a .inside) inner b))
+  where
+    es : List Edge
+    es = r .edges
+
+    pr : Proper es
+    pr = proper r g
+
+    rf : RingFree es
+    rf = rings r g
+
+    o : On es pr rf d
+    o = on es pr rf d (a .inside)
+
+    inner : Mem v ((chainOf es d) .inner)
+    inner = chain-inner es pr rf d d v (a .inside) (chain-mem es pr rf (o .line) d d (o .mem) (o .mem)) a q

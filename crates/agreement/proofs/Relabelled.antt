@@ -1,0 +1,26 @@
+-- How many vertices are relabelled: what one store adds, and at most all.
+use mathlib.Core.Path.{_≡_, refl}
+use Prim.Native.Nat.{ℕ, zero, suc, _+_, _≤_}
+use native.Mathlib.Omega.{arith}
+use mathlib.Core.List.{List, [], _∷_}
+use lib.ListN.{length, getD, set}
+use Rattle.model.specs.Labels.{relabelCount, relabelled, relabelledFrom}
+use Rattle.model.proofs.Labels.Following.{moved, moved-le, moved-old, moved-same, re-cons}
+
+pub relabelled-set : (ts us : List ℕ) (v label : ℕ) → length ts ≡ length us → getD us v 0 ≡ getD ts v 0
+    → relabelCount ts (set us v label) ≡ relabelCount ts us + moved (getD us v 0) label
+unfolding relabelCount relabelled relabelledFrom
+relabelled-set [] [] v label l e = omega (arith, moved-old 0 label refl)
+relabelled-set [] (u ∷ us) v label l e = absurd (omega arith)
+relabelled-set (t ∷ ts) [] v label l e = absurd (omega arith)
+relabelled-set (t ∷ ts) (u ∷ us) zero label l e =
+    let q : u ≡ t = e in
+    rw q (omega (arith, re-cons t label ts us, re-cons t t ts us, moved-same t))
+relabelled-set (t ∷ ts) (u ∷ us) (suc v) label l e =
+    omega (arith, re-cons t u ts us, re-cons t u ts (set us v label), relabelled-set ts us v label (omega arith) e)
+
+pub relabelled-most : (ts us : List ℕ) → relabelCount ts us ≤ length ts
+unfolding relabelCount relabelled relabelledFrom
+relabelled-most [] us = omega arith
+relabelled-most (t ∷ ts) [] = omega arith
+relabelled-most (t ∷ ts) (u ∷ us) = omega (arith, re-cons t u ts us, moved-le t u, relabelled-most ts us)

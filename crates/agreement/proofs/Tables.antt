@@ -1,0 +1,154 @@
+-- What the tables of a register show, and which tables are those of a register.
+use mathlib.Core.Path.{_≡_, refl, sym, _∙_}
+use mathlib.Core.Logic.{_≢_}
+use Prim.Native.Nat.{ℕ, _+_, _*_, _≤_, _<_, min}
+use native.Mathlib.Omega.{arith}
+use native.Mathlib.Decide.{ℕ-discrete}
+use mathlib.Core.List.{List, [], _∷_, _++_}
+use lib.ListN.{length, getD, length-set}
+use lib.Seq.{getD-set-other, getD-set-same}
+use borrow.Author.Tests.{eq-eqb, ne-eqb}
+use Rattle.model.specs.Basics.{maxEdges, maxVertices}
+use Rattle.model.specs.Graph.{Edge, degree, endsAt, far, isLeaf, isRegular, onlyEdge, same, turn}
+use Rattle.model.specs.Register.{Register}
+use Rattle.model.specs.Tables.{endsOf, highSide, lowSide, padded, tablesOf}
+use Rattle.tables.specs.Steps.{farIn, more16, raiseBothIn, raiseIn}
+use Rattle.model.proofs.Walks.Counting.{same-eq, same-ne}
+use Rattle.model.proofs.Walks.Degree.{Proper, degree-snoc, endsAt-le}
+use Rattle.model.proofs.Walks.Turn.{At}
+use Rattle.model.proofs.Series.Held.{ends-read, length-ends, padded-read}
+use Rattle.agreement.proofs.Lists.{PairAt, by-pairs, getD-upTo, is-map, length-sidesOf, length-upTo, sidesOf-read}
+use Rattle.agreement.proofs.Linked.{Linked, far-agrees}
+use Rattle.agreement.proofs.Lockstep.{Shows}
+
+-- ---- the two sides of a vertex, by its degree
+
+abbrev SidesAre : Register → ℕ → ℕ → ℕ → Type 0
+SidesAre r v low high = (lowSide r v ≡ low) × (highSide r v ≡ high)
+
+module _ (r : Register) (v : ℕ) where
+  sides-regular : degree (r .edges) v ≡ 2 → SidesAre r v (getD (r .lows) v 0) (turn (r .edges) (getD (r .lows) v 0) v)
+  unfolding lowSide highSide isLeaf isRegular
+  sides-regular h = (rw h, rw h)
+
+  sides-leaf : degree (r .edges) v ≡ 1 → SidesAre r v (onlyEdge (r .edges) v) 0
+  unfolding lowSide highSide isLeaf isRegular
+  sides-leaf h = (rw (eq-eqb (degree (r .edges) v) 1 h), rw (ne-eqb (degree (r .edges) v) 2 (λ e. omega arith)))
+
+  sides-other : degree (r .edges) v ≢ 1 → degree (r .edges) v ≢ 2 → SidesAre r v 0 0
+  unfolding lowSide highSide isLeaf isRegular
+  sides-other a b = (rw (ne-eqb _ _ a, ne-eqb _ _ b), rw (ne-eqb _ _ b))
+
+-- ---- the table of sides
+
+sides-read : (r : Register) (v : ℕ) → v < maxVertices → PairAt ((tablesOf r) .sides) v (lowSide r v) (highSide r v)
+unfolding tablesOf
+sides-read r v h = sidesOf-read r maxVertices v h
+
+pub sides-long : (r : Register) → length ((tablesOf r) .sides) ≡ 2 * maxVertices
+unfolding tablesOf
+sides-long r = length-sidesOf r maxVertices
+
+-- it is linked where the low edge of each regular vertex is at it
+pub sides-linked : (r : Register) → ((v : ℕ) → degree (r .edges) v ≡ 2 → At (r .edges) v (getD (r .lows) v 0)) → (v : ℕ) → v < maxVertices
+    → Linked (r .edges) ((tablesOf r) .sides) (r .lows) v
+sides-linked r at v h =
+    let p = sides-read r v h in
+    record {
+      low-at = at v;
+      regular = λ d. let q = sides-regular r v d in (p .0 ∙ q .0, p .1 ∙ q .1);
+      leaf = λ d. let q = sides-leaf r v d in (p .0 ∙ q .0, p .1 ∙ q .1);
+      other = λ a b. let q = sides-other r v a b in (p .0 ∙ q .0, p .1 ∙ q .1);
+    }
+
+-- and a linked table of that size is it
+pub linked-sides : (r : Register) (sides : List ℕ) → length sides ≡ 2 * maxVertices → ((v : ℕ) → v < maxVertices → Linked (r .edges) sides (r .lows) v)
+    → sides ≡ (tablesOf r) .sides
+linked-sides r sides l k =
+    by-pairs maxVertices sides ((tablesOf r) .sides) l (sides-long r)
+    (λ v h. let p = sides-read r v h in let q = are v (k v h) in (q .0 ∙ sym (p .0), q .1 ∙ sym (p .1)))
+  where
+    are : (v : ℕ) → Linked (r .edges) sides (r .lows) v → PairAt sides v (lowSide r v) (highSide r v)
+    are v k = go (ℕ-discrete (degree (r .edges) v) 1) (ℕ-discrete (degree (r .edges) v) 2)
+      where
+        go : Dec (degree (r .edges) v ≡ 1) → Dec (degree (r .edges) v ≡ 2) → PairAt sides v (lowSide r v) (highSide r v)
+        go (yes d) e = let p = k .leaf d in let q = sides-leaf r v d in (p .0 ∙ sym (q .0), p .1 ∙ sym (q .1))
+        go (no d) (yes e) = let p = k .regular e in let q = sides-regular r v e in (p .0 ∙ sym (q .0), p .1 ∙ sym (q .1))
+        go (no d) (no e) = let p = k .other d e in let q = sides-other r v d e in (p .0 ∙ sym (q .0), p .1 ∙ sym (q .1))
+
+-- ---- degrees
+
+pub degrees-read : (r : Register) (v : ℕ) → v < maxVertices → getD ((tablesOf r) .degrees) v 0 ≡ degree (r .edges) v
+unfolding tablesOf
+degrees-read r v h = getD-upTo (λ w. degree (r .edges) w) maxVertices v h
+
+pub degrees-are : (r : Register) (degrees : List ℕ) → length degrees ≡ maxVertices → ((v : ℕ) → v < maxVertices → getD degrees v 0 ≡ degree (r .edges) v)
+    → degrees ≡ (tablesOf r) .degrees
+unfolding tablesOf
+degrees-are r degrees l h = is-map (λ w. degree (r .edges) w) maxVertices degrees l h
+
+pub degrees-long : (r : Register) → length ((tablesOf r) .degrees) ≡ maxVertices
+unfolding tablesOf
+degrees-long r = length-upTo (λ w. degree (r .edges) w) maxVertices
+
+degree-most : (es : List Edge) (v : ℕ) → Proper es → degree es v ≤ length es
+unfolding degree
+degree-most [] v pr = omega arith
+degree-most (e ∷ es) v pr = omega (arith, degree-most es v (pr .1), endsAt-le v e (pr .0))
+
+length-raise : (degrees : List ℕ) (x : ℕ) → length (raiseIn degrees x) ≡ length degrees
+unfolding raiseIn
+length-raise degrees x = length-set degrees x _
+
+raise-read : (degrees : List ℕ) (x v : ℕ) → x < length degrees → getD degrees x 0 < 65535 → getD (raiseIn degrees x) v 0 ≡ getD degrees v 0 + same x v
+unfolding raiseIn more16
+raise-read degrees x v l h = go (ℕ-discrete v x)
+  where
+    go : Dec (v ≡ x) → getD (raiseIn degrees x) v 0 ≡ getD degrees v 0 + same x v
+    go (yes e) = rw e (omega (arith, getD-set-same degrees x (min (getD degrees x 0 + 1) 65535) 0 l, same-eq x x refl))
+    go (no n) = omega (arith, getD-set-other degrees x v (min (getD degrees x 0 + 1) 65535) 0 n, same-ne x v (λ e. n (sym e)))
+
+same-most : (x v : ℕ) → same x v ≤ 1
+same-most x v = go (ℕ-discrete x v)
+  where
+    go : Dec (x ≡ v) → same x v ≤ 1
+    go (yes e) = omega (arith, same-eq x v e)
+    go (no n) = omega (arith, same-ne x v n)
+
+pub length-raised : (degrees : List ℕ) (a b : ℕ) → length (raiseBothIn degrees a b) ≡ length degrees
+unfolding raiseBothIn
+length-raised degrees a b = length-raise (raiseIn degrees a) b ∙ length-raise degrees a
+
+-- raised at its two ends, the degrees are those with the new edge
+pub raised : (es : List Edge) (n : Edge) (degrees : List ℕ) → Proper es → length es ≤ maxEdges → length degrees ≡ maxVertices → n .first < maxVertices → n .second < maxVertices
+    → ((v : ℕ) → v < maxVertices → getD degrees v 0 ≡ degree es v) → (v : ℕ) → v < maxVertices → getD (raiseBothIn degrees (n .first) (n .second)) v 0 ≡ degree (es ++ (n ∷ [])) v
+unfolding raiseBothIn endsAt
+raised es n degrees pr room long la lb h v l =
+    let a = n .first in
+    let b = n .second in
+    let da : getD degrees a 0 < 65535 = omega (arith, h a la, degree-most es a pr) in
+    let one = raise-read degrees a b (omega arith) da in
+    let db : getD (raiseIn degrees a) b 0 < 65535 = omega (arith, one, same-most a b, h b lb, degree-most es b pr) in
+    omega (
+      arith,
+      raise-read (raiseIn degrees a) b v (omega (arith, length-raise degrees a)) db,
+      raise-read degrees a v (omega arith) da,
+      h v l,
+      degree-snoc es n v,
+    )
+
+-- ---- ends
+
+fars-read : (r : Register) (d v : ℕ) → d < length (r .edges) → farIn ((tablesOf r) .ends) d v ≡ far (r .edges) d v
+unfolding tablesOf
+fars-read r d v h =
+    let es = r .edges in
+    let p = ends-read es d h in
+    far-agrees es (padded (2 * maxEdges) (endsOf es)) d v (
+      padded-read (2 * maxEdges) (2 * d) (endsOf es) (omega (arith, length-ends es)) ∙ p .0,
+      padded-read (2 * maxEdges) (2 * d + 1) (endsOf es) (omega (arith, length-ends es)) ∙ p .1,
+    )
+
+pub shows : (r : Register) → ((v : ℕ) → degree (r .edges) v ≡ 2 → At (r .edges) v (getD (r .lows) v 0)) → ((v d : ℕ) → At (r .edges) v d → v < maxVertices)
+    → Shows (r .edges) ((tablesOf r) .degrees) ((tablesOf r) .ends) ((tablesOf r) .sides) (r .lows)
+shows r at below = record { degrees-are = degrees-read r; fars-are = fars-read r; links = sides-linked r at; below = below }

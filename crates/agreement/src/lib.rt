@@ -1,0 +1,1 @@
+// The tables do what the definitions say.

@@ -1,0 +1,140 @@
+// The landing of one edge: the refusals in their order, then the tables and the counts.
+use crate::cases::case_of;
+use crate::cases::class_of;
+use crate::placing::place_edge;
+use counters::counts::Counts;
+use counters::numbers::CheckedMillimetres;
+use counters::numbers::Millimetres;
+use counters::numbers::Vertex;
+use counters::refusals::Refusal;
+use tables::access::add32;
+use tables::access::of16;
+use tables::access::one_more16;
+use tables::access::put32;
+use tables::steps::put_pair;
+ghost use mathlib.Core.Path.{_≡_};
+ghost use lib.ListN.{set};
+ghost use Rattle.model.specs.Tables.{Tables};
+ghost use Rattle.counters.specs.Answers.{countsIn};
+ghost use Rattle.tables.specs.Steps.{tables, setPair};
+ghost use Rattle.insertion.specs.Insertion.{landingIn, insertIn, landIn};
+ghost use Rattle.insertion.specs.Meaning.{answerIn, checkedIn};
+
+// The counts after the edge, or its refusal.
+pub enum Inserted {
+    Done(Counts),
+    Refused(Refusal),
+}
+
+// The first of refusals 5, 6, 7 and 23 that holds of an edge, or the edge's length where none does.
+pub enum Checked {
+    Passed(Millimetres),
+    Refused(Refusal),
+}
+
+// What the answer says of the edge is the same in all tables.
+pub fn check_edge(counts: Counts, first: u16, second: u16, length: u32) -> Checked
+    ensures { λ r. ⌜ ((t : Tables) → checkedIn r t (countsIn counts) first second
+        ≡ landIn t (countsIn counts) (record { first = first; second = second; len = length })) ⌝ }
+{
+    if counts.vertices <= first {
+        return Checked::Refused(Refusal::NotLanded);
+    }
+    if counts.vertices <= second {
+        return Checked::Refused(Refusal::NotLanded);
+    }
+    if first == second {
+        return Checked::Refused(Refusal::SameVertex);
+    }
+    let CheckedMillimetres::Is(millimetres) = Millimetres::new(length) else {
+        return Checked::Refused(Refusal::Length);
+    };
+    if 4096 <= counts.edges {
+        return Checked::Refused(Refusal::TooManyEdges);
+    }
+    Checked::Passed(millimetres)
+}
+
+// Edge e is written down, and nothing that another edge wrote is touched.
+pub fn record_edge(ends: &mut [u16], lengths: &mut [u32], e: u16, a: u16, b: u16, length: u32)
+    ensures { λ _. ⌜ (now (ends .exit) ≡ setPair (now (ends .entry)) e a b) × (now (lengths .exit) ≡ set (now (lengths .entry)) e length) ⌝ }
+{
+    put_pair(ends, e, a, b);
+    put32(lengths, e as usize, length);
+}
+
+// An edge that passed these. A ring shows before anything is written; else every table and count gets the edge.
+pub fn insert_edge(
+    degrees: &mut [u16],
+    sides: &mut [u16],
+    ends: &mut [u16],
+    lengths: &mut [u32],
+    labels: &mut [u32],
+    counts: Counts,
+    first: Vertex,
+    second: Vertex,
+    length: Millimetres,
+) -> Inserted
+    ensures { λ r. ⌜ landingIn (tables (now (degrees .exit)) (now (sides .exit)) (now (ends .exit)) (now (lengths .exit)) (now (labels .exit))) (answerIn r)
+        ≡ insertIn (tables (now (degrees .entry)) (now (sides .entry)) (now (ends .entry)) (now (lengths .entry)) (now (labels .entry)))
+        (countsIn counts) (record { first = first .0; second = second .0; len = length .0 }) ⌝ }
+{
+    let a = first.0;
+    let b = second.0;
+    let e = counts.edges;
+    let case = case_of(class_of(of16(degrees, a)), class_of(of16(degrees, b)));
+    let p = place_edge(
+        case,
+        degrees,
+        ends,
+        sides,
+        labels,
+        counts.blocks,
+        a,
+        b,
+        e,
+        e,
+    );
+    if p.ring {
+        return Inserted::Refused(Refusal::Ring);
+    }
+    record_edge(ends, lengths, e, a, b, length.0);
+    Inserted::Done(Counts {
+        vertices: counts.vertices,
+        edges: one_more16(e),
+        blocks: p.blocks,
+        relabellings: add32(counts.relabellings, p.relabellings),
+    })
+}
+
+pub fn land_edge(
+    degrees: &mut [u16],
+    sides: &mut [u16],
+    ends: &mut [u16],
+    lengths: &mut [u32],
+    labels: &mut [u32],
+    counts: Counts,
+    first: u16,
+    second: u16,
+    length: u32,
+) -> Inserted
+    ensures { λ r. ⌜ landingIn (tables (now (degrees .exit)) (now (sides .exit)) (now (ends .exit)) (now (lengths .exit)) (now (labels .exit))) (answerIn r)
+        ≡ landIn (tables (now (degrees .entry)) (now (sides .entry)) (now (ends .entry)) (now (lengths .entry)) (now (labels .entry)))
+        (countsIn counts) (record { first = first; second = second; len = length }) ⌝ }
+{
+    let checked = check_edge(counts, first, second, length);
+    match checked {
+        Checked::Passed(millimetres) => insert_edge(
+            degrees,
+            sides,
+            ends,
+            lengths,
+            labels,
+            counts,
+            Vertex(first),
+            Vertex(second),
+            millimetres,
+        ),
+        Checked::Refused(refusal) => Inserted::Refused(refusal),
+    }
+}

@@ -1,0 +1,137 @@
+// The chains of two leaves become one.
+use crate::labelling::base;
+use crate::labelling::label_vertex;
+use crate::labelling::relabel_chain;
+use crate::labelling::rises;
+use tables::access::of16;
+use tables::access::of32;
+use tables::access::one_more16;
+use tables::steps::next_label;
+use tables::walks::leave_leaf;
+use tables::walks::walk_lockstep;
+ghost use mathlib.Core.Path.{_≡_};
+ghost use mathlib.Core.Bool.{false};
+ghost use Rattle.insertion.specs.Labelling.{worn, joinIn, beginIn, merged, mergeIn};
+
+// What an edge makes of the counts: the number of blocks, and how many vertices it relabelled. A ring is refused.
+pub struct Merging {
+    pub ring: bool,
+    pub blocks: u16,
+    pub relabellings: u32,
+}
+
+impl Merging {
+    // No ring.
+    pub fn done(blocks: u16, relabellings: u32) -> Merging
+        ensures { λ r. ⌜ (r .ring ≡ false) × ((r .blocks ≡ blocks) × (r .relabellings ≡ relabellings)) ⌝ }
+    {
+        Merging {
+            ring: false,
+            blocks,
+            relabellings,
+        }
+    }
+}
+
+// The chains of the leaves x and y are joined by edge e. x's keeps its labels; the next ones go to x, to y, and along y's chain. The
+// answer counts the relabelled.
+pub fn join_chains(
+    degrees: &[u16],
+    ends: &[u16],
+    sides: &mut [u16],
+    labels: &mut [u32],
+    x: u16,
+    y: u16,
+    e: u16,
+    fuel: u16,
+) -> u32
+    ensures { λ r. ⌜ worn (now (sides .exit)) (now (labels .exit)) r
+        ≡ joinIn (now (degrees .entry)) (now (ends .entry)) (now (sides .entry)) (now (labels .entry)) x y e fuel ⌝ }
+{
+    let kept = leave_leaf(sides, ends, x);
+    let other = leave_leaf(sides, ends, y);
+    let up = rises(sides, kept);
+    let lx = next_label(of32(labels, kept.at), up);
+    let ly = next_label(lx, up);
+    let n = label_vertex(sides, labels, x, lx, kept.edge, e, up);
+    let m = label_vertex(sides, labels, y, ly, e, other.edge, up);
+    let rest = relabel_chain(
+        degrees,
+        ends,
+        sides,
+        labels,
+        other,
+        next_label(ly, up),
+        up,
+        fuel,
+    );
+    n + (m + rest)
+}
+
+// Two chains without regular vertices become one with two, a and b, in block k. The answer is 1 where b is relabelled, as no leaf is.
+pub fn begin_chain(
+    sides: &mut [u16],
+    labels: &mut [u32],
+    a: u16,
+    da: u16,
+    b: u16,
+    db: u16,
+    e: u16,
+    k: u16,
+) -> u32
+    ensures { λ r. ⌜ worn (now (sides .exit)) (now (labels .exit)) r
+        ≡ beginIn (now (sides .entry)) (now (labels .entry)) a da b db e k ⌝ }
+{
+    let low = base(k);
+    label_vertex(sides, labels, a, low, da, e, true);
+    label_vertex(sides, labels, b, low + 1, e, db, true)
+}
+
+// The chains of the leaves a and b are merged over edge e. Walking in lockstep costs what the shorter chain has; it shows which one is
+// longer, a tie going to a's, and a ring, where a's walk ends at b.
+pub fn merge_chains(
+    degrees: &[u16],
+    ends: &[u16],
+    sides: &mut [u16],
+    labels: &mut [u32],
+    blocks: u16,
+    a: u16,
+    b: u16,
+    e: u16,
+    fuel: u16,
+) -> Merging
+    ensures { λ r. ⌜ merged (r .ring) (now (sides .exit)) (now (labels .exit)) (r .blocks) (r .relabellings)
+        ≡ mergeIn (now (degrees .entry)) (now (ends .entry)) (now (sides .entry)) (now (labels .entry)) blocks a b e fuel ⌝ }
+{
+    let first = leave_leaf(sides, ends, a);
+    let second = leave_leaf(sides, ends, b);
+    let met = walk_lockstep(degrees, sides, ends, first, second, fuel);
+    if met.first == b {
+        return Merging {
+            ring: true,
+            blocks,
+            relabellings: 0,
+        };
+    }
+    if of16(degrees, met.second) == 2 {
+        return Merging::done(
+            blocks,
+            join_chains(degrees, ends, sides, labels, b, a, e, fuel),
+        );
+    }
+    if of16(degrees, met.first) == 2 {
+        return Merging::done(
+            blocks,
+            join_chains(degrees, ends, sides, labels, a, b, e, fuel),
+        );
+    }
+    if met.steps == 0 {
+        let k = one_more16(blocks);
+        begin_chain(sides, labels, a, first.edge, b, second.edge, e, k);
+        return Merging::done(k, 0);
+    }
+    Merging::done(
+        blocks,
+        join_chains(degrees, ends, sides, labels, a, b, e, fuel),
+    )
+}

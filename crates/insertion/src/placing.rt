@@ -1,0 +1,128 @@
+// What an edge does to the degrees, the sides and the labels, case by case.
+use crate::cases::Case;
+use crate::labelling::extend_chain;
+use crate::merging::Merging;
+use crate::merging::merge_chains;
+use tables::access::of16;
+use tables::access::put32;
+use tables::steps::put_pair;
+use tables::steps::raise_both;
+ghost use mathlib.Core.Path.{_≡_};
+ghost use lib.ListN.{set};
+ghost use Rattle.tables.specs.Steps.{setPair};
+ghost use Rattle.insertion.specs.Labelling.{worn};
+ghost use Rattle.insertion.specs.Insertion.{openIn, placed, openBothIn, placeExtend, placeMerge, placeIn};
+ghost use Rattle.insertion.specs.Meaning.{caseIn};
+
+// Vertex v is regular no more. The pieces of its chain keep their labels and sides: no other vertex is touched, and no chain looked up.
+pub fn split_vertex(sides: &mut [u16], labels: &mut [u32], v: u16)
+    ensures { λ _. ⌜ worn (now (sides .exit)) (now (labels .exit)) 0
+        ≡ worn (setPair (now (sides .entry)) v 0 0) (set (now (labels .entry)) v 0) 0 ⌝ }
+{
+    put_pair(sides, v, 0, 0);
+    put32(labels, v as usize, 0);
+}
+
+// Vertex v before edge e comes to it: an isolated one becomes a leaf with e as its only edge, a regular one is split.
+pub fn open_end(degrees: &[u16], sides: &mut [u16], labels: &mut [u32], v: u16, e: u16)
+    ensures { λ _. ⌜ worn (now (sides .exit)) (now (labels .exit)) 0
+        ≡ openIn (now (degrees .entry)) (now (sides .entry)) (now (labels .entry)) v e ⌝ }
+{
+    let degree = of16(degrees, v);
+    match degree {
+        0 => put_pair(sides, v, e, 0),
+        2 => split_vertex(sides, labels, v),
+        _ => (),
+    }
+}
+
+// Both ends are opened, the first named first. The second is found in the tables that the first one left, so that two regular vertices
+// of one chain are split as they should be.
+pub fn open_both(
+    degrees: &mut [u16],
+    sides: &mut [u16],
+    labels: &mut [u32],
+    blocks: u16,
+    a: u16,
+    b: u16,
+    e: u16,
+) -> Merging
+    ensures { λ r. ⌜ placed (r .ring) (now (degrees .exit)) (now (sides .exit)) (now (labels .exit)) (r .blocks) (r .relabellings)
+        ≡ openBothIn (now (degrees .entry)) (now (sides .entry)) (now (labels .entry)) blocks a b e ⌝ }
+{
+    open_end(degrees, sides, labels, a, e);
+    open_end(degrees, sides, labels, b, e);
+    raise_both(degrees, a, b);
+    Merging::done(blocks, 0)
+}
+
+// The chain of the leaf x, which is a or b, goes on over edge e. The other end may split that very chain, which then is a loop: x is
+// labelled by the chain as it is after the split, with the new degrees.
+pub fn place_extend(
+    degrees: &mut [u16],
+    ends: &[u16],
+    sides: &mut [u16],
+    labels: &mut [u32],
+    blocks: u16,
+    x: u16,
+    a: u16,
+    b: u16,
+    e: u16,
+) -> Merging
+    ensures { λ r. ⌜ placed (r .ring) (now (degrees .exit)) (now (sides .exit)) (now (labels .exit)) (r .blocks) (r .relabellings)
+        ≡ placeExtend (now (degrees .entry)) (now (ends .entry)) (now (sides .entry)) (now (labels .entry)) blocks x a b e ⌝ }
+{
+    open_both(degrees, sides, labels, blocks, a, b, e);
+    let k = extend_chain(degrees, ends, sides, labels, blocks, x, e);
+    Merging::done(k, 0)
+}
+
+pub fn place_merge(
+    degrees: &mut [u16],
+    ends: &[u16],
+    sides: &mut [u16],
+    labels: &mut [u32],
+    blocks: u16,
+    a: u16,
+    b: u16,
+    e: u16,
+    fuel: u16,
+) -> Merging
+    ensures { λ r. ⌜ placed (r .ring) (now (degrees .exit)) (now (sides .exit)) (now (labels .exit)) (r .blocks) (r .relabellings)
+        ≡ placeMerge (now (degrees .entry)) (now (ends .entry)) (now (sides .entry)) (now (labels .entry)) blocks a b e fuel ⌝ }
+{
+    let m = merge_chains(degrees, ends, sides, labels, blocks, a, b, e, fuel);
+    if m.ring {
+        return m;
+    }
+    raise_both(degrees, a, b);
+    m
+}
+
+pub fn place_edge(
+    case: Case,
+    degrees: &mut [u16],
+    ends: &[u16],
+    sides: &mut [u16],
+    labels: &mut [u32],
+    blocks: u16,
+    a: u16,
+    b: u16,
+    e: u16,
+    fuel: u16,
+) -> Merging
+    ensures { λ r. ⌜ placed (r .ring) (now (degrees .exit)) (now (sides .exit)) (now (labels .exit)) (r .blocks) (r .relabellings)
+        ≡ placeIn (caseIn case) (now (degrees .entry)) (now (ends .entry)) (now (sides .entry)) (now (labels .entry)) blocks a b e fuel ⌝ }
+{
+    match case {
+        Case::New => open_both(degrees, sides, labels, blocks, a, b, e),
+        Case::ExtendFirst => place_extend(degrees, ends, sides, labels, blocks, a, a, b, e),
+        Case::ExtendSecond => place_extend(degrees, ends, sides, labels, blocks, b, a, b, e),
+        Case::Merge => place_merge(degrees, ends, sides, labels, blocks, a, b, e, fuel),
+        Case::SplitExtendFirst => place_extend(degrees, ends, sides, labels, blocks, a, a, b, e),
+        Case::SplitExtendSecond => place_extend(degrees, ends, sides, labels, blocks, b, a, b, e),
+        Case::SplitFirst => open_both(degrees, sides, labels, blocks, a, b, e),
+        Case::SplitSecond => open_both(degrees, sides, labels, blocks, a, b, e),
+        Case::SplitBoth => open_both(degrees, sides, labels, blocks, a, b, e),
+    }
+}

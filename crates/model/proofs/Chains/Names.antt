@@ -1,0 +1,104 @@
+-- The name of a chain, and the rows of the sheet: one for each chain, by rising name.
+use mathlib.Core.Path.{_≡_, refl, ap, _∙_, subst}
+use mathlib.Core.Logic.{_⊎_, inl, inr}
+use Prim.Native.Nat.{ℕ, zero, suc, _+_, _≤_, _<_}
+use native.Mathlib.Omega.{arith}
+use native.Mathlib.Decide.{ℕ-discrete}
+use mathlib.Core.List.{List, [], _∷_, map, List·Memᴰ as Mem, List·Memᴰ·head as at-head, List·Memᴰ·tail as in-tail, List·Memᴰ·cases-cons as mem-cases, List·Memᴰ·not-nil as mem-nil, reverse, Memᴰ·append-right}
+use lib.ListN.{length}
+use Rattle.model.specs.Basics.{countFrom, upTo}
+use Rattle.model.specs.Graph.{Edge, nameOf, afterOf, chainOf, edgeAt, onwards}
+use Rattle.model.specs.Register.{Register}
+use Rattle.model.specs.Queries.{row, rowsOf, sheet}
+use Rattle.model.specs.Notions.{Rising, SheetNames}
+use Rattle.model.proofs.Walks.Degree.{Proper}
+use Rattle.model.proofs.Walks.RingFree.{RingFree}
+use Rattle.model.proofs.Chains.Partition.{On, on, name-mem, same-name, least-le, least-mem, mem-chain}
+use Rattle.model.proofs.Chains.Sums.{name-below}
+use Rattle.model.proofs.Chains.Sheet.{rows-yes, rows-no}
+
+-- the names among the edges from number `at` on, n of them
+record Named (es : List Edge) (at n : ℕ) : Type 0 where
+  names : List ℕ
+  rows-are : rowsOf es (countFrom at n) ≡ map (row es) names
+  rising : Rising names
+  each : (d : ℕ) → Mem d names → (at ≤ d) × ((d < at + n) × (nameOf es d ≡ d))
+  all : (d : ℕ) → at ≤ d → d < at + n → nameOf es d ≡ d → Mem d names
+
+named-from : (es : List Edge) (at n : ℕ) → Named es at n
+unfolding countFrom rowsOf
+named-from es at zero =
+    record { names = []; rows-are = refl; rising = tt; each = λ d m. absurd (mem-nil m); all = λ d a b e. absurd (omega arith) }
+named-from es at (suc n) = go (ℕ-discrete (nameOf es at) at) (named-from es (suc at) n)
+  where
+    go : Dec (nameOf es at ≡ at) → Named es (suc at) n → Named es at (suc n)
+    go (yes e) r =
+        record {
+          names = at ∷ r .names;
+          rows-are = rows-yes es at (countFrom (suc at) n) e ∙ ap (λ (l : List (List ℕ)). row es at ∷ l) (r .rows-are);
+          rising = (λ y m. omega (arith, r .each y m .0), r .rising);
+          each = λ d m. each-of d (mem-cases m);
+          all = λ d a b f. all-of d a b f (ℕ-discrete d at);
+        }
+      where
+        each-of : (d : ℕ) → (d ≡ at) ⊎ Mem d (r .names) → (at ≤ d) × ((d < at + suc n) × (nameOf es d ≡ d))
+        each-of d (inl q) = (omega arith, (omega arith, rw q e))
+        each-of d (inr m) = (omega (arith, r .each d m .0), (omega (arith, r .each d m .1 .0), r .each d m .1 .1))
+
+        all-of : (d : ℕ) → at ≤ d → d < at + suc n → nameOf es d ≡ d → Dec (d ≡ at) → Mem d (at ∷ r .names)
+        all-of d a b f (yes q) = at-head q
+        all-of d a b f (no q) = in-tail (r .all d (omega (arith, q)) (omega arith) f)
+    go (no k) r =
+        record {
+          names = r .names;
+          rows-are = rows-no es at (countFrom (suc at) n) k ∙ r .rows-are;
+          rising = r .rising;
+          each = λ d m. (omega (arith, r .each d m .0), (omega (arith, r .each d m .1 .0), r .each d m .1 .1));
+          all = λ d a b f. all-of d a b f (ℕ-discrete d at);
+        }
+      where
+        all-of : (d : ℕ) → at ≤ d → d < at + suc n → nameOf es d ≡ d → Dec (d ≡ at) → Mem d (r .names)
+        all-of d a b f (yes q) = absurd (k (subst (λ (z : ℕ). nameOf es z ≡ z) q f))
+        all-of d a b f (no q) = r .all d (omega (arith, q)) (omega arith) f
+
+pub sheet-names : (r : Register) → Proper (r .edges) → RingFree (r .edges) → SheetNames r
+unfolding sheet upTo
+sheet-names r pr rf =
+    let es = r .edges in
+    let n : Named es 0 (length es) = named-from es 0 (length es) in
+    record {
+      names = n .names;
+      rows-are = n .rows-are;
+      rising = n .rising;
+      each-names-itself = λ d m. (omega (arith, n .each d m .1 .0), n .each d m .1 .1);
+      every-edge = λ d h. n .all (nameOf es d) (omega arith) (omega (arith, name-below es pr rf d h)) (own d h);
+    }
+  where
+    own : (d : ℕ) → d < length (r .edges) → nameOf (r .edges) (nameOf (r .edges) d) ≡ nameOf (r .edges) d
+    own d h =
+        let o : On (r .edges) pr rf d = on (r .edges) pr rf d h in
+        same-name (r .edges) pr rf (o .line) (nameOf (r .edges) d) d (name-mem (r .edges) pr rf (o .line) d (o .mem)) (o .mem)
+
+-- ---- the name of a chain is the least of its edges, and the name of each of them
+
+module _ (es : List Edge) (pr : Proper es) (rf : RingFree es) where
+  pub chain-has : (d : ℕ) → Mem d ((chainOf es d) .edges)
+  unfolding chainOf
+  chain-has d = Memᴰ·append-right (reverse (map afterOf (onwards es d ((edgeAt es d) .first)))) (at-head refl)
+
+  pub chain-name : (c d : ℕ) → d < length es → Mem c ((chainOf es d) .edges) → nameOf es c ≡ nameOf es d
+  chain-name c d h m =
+      let o : On es pr rf d = on es pr rf d h in
+      same-name es pr rf (o .line) c d (mem-chain es pr rf (o .line) d c (o .mem) m) (o .mem)
+
+  pub name-in-chain : (d : ℕ) → Mem (nameOf es d) ((chainOf es d) .edges)
+  unfolding nameOf
+  name-in-chain d = go (mem-cases (least-mem d ((chainOf es d) .edges)))
+    where
+      go : (nameOf es d ≡ d) ⊎ Mem (nameOf es d) ((chainOf es d) .edges) → Mem (nameOf es d) ((chainOf es d) .edges)
+      go (inl e) = rw e (chain-has d)
+      go (inr m) = m
+
+  pub name-least : (c d : ℕ) → Mem c ((chainOf es d) .edges) → nameOf es d ≤ c
+  unfolding nameOf
+  name-least c d m = least-le d ((chainOf es d) .edges) c (in-tail m)

@@ -1,0 +1,143 @@
+-- The labels of a chain are consecutive: read from one of its ends to the other they rise by 1, and each low edge is the one before.
+use mathlib.Core.Path.{_≡_, refl, sym, ap, _∙_, subst}
+use mathlib.Core.Logic.{_≢_, _⊎_, inl, inr}
+use Prim.Native.Nat.{ℕ, suc, _<_}
+use native.Mathlib.Decide.{ℕ-discrete}
+use mathlib.Core.Bool.{Bool, true, false}
+use mathlib.Core.List.{List, [], _∷_, _++_, map}
+use lib.ListN.{length, length-map}
+use Rattle.model.specs.Basics.{countFrom}
+use Rattle.model.specs.Graph.{Chain, Edge, Pass, afterOf, atOf, chainOf, far, isRegular}
+use Rattle.model.specs.Labels.{Marks}
+use Rattle.model.specs.Register.{Register, marksOf}
+use Rattle.model.specs.Notions.{Upwards, labelOf, lowEdgeOf, reversed}
+use Rattle.model.proofs.Basics.Booleans.{not-both}
+use Rattle.model.proofs.Walks.Degree.{Proper, is-two}
+use Rattle.model.proofs.Walks.Turn.{At, two-edges}
+use Rattle.model.proofs.Walks.Trail.{Trail, done, pass, Across, across}
+use Rattle.model.proofs.Walks.Ended.{Next, next-edge, far-ne}
+use Rattle.model.proofs.Walks.RingFree.{RingFree, turn-between}
+use Rattle.model.proofs.Chains.Lines.{Line, afters}
+use Rattle.model.proofs.Chains.Same.{lineChain}
+use Rattle.model.proofs.Chains.Exact.{LineOf, own-line, line-back, line-back-chain}
+use Rattle.model.proofs.Groups.Origins.{labelAt, lowAt}
+use Rattle.model.proofs.Labels.Rise.{Rise, up-to, down-to, Sided}
+
+-- a trail from a singular vertex passes nothing
+trail-still : {es : List Edge} {p f q g : ℕ} {ss : List Pass} → Trail es p f ss q g → isRegular es f ≡ false → ss ≡ []
+trail-still done j = refl
+trail-still (pass t c e u) j = absurd (not-both _ c j)
+
+module _ (es : List Edge) (pr : Proper es) (m : Marks) (s : Sided es m) where
+  -- the labels and low edges of what is passed, where they rise on the way
+  record Climbs (p f : ℕ) (ss : List Pass) (q : ℕ) : Type 0 where
+    labels-are : map (labelAt m) (map atOf ss) ≡ countFrom (labelAt m f) (length ss)
+    lows-are : map (lowAt m) (map atOf ss) ++ (q ∷ []) ≡ p ∷ afters ss
+
+  -- from a regular vertex f along its edge t to the next one
+  rise : (f t : ℕ) → isRegular es f ≡ true → At es f t → isRegular es (far es t f) ≡ true → Rise m f (far es t f) t
+  rise f t c a c′ =
+      s .rises f (far es t f) t (is-two es f c) (is-two es (far es t f) c′) a ((across es t f pr a) .at) (λ e. far-ne es t f pr a (sym e))
+
+  -- if the first low edge is the one before, so are the others
+  on-up : (f p t : ℕ) → lowAt m f ≡ p → t ≢ p → Rise m f (far es t f) t → (lowAt m (far es t f) ≡ t) × (labelAt m (far es t f) ≡ suc (labelAt m f))
+  on-up f p t l n (up-to a b e) = (b, e)
+  on-up f p t l n (down-to a b e) = absurd (n (sym a ∙ l))
+
+  climbs : {p f q g : ℕ} {ss : List Pass} → At es f p → Trail es p f ss q g → (isRegular es f ≡ true → lowAt m f ≡ p) → Climbs p f ss q
+  unfolding countFrom afters atOf afterOf
+  climbs a done l = record { labels-are = refl; lows-are = refl }
+  climbs {p} {f} {q} {g} a (pass {ss = ss} t c e u) l = go (isRegular es (far es t f)) refl (λ k. climbs (nx .across .at) u k)
+    where
+      nx : Next es p f t
+      nx = next-edge es p f t pr a c e
+
+      goal : Climbs t (far es t f) ss q → map (labelAt m) (map atOf ss) ≡ countFrom (suc (labelAt m f)) (length ss)
+          → Climbs p f (record { before = p; at = f; after = t } ∷ ss) q
+      goal r k =
+          record {
+            labels-are = ap (λ (ls : List ℕ). labelAt m f ∷ ls) k;
+            lows-are = rw (l c) (ap (λ (ls : List ℕ). p ∷ ls) (r .lows-are));
+          }
+
+      go : (b : Bool) → isRegular es (far es t f) ≡ b → ((isRegular es (far es t f) ≡ true → lowAt m (far es t f) ≡ t) → Climbs t (far es t f) ss q)
+          → Climbs p f (record { before = p; at = f; after = t } ∷ ss) q
+      go true c′ ih =
+          let o = on-up f p t (l c) (nx .other) (rise f t c (nx .at) c′) in
+          let r = ih (λ x. o .0) in
+          goal r (r .labels-are ∙ ap (λ (n : ℕ). countFrom n (length ss)) (o .1))
+      go false c′ ih =
+          let z : ss ≡ [] = trail-still u c′ in
+          goal (ih (λ x. absurd (not-both _ x c′))) (rw z refl)
+
+  -- if the first low edge is the one after, so is the last
+  data Falls (p f q g : ℕ) : Type 0 where
+    nothing-passed : q ≡ p → g ≡ f → Falls p f q g
+    to-last : lowAt m (far es q g) ≡ q → Falls p f q g
+
+  on-down : (f t : ℕ) → lowAt m f ≡ t → Rise m f (far es t f) t → lowAt m (far es t f) ≢ t
+  on-down f t l (up-to a b e) = absurd (a l)
+  on-down f t l (down-to a b e) = b
+
+  falls : {p f q g : ℕ} {ss : List Pass} → At es f p → Trail es p f ss q g → (isRegular es f ≡ true → lowAt m f ≢ p) → Falls p f q g
+  falls a done l = nothing-passed refl refl
+  falls {p} {f} {q} {g} a (pass t c e u) l = go (falls (nx .across .at) u (λ c′. on-down f t low-t (rise f t c (nx .at) c′)))
+    where
+      nx : Next es p f t
+      nx = next-edge es p f t pr a c e
+
+      low-t : lowAt m f ≡ t
+      low-t = sym (turn-between es f p (lowAt m f) (two-edges es f pr (is-two es f c)) a (s .low-at f (is-two es f c)) (λ x. l c (sym x))) ∙ e
+
+      go : Falls t (far es t f) q g → Falls p f q g
+      go (nothing-passed x y) = to-last (rw (x, y, nx .across .again) low-t)
+      go (to-last x) = to-last x
+
+  -- a line is read upwards from its start or from its stop
+  line-climbs : (l : Line es) → (isRegular es (far es (l .first) (l .start)) ≡ true → lowAt m (far es (l .first) (l .start)) ≡ l .first)
+      → Climbs (l .first) (far es (l .first) (l .start)) (l .passes) (l .last)
+  line-climbs l k = climbs ((across es (l .first) (l .start) pr (l .at)) .at) (l .trail) k
+
+  other-climbs : (l : Line es) → lowAt m (far es (l .first) (l .start)) ≢ l .first
+      → isRegular es (far es (l .last) (l .stop)) ≡ true → lowAt m (far es (l .last) (l .stop)) ≡ l .last
+  other-climbs l n c = go (falls (x .at) (l .trail) (λ c′. n))
+    where
+      x : Across es (l .first) (l .start)
+      x = across es (l .first) (l .start) pr (l .at)
+
+      go : Falls (l .first) (far es (l .first) (l .start)) (l .last) (l .stop) → lowAt m (far es (l .last) (l .stop)) ≡ l .last
+      go (to-last e) = e
+      go (nothing-passed a b) = absurd (not-both _ (rw (a, b, x .again) at c) (l .starts))
+
+module _ (r : Register) (pr : Proper (r .edges)) (rf : RingFree (r .edges)) (s : Sided (r .edges) (marksOf r)) where
+  upwards : (l : Line (r .edges))
+      → (isRegular (r .edges) (far (r .edges) (l .first) (l .start)) ≡ true → lowAt (marksOf r) (far (r .edges) (l .first) (l .start)) ≡ l .first)
+      → Upwards r (lineChain l)
+  unfolding marksOf labelAt lowAt labelOf lowEdgeOf lineChain
+  upwards l k =
+      let c = line-climbs (r .edges) pr (marksOf r) s l k in
+      record {
+        lowest = labelAt (marksOf r) (far (r .edges) (l .first) (l .start));
+        labels = c .labels-are ∙ ap (λ (n : ℕ). countFrom (labelAt (marksOf r) (far (r .edges) (l .first) (l .start))) n) (sym (length-map (l .passes) atOf));
+        last = l .last;
+        low-edges = c .lows-are;
+      }
+
+  pub chain-upwards : (d : ℕ) → d < length (r .edges) → Upwards r (chainOf (r .edges) d) ⊎ Upwards r (reversed (chainOf (r .edges) d))
+  unfolding line-back
+  chain-upwards d h = go (ℕ-discrete (lowAt (marksOf r) (far es (l .first) (l .start))) (l .first))
+    where
+      es : List Edge
+      es = r .edges
+
+      o : LineOf es pr rf (chainOf es d)
+      o = own-line es pr rf d h
+
+      l : Line es
+      l = o .line
+
+      go : Dec (lowAt (marksOf r) (far es (l .first) (l .start)) ≡ l .first) → Upwards r (chainOf es d) ⊎ Upwards r (reversed (chainOf es d))
+      go (yes e) = inl (subst (λ (c : Chain). Upwards r c) (o .chain-is) (upwards l (λ c. e)))
+      go (no n) =
+          inr (subst (λ (c : Chain). Upwards r c) (line-back-chain es pr l ∙ ap reversed (o .chain-is))
+          (upwards (line-back es pr l) (other-climbs es pr (marksOf r) s l n)))

@@ -1,0 +1,241 @@
+-- What holds of every register that landing leaves: seven theorems, each a record of claims in the words of specs/, and its proof.
+-- docs/THEORY.md has the argument. The proofs at the end rest on the files beside this one: 1 on Walks, 2 and 5 on Chains, 3 on Labels and
+-- Groups, 4 on Groups, 6 on Distances, 7 on Series.
+use mathlib.Core.Path.{_≡_, subst}
+use mathlib.Core.Logic.{_≢_, _⊎_}
+use Prim.Native.Nat.{ℕ, _+_, _*_, _^_, _≤_, _<_}
+use native.Mathlib.Omega.{arith}
+use mathlib.Core.Bool.{true, false}
+use mathlib.Core.List.{List, [], _∷_, _++_, List·Memᴰ as Mem}
+use mathlib.Core.Option.{some}
+use lib.ListN.{length}
+use Rattle.model.specs.Basics.{floorLog, sum}
+use Rattle.model.specs.Graph.{Chain, Edge, chainLength, chainOf, edgeAt, endOnwards, endsAt, isRegular, nameOf, onwards, walk}
+use Rattle.model.specs.Register.{Register, empty, landEdge, landVertex, landed, marksOf, refused, withEdge, withVertex}
+use Rattle.model.specs.Format.{growList, landList}
+use Rattle.model.specs.Distance.{ChainWay, Distance, IsDistance, LooseWay, Way, distance}
+use Rattle.model.specs.Queries.{chainAt, find, measure, measured, reach, reached, refuses, sheetNumbers}
+use Rattle.model.specs.Tables.{Stored, edgeLengths, held, storedOf}
+use Rattle.model.specs.Series.{Made, after, landedEdges, lengthColumn, relabelledBy}
+use Rattle.model.specs.Notions.{Admissible, FindsOwn, IsChain, Reachable, Ring, SameChain, SheetNames, Upwards, history, labelOf, reversed}
+use Rattle.model.proofs.Walks.Degree.{Proper, is-two, not-two}
+use Rattle.model.proofs.Walks.RingFree.{RingFree}
+use Rattle.model.proofs.Walks.Ring.{ring-none}
+use Rattle.model.proofs.Walks.Whole.{Onwards, onwards-ends}
+use Rattle.model.proofs.Chains.Sheet.{sheet-sum}
+use Rattle.model.proofs.Chains.Exact.{chain-is-chain, chain-only}
+use Rattle.model.proofs.Chains.Names.{chain-has, chain-name, name-in-chain, name-least, sheet-names}
+use Rattle.model.proofs.Labels.Consecutive.{chain-upwards}
+use Rattle.model.proofs.Groups.FloorLog.{floorLog-fits, floorLog-most}
+use Rattle.model.proofs.Distances.Distance.{is-distance, unique}
+use Rattle.model.proofs.Distances.Hops.{chains-distance, loose-distance}
+use Rattle.model.proofs.Series.Labelled.{Labelled, find-none, labelled-bound, labels-unique}
+use Rattle.model.proofs.Series.Facts.{kept-held}
+use Rattle.model.proofs.Series.Whole.{measure-is}
+use Rattle.model.proofs.Series.Reachable.{either-order, full, history-told, reachable-after, reachable-grown, reachable-list, same-contents}
+use Rattle.model.proofs.Series.OnlyHeld.{only-held}
+use Rattle.model.proofs.Series.Small.{labels-small}
+use Rattle.model.proofs.Series.RingTest.{refused-closes, ring-decides}
+use Rattle.model.proofs.Series.Answers.{finds-chain, reach-of, reaches-add, reaches-own, zero-then}
+
+-- ---- the registers spoken of: what growing, landing a list in one of them, and a series of calls leave, and what lent tables hold
+
+pub grown : (bs : List ℕ) → Reachable ((growList bs) .register)
+grown bs = reachable-grown bs
+
+pub landed-in : (r : Register) (bs : List ℕ) → Reachable r → Reachable ((landList r bs) .register)
+landed-in r bs k = reachable-list r bs k
+
+pub after-calls : (ms : List Made) → Reachable (after ms empty)
+after-calls ms = reachable-after ms
+
+pub held-in : (s : Stored) (r : Register) → held s ≡ some r → Reachable r
+held-in s r h = (only-held s r h) .reachable
+
+-- ---- 1. No ring
+
+-- Every walk ends at a singular vertex, within the number of edges. An edge is refused with 24 exactly if with it there would be a ring.
+pub record NoRing (r : Register) : Type 0 where
+  pub ends : (d v : ℕ) → d < length (r .edges) → endsAt v (edgeAt (r .edges) d) ≡ 1 → isRegular (r .edges) (endOnwards (r .edges) d v) ≡ false
+  pub is-short : (d v : ℕ) → d < length (r .edges) → endsAt v (edgeAt (r .edges) d) ≡ 1 → length (onwards (r .edges) d v) < length (r .edges)
+  pub bound-enough : (d v n : ℕ) → d < length (r .edges) → endsAt v (edgeAt (r .edges) d) ≡ 1 → length (r .edges) ≤ n
+      → walk n (r .edges) d v ≡ onwards (r .edges) d v
+  pub no-ring : Ring (r .edges) → ⊥
+  pub refused-ring : (e : Edge) → landEdge r e ≡ refused 24 → Ring (r .edges ++ (e ∷ []))
+  pub ring-refused : (e : Edge) → Admissible r e → Ring (r .edges ++ (e ∷ [])) → landEdge r e ≡ refused 24
+  pub no-ring-landed : (e : Edge) → Admissible r e → (Ring (r .edges ++ (e ∷ [])) → ⊥) → landEdge r e ≡ landed (withEdge r e)
+
+-- ---- 2. Every edge lies on exactly one chain
+
+-- The chain of an edge is one, has the edge, and every chain with the edge is it, read in the same direction or in the other. So its edges
+-- have one name, the least of them. The sheet has each chain once, by rising name, and its lengths add up to those of the edges.
+pub record OneChain (r : Register) : Type 0 where
+  pub is-chain : (d : ℕ) → d < length (r .edges) → IsChain (r .edges) (chainOf (r .edges) d)
+  pub has-edge : (d : ℕ) → Mem d ((chainOf (r .edges) d) .edges)
+  pub only-chain : (c : Chain) (d : ℕ) → IsChain (r .edges) c → Mem d (c .edges) → SameChain c (chainOf (r .edges) d)
+  pub same-chain : (c d : ℕ) → d < length (r .edges) → Mem c ((chainOf (r .edges) d) .edges) → SameChain (chainOf (r .edges) d) (chainOf (r .edges) c)
+  pub same-name : (c d : ℕ) → d < length (r .edges) → Mem c ((chainOf (r .edges) d) .edges) → nameOf (r .edges) c ≡ nameOf (r .edges) d
+  pub name-in : (d : ℕ) → Mem (nameOf (r .edges) d) ((chainOf (r .edges) d) .edges)
+  pub name-least : (c d : ℕ) → Mem c ((chainOf (r .edges) d) .edges) → nameOf (r .edges) d ≤ c
+  pub sheet-rows : SheetNames r
+  pub sheet-lengths : sum (lengthColumn (sheetNumbers r)) ≡ sum (edgeLengths (r .edges))
+
+-- ---- 3. Labels
+
+-- A label is 0 exactly at a singular vertex. Those of a chain are consecutive from its low end to its high end. No two regular vertices
+-- wear one label, and each fits 32 bits. So a label in use finds the chain of its wearer, and any other is refused with 8.
+pub record LabelsFind (r : Register) : Type 0 where
+  pub singular-zero : (v : ℕ) → isRegular (r .edges) v ≡ false → labelOf r v ≡ 0
+  pub zero-singular : (v : ℕ) → labelOf r v ≡ 0 → isRegular (r .edges) v ≡ false
+  pub consecutive : (d : ℕ) → d < length (r .edges) → Upwards r (chainOf (r .edges) d) ⊎ Upwards r (reversed (chainOf (r .edges) d))
+  pub no-label-twice : (v w : ℕ) → isRegular (r .edges) v ≡ true → isRegular (r .edges) w ≡ true → labelOf r v ≡ labelOf r w → v ≡ w
+  pub fits-32-bits : (v : ℕ) → labelOf r v < 2 ^ 32
+  pub finds-own : (v : ℕ) → isRegular (r .edges) v ≡ true → FindsOwn r v
+  pub others-refused : (label : ℕ) → ((v : ℕ) → isRegular (r .edges) v ≡ true → labelOf r v ≢ label) → find r label ≡ refuses 8
+
+-- ---- 4. Relabellings
+
+-- The total is the sum of the relabellings of the edges landed, and at most n times the whole part of the base-2 logarithm of n.
+pub record FewRelabellings (r : Register) (k : Reachable r) : Type 0 where
+  pub landed-edges : landedEdges (history k) ≡ r .edges
+  pub total-is : r .relabellings ≡ relabelledBy (history k)
+  pub bound : 1 ≤ length (r .edges) → r .relabellings ≤ length (r .edges) * floorLog (length (r .edges))
+  pub logarithm : (n : ℕ) → 1 ≤ n → (2 ^ floorLog n ≤ n) × ((j : ℕ) → 2 ^ j ≤ n → j ≤ floorLog n)
+
+-- ---- 5. Reaches
+
+-- A regular vertex has two reaches, and they add up to the length of its chain.
+pub record ReachesAdd (r : Register) : Type 0 where
+  pub answered : (v : ℕ) → isRegular (r .edges) v ≡ true → (low : ℕ) × (high : ℕ) × (reach r v ≡ reached low high)
+  pub add-up : (v low high d : ℕ) → reach r v ≡ reached low high → d < length (r .edges) → Mem v ((chainOf (r .edges) d) .inner)
+      → low + high ≡ chainLength (r .edges) d
+  pub add-up-own : (v low high : ℕ) → reach r v ≡ reached low high → low + high ≡ chainLength (r .edges) (chainAt r v)
+
+-- ---- 6. Distances
+
+-- What is least over the edges is least over the chains, with stops at singular vertices or at any, and there is no way over the ones
+-- exactly if there is none over the others. `measure` answers it.
+pub record OneDistance (r : Register) : Type 0 where
+  pub over-edges : (v w : ℕ) → IsDistance (λ l. Way (r .edges) v w l) (distance (r .edges) v w)
+  pub over-chains : (v w : ℕ) → IsDistance (λ l. ChainWay (r .edges) v w l) (distance (r .edges) v w)
+  pub any-stops : (v w : ℕ) → IsDistance (λ l. LooseWay (r .edges) v w l) (distance (r .edges) v w)
+  pub edges-chains : (v w : ℕ) (d : Distance) → IsDistance (λ l. Way (r .edges) v w l) d → IsDistance (λ l. ChainWay (r .edges) v w l) d
+  pub chains-edges : (v w : ℕ) (d : Distance) → IsDistance (λ l. ChainWay (r .edges) v w l) d → IsDistance (λ l. Way (r .edges) v w l) d
+  pub answered : (v w : ℕ) → v < r .vertices → w < r .vertices → measure r v w ≡ measured (distance (r .edges) v w)
+
+-- ---- 7. Contents
+
+-- What is stored for a register is held, so refusal 21 does not hold of it, and nothing else is held as this register. A vertex and an edge
+-- land in either order with the same register. The contents follow from the edges, in the order of landing, and the number of vertices.
+pub record ContentsFollow (r : Register) : Type 0 where
+  pub holds : held (storedOf r) ≡ some r
+  pub nothing-else : (s : Stored) → held s ≡ some r → s ≡ storedOf r
+  pub either-order : (e : Edge) (s t : Register) → landVertex r ≡ landed s → landEdge r e ≡ landed t
+      → (landEdge s e ≡ landed (withVertex t)) × (landVertex t ≡ landed (withVertex t))
+  pub follow : (s : Register) → Reachable s → r .vertices ≡ s .vertices → r .edges ≡ s .edges → r ≡ s
+
+-- ---- the proofs
+
+module _ (r : Register) (k : Reachable r) where
+  l : Labelled r
+  l = (full r k) .kept .labelled
+
+  pr : Proper (r .edges)
+  pr = l .sound .proper
+
+  rf : RingFree (r .edges)
+  rf = l .sound .rings
+
+  -- ---- 1
+
+  walks : (d v : ℕ) → d < length (r .edges) → endsAt v (edgeAt (r .edges) d) ≡ 1 → Onwards (r .edges) d v
+  walks d v h m = onwards-ends (r .edges) pr rf d v (record { inside = h; meets = m })
+
+  pub theorem-1 : NoRing r
+  theorem-1 =
+      record {
+        ends = λ d v h m. let o = walks d v h m in rw (o .ends-at) (o .singular);
+        is-short = λ d v h m. (walks d v h m) .is-short;
+        bound-enough = λ d v n h m g. (walks d v h m) .enough n g;
+        no-ring = ring-none (r .edges) rf;
+        refused-ring = refused-closes r (l .sound);
+        ring-refused = λ e a. (ring-decides r (l .sound) e a) .0;
+        no-ring-landed = λ e a. (ring-decides r (l .sound) e a) .1;
+      }
+
+  -- ---- 2
+
+  pub theorem-2 : OneChain r
+  theorem-2 =
+      record {
+        is-chain = chain-is-chain (r .edges) pr rf;
+        has-edge = chain-has (r .edges) pr rf;
+        only-chain = chain-only (r .edges) pr rf;
+        same-chain = λ c d h m. chain-only (r .edges) pr rf (chainOf (r .edges) d) c (chain-is-chain (r .edges) pr rf d h) m;
+        same-name = chain-name (r .edges) pr rf;
+        name-in = name-in-chain (r .edges) pr rf;
+        name-least = name-least (r .edges) pr rf;
+        sheet-rows = sheet-names r pr rf;
+        sheet-lengths = sheet-sum r pr rf;
+      }
+
+  -- ---- 3
+
+  pub theorem-3 : LabelsFind r
+  unfolding labelOf marksOf
+  theorem-3 =
+      record {
+        singular-zero = λ v c. l .bare v (not-two (r .edges) v c);
+        zero-singular = zero-then r (full r k);
+        consecutive = chain-upwards r pr rf ((full r k) .sided);
+        no-label-twice = λ v w a b e. labels-unique r l v w (is-two (r .edges) v a) (is-two (r .edges) w b) e;
+        fits-32-bits = λ v. omega (arith, labels-small r k v);
+        finds-own = finds-chain r (full r k);
+        others-refused = λ label n. find-none r label l n;
+      }
+
+  -- ---- 4
+
+  pub theorem-4 : FewRelabellings r k
+  theorem-4 =
+      record {
+        landed-edges = (history-told r k) .edges-are;
+        total-is = (history-told r k) .total-is;
+        bound = λ h. labelled-bound r l;
+        logarithm = λ n h. (floorLog-fits n h, floorLog-most n);
+      }
+
+  -- ---- 5
+
+  pub theorem-5 : ReachesAdd r
+  theorem-5 = record { answered = λ v c. (_, _, reach-of r (full r k) v c); add-up = reaches-add r (full r k); add-up-own = reaches-own r (full r k) }
+
+  -- ---- 6
+
+  chains-of : (v w : ℕ) → IsDistance (λ n. ChainWay (r .edges) v w n) (distance (r .edges) v w)
+  chains-of v w = chains-distance (r .edges) pr rf v w (distance (r .edges) v w) (is-distance (r .edges) v w)
+
+  pub theorem-6 : OneDistance r
+  theorem-6 =
+      record {
+        over-edges = is-distance (r .edges);
+        over-chains = chains-of;
+        any-stops = λ v w. loose-distance (r .edges) pr rf v w (distance (r .edges) v w) (is-distance (r .edges) v w);
+        edges-chains = chains-distance (r .edges) pr rf;
+        chains-edges = λ v w d h.
+            subst (λ (x : Distance). IsDistance (λ n. Way (r .edges) v w n) x)
+            (unique (λ n. ChainWay (r .edges) v w n) (distance (r .edges) v w) d (chains-of v w) h)
+            (is-distance (r .edges) v w);
+        answered = measure-is r;
+      }
+
+  -- ---- 7
+
+  pub theorem-7 : ContentsFollow r
+  theorem-7 =
+      record {
+        holds = kept-held r ((full r k) .kept);
+        nothing-else = λ s h. (only-held s r h) .stored-is;
+        either-order = λ e s t h g. either-order r e s t h g;
+        follow = λ s g v e. same-contents r s k g v e;
+      }

@@ -1,0 +1,155 @@
+-- A ring of regular vertices: where every walk ends there is none, and the edge that the ring test refuses would close one.
+use mathlib.Core.Path.{_≡_, refl, sym, ap, _∙_, subst}
+use mathlib.Core.Logic.{_≢_, _⊎_, inl, inr}
+use Prim.Native.Nat.{ℕ, _≤_}
+use native.Mathlib.Omega.{arith}
+use mathlib.Core.Bool.{true, _&&_}
+use mathlib.Core.List.{List, [], _∷_, _++_}
+use lib.ListN.{length, length-append}
+use lib.Dec.{eqb}
+use borrow.Author.Tests.{eqb-true}
+use Rattle.model.specs.Graph.{Edge, Pass, degree, endOnwards, endsAt, far, isLeaf, onlyEdge, onwards, walk}
+use Rattle.model.specs.Cases.{closesRing}
+use Rattle.model.specs.Notions.{Ring, ontoOf}
+use Rattle.model.proofs.Basics.Booleans.{and-true}
+use Rattle.model.proofs.Walks.Degree.{Proper, end-cases, end-first, end-second, endsAt-le, zero-or-one}
+use Rattle.model.proofs.Walks.Turn.{At}
+use Rattle.model.proofs.Walks.Trail.{Trail, done, pass, trail-append, walk-on, walked, across, Across}
+use Rattle.model.proofs.Walks.Snoc.{trail-old, far-old}
+use Rattle.model.proofs.Walks.NewEdge.{at-last}
+use Rattle.model.proofs.Walks.Ended.{trail-unique}
+use Rattle.model.proofs.Walks.RingFree.{RingFree, OneEdge, one-edge}
+use Rattle.model.proofs.Walks.Rings.{trail-endOf, onlyEdge-is}
+use Rattle.model.proofs.Chains.Lines.{trail-at}
+use Rattle.model.proofs.Labels.Inwards.{Inward, inward-on, trail-clear}
+use Rattle.model.proofs.Walks.NewTurn.{NewTurn, new-turn, far-last}
+
+-- ---- a ring is a trail that comes back
+
+trail-onto : {es : List Edge} {p f q g : ℕ} {ss : List Pass} → Trail es p f ss q g → ontoOf p ss ≡ q
+unfolding ontoOf
+trail-onto done = refl
+trail-onto (pass t c e u) = trail-onto u
+
+-- a trail of n regular vertices is the walk of n steps
+trail-steps : {es : List Edge} {p f q g : ℕ} {ss : List Pass} → Trail es p f ss q g → walk (length ss) es p f ≡ ss
+unfolding walk
+trail-steps done = refl
+trail-steps {es} {p} {f} (pass {ss = ss} t c e u) =
+    walk-on (length ss) es p f c ∙ rw e (ap (λ (l : List Pass). record { before = p; at = f; after = t } ∷ l) (trail-steps u))
+
+pub ring-of-trail : {es : List Edge} {p f : ℕ} {ss : List Pass} → At es f p → Trail es p f ss p f → 1 ≤ length ss → Ring es
+ring-of-trail {es} {p} {f} {ss} a u h =
+    record {
+      edge = p;
+      vertex = f;
+      steps = length ss;
+      inside = a .inside;
+      meets = a .meets;
+      some-steps = h;
+      all-regular = ap length (trail-steps u);
+      same-edge = rw (trail-steps u) (trail-onto u);
+      same-vertex = rw (trail-steps u) (trail-endOf u);
+    }
+
+pub trail-of-ring : (es : List Edge) (k : Ring es) → Trail es (k .edge) (k .vertex) (walk (k .steps) es (k .edge) (k .vertex)) (k .edge) (k .vertex)
+trail-of-ring es k =
+    let w = walked (k .steps) es (k .edge) (k .vertex) in
+    let ss = walk (k .steps) es (k .edge) (k .vertex) in
+    let a : w .onto ≡ k .edge = sym (trail-onto (w .trail)) ∙ k .same-edge in
+    let b : w .to ≡ k .vertex = sym (trail-endOf (w .trail)) ∙ k .same-vertex in
+    subst (λ (q : ℕ). Trail es (k .edge) (k .vertex) ss q (k .vertex)) a
+    (subst (λ (g : ℕ). Trail es (k .edge) (k .vertex) ss (w .onto) g) b (w .trail))
+
+-- ---- where every walk ends there is none: once more round the ring would be another walk that ends
+
+pub ring-none : (es : List Edge) → RingFree es → Ring es → ⊥
+ring-none es rf k =
+    let r = rf (k .edge) (k .vertex) (record { inside = k .inside; meets = k .meets }) in
+    let ss = walk (k .steps) es (k .edge) (k .vertex) in
+    let n : length (ss ++ r .passes) ≡ length (r .passes) =
+    ap length (trail-unique (trail-append (trail-of-ring es k) (r .trail)) (r .singular) (r .trail) (r .singular)) in
+    omega (arith, n, length-append ss (r .passes), k .all-regular, k .some-steps)
+
+-- ---- the edge that the test refuses closes one
+
+record Refuses (es : List Edge) (a b : ℕ) : Type 0 where
+  a-leaf : degree es a ≡ 1
+  b-leaf : degree es b ≡ 1
+  arrives : endOnwards es (onlyEdge es a) (far es (onlyEdge es a) a) ≡ b
+
+refuses-of : (es : List Edge) (a b : ℕ) → closesRing es a b ≡ true → Refuses es a b
+unfolding closesRing isLeaf
+refuses-of es a b e =
+    let h = and-true (eqb (degree es a) 1 && eqb (degree es b) 1) _ e in
+    let g = and-true (eqb (degree es a) 1) (eqb (degree es b) 1) (h .0) in
+    record { a-leaf = eqb-true _ _ (g .0); b-leaf = eqb-true _ _ (g .1); arrives = eqb-true _ _ (h .1) }
+
+module _ (es : List Edge) (n : Edge) (pr : Proper es) (rf : RingFree es) (d : n .first ≢ n .second) where
+  abbrev new : List Edge
+  new = es ++ (n ∷ [])
+
+  pub ring-closed : closesRing es (n .first) (n .second) ≡ true → Ring (es ++ (n ∷ []))
+  unfolding endOnwards
+  ring-closed t = ring-of-trail (at-last es n (end-first n d)) round (omega arith)
+    where
+      a : ℕ
+      a = n .first
+
+      b : ℕ
+      b = n .second
+
+      h : Refuses es a b
+      h = refuses-of es a b t
+
+      one : OneEdge es a
+      one = one-edge es a pr (h .a-leaf)
+
+      e : ℕ
+      e = one .edge
+
+      w : Inward es a e (onwards es e (far es e a))
+      w = inward-on es pr rf a e (one .at)
+
+      ss : List Pass
+      ss = onwards es e (far es e a)
+
+      to-b : w .to ≡ b
+      to-b = sym (trail-endOf (w .trail)) ∙ rw (onlyEdge-is es a e pr (h .a-leaf) (one .at)) at (h .arrives)
+
+      inside : Trail es e (far es e a) ss (w .onto) b
+      inside = subst (λ (z : ℕ). Trail es e (far es e a) ss (w .onto) z) to-b (w .trail)
+
+      x : Across es e a
+      x = across es e a pr (one .at)
+
+      at-b : At es b (w .onto)
+      at-b = trail-at pr (x .at) inside
+
+      no-leaf : (v : ℕ) → degree es v ≡ 2 → (endsAt v n ≡ 0) ⊎ (endsAt v n ≡ 1) → endsAt v n ≡ 0
+      no-leaf v two (inl z) = z
+      no-leaf v two (inr o) = absurd (leaf (end-cases n v o))
+        where
+          leaf : (a ≡ v) ⊎ (b ≡ v) → ⊥
+          leaf (inl q) = let z : degree es v ≡ 1 = rw q at (h .a-leaf) in omega arith
+          leaf (inr q) = let z : degree es v ≡ 1 = rw q at (h .b-leaf) in omega arith
+
+      clear : (v : ℕ) → degree es v ≡ 2 → endsAt v n ≡ 0
+      clear v two = no-leaf v two (zero-or-one (endsAt v n) (endsAt-le v n d))
+
+      inside-new : Trail new e (far new e a) ss (w .onto) b
+      inside-new = rw (far-old es n e a (one .at .inside)) (trail-old n pr (x .at) (trail-clear n clear inside) inside)
+
+      ta : NewTurn es n a e
+      ta = new-turn es n pr d a e (end-first n d) (h .a-leaf) (one .at)
+
+      tb : NewTurn es n b (w .onto)
+      tb = new-turn es n pr d b (w .onto) (end-second n d) (h .b-leaf) at-b
+
+      last : Trail new (w .onto) b (record { before = w .onto; at = b; after = length es } ∷ []) (length es) a
+      last =
+          let v : Trail new (length es) (far new (length es) b) [] (length es) a = rw (far-last es n pr d b a (end-second n d) (end-first n d) (λ z. d (sym z))) done in
+          pass (length es) (tb .regular) (tb .out) v
+
+      round : Trail new (length es) a (record { before = length es; at = a; after = e } ∷ (ss ++ (record { before = w .onto; at = b; after = length es } ∷ []))) (length es) a
+      round = pass e (ta .regular) (ta .back) (trail-append inside-new last)

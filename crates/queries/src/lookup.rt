@@ -1,0 +1,73 @@
+// The wearer of a label, and the name of an edge's chain.
+use crate::numbers::smaller;
+use tables::access::at16;
+use tables::access::of16;
+use tables::access::of32;
+use tables::walks::Walker;
+use tables::walks::step_over;
+ghost use mathlib.Core.Path.{_≡_};
+ghost use mathlib.Core.List.{List};
+ghost use Prim.Native.Nat.{ℕ};
+ghost use lib.ListN.{take};
+ghost use Rattle.tables.specs.Steps.{tables};
+ghost use Rattle.queries.specs.Chains.{firstAt, lowestIn, nameIn};
+ghost use Rattle.queries.specs.Answers.{foundIn};
+
+pub enum Found {
+    At(u16),
+    Nothing,
+}
+
+// The first of at most 4,096 labels that is this one. A read past the end gives 0, which may be the label, so the length is tested.
+pub fn find_wearer(labels: &[u32], label: u32) -> Found
+    ensures { λ r. ⌜ foundIn r ≡ firstAt label (take 4096 (now (labels .entry))) ⌝ }
+{
+    let mut v: u16 = 0;
+    while v < 4096 {
+        if labels.len() <= (v as usize) {
+            break;
+        }
+        if of32(labels, v) == label {
+            return Found::At(v);
+        }
+        v += 1;
+    }
+    Found::Nothing
+}
+
+// The least of `low` and the numbers of the edges on the way from vertex `from`, reached by an edge, to the chain's end.
+fn lowest_onwards(
+    degrees: &[u16],
+    sides: &[u16],
+    ends: &[u16],
+    low: u16,
+    edge: u16,
+    from: u16,
+    fuel: u16,
+) -> u16
+    ensures { λ r. ⌜ ((lengths labels : List ℕ) → r
+        ≡ lowestIn (tables (now (degrees .entry)) (now (sides .entry)) (now (ends .entry)) lengths labels) fuel low edge from) ⌝ }
+{
+    let mut w = Walker { edge, at: from };
+    let mut lowest = low;
+    let mut left = fuel;
+    while 0 < left {
+        if of16(degrees, w.at) != 2 {
+            break;
+        }
+        w = step_over(sides, ends, w);
+        lowest = smaller(w.edge, lowest);
+        left -= 1;
+    }
+    lowest
+}
+
+// The name of the chain on which an edge lies.
+pub fn name_of(degrees: &[u16], sides: &[u16], ends: &[u16], edge: u16, fuel: u16) -> u16
+    ensures { λ r. ⌜ ((lengths labels : List ℕ) → r
+        ≡ nameIn (tables (now (degrees .entry)) (now (sides .entry)) (now (ends .entry)) lengths labels) fuel edge) ⌝ }
+{
+    let i = 2 * (edge as usize);
+    let low = lowest_onwards(degrees, sides, ends, edge, edge, at16(ends, i + 1), fuel);
+    lowest_onwards(degrees, sides, ends, low, edge, at16(ends, i), fuel)
+}

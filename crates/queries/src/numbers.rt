@@ -1,0 +1,29 @@
+// Single numbers.
+ghost use mathlib.Core.Path.{_≡_};
+ghost use Prim.Native.Nat.{min, max};
+ghost use Rattle.model.specs.Basics.{if_then_else_};
+
+pub fn smaller(m: u16, n: u16) -> u16
+    ensures { λ r. ⌜ r ≡ min m n ⌝ }
+{
+    if m < n { m } else { n }
+}
+
+pub fn larger(m: u16, n: u16) -> u16
+    ensures { λ r. ⌜ r ≡ max m n ⌝ }
+{
+    if m < n { n } else { m }
+}
+
+pub fn wide(n: u16) -> u32
+    ensures { λ r. ⌜ r ≡ n ⌝ }
+{
+    n as u32
+}
+
+// 1 where the test holds.
+pub fn one_if(test: bool) -> u16
+    ensures { λ r. ⌜ r ≡ if test then 1 else 0 ⌝ }
+{
+    if test { 1 } else { 0 }
+}

@@ -1,0 +1,26 @@
+-- What the enums and structs of this crate mean.
+use mathlib.Core.List.{[]}
+use Rattle.model.specs.Tables.{Tables, Counts}
+use Rattle.model.specs.Calls.{Lent, Outcome}
+use Rattle.counters.specs.Refusals.{numberOf}
+use Rattle.counters.specs.Answers.{countsIn, listReply}
+use Rattle.register.specs.Listing.{StepIn, ended, wentOn, stoppedIn, ReadIn}
+use Rattle.register.specs.declared.records.Step.{Step}
+use Rattle.register.specs.declared.records.Step.the-variants as step
+use Rattle.register.specs.declared.records.Landing.{Landing}
+
+abbrev pub stepMeans : Step → StepIn
+stepMeans step.End = ended
+stepMeans (step.Landed c at) = wentOn (countsIn c) (at .at)
+stepMeans (step.Refused x) = stoppedIn (numberOf x)
+
+abbrev pub landingMeans : Tables → Landing → ReadIn
+landingMeans t l = record { tables = t; counts = countsIn (l .counts); reply = listReply (l .answer) }
+
+-- what a call is lent: tables, counts, scratch
+abbrev pub lent : Tables → Counts → Tables → Lent
+lent t c s = record { stored = record { tables = t; counts = c }; scratch = s }
+
+-- what it leaves and answers
+abbrev pub outcome : Tables → Landing → Tables → Outcome
+outcome t l s = record { lent = lent t (countsIn (l .counts)) s; slice = []; reply = listReply (l .answer) }

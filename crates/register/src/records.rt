@@ -1,0 +1,175 @@
+// A list landed on the tables, record by record.
+use counters::answers::ListAnswer;
+use counters::counts::Counts;
+use counters::refusals::Refusal;
+use insertion::landing::Inserted;
+use insertion::landing::land_edge;
+use list::records::Cursor;
+use list::records::Header;
+use list::records::Record;
+use list::records::next_record;
+use list::records::read_header;
+use tables::access::one_more16;
+ghost use mathlib.Core.Path.{_≡_};
+ghost use lib.ListN.{length};
+ghost use Rattle.counters.specs.Answers.{countsIn};
+ghost use Rattle.tables.specs.Steps.{tables};
+ghost use Rattle.insertion.specs.Meaning.{answerIn};
+ghost use Rattle.list.specs.Reading.{recordAt};
+ghost use Rattle.register.specs.Listing.{landVertexIn, stepOf, steppedIn, landRecordIn, landRecordsIn, landListIn};
+ghost use Rattle.register.specs.Meaning.{stepMeans, landingMeans};
+
+// What stands behind a record: the end of the list; the counts and the next record; or the record's refusal.
+pub enum Step {
+    End,
+    Landed(Counts, Cursor),
+    Refused(Refusal),
+}
+
+// The counts that a list leaves, and its answer.
+pub struct Landing {
+    pub counts: Counts,
+    pub answer: ListAnswer,
+}
+
+pub fn land_vertex(counts: Counts) -> Inserted
+    ensures { λ r. ⌜ answerIn r ≡ landVertexIn (countsIn counts) ⌝ }
+{
+    if 4096 <= counts.vertices {
+        return Inserted::Refused(Refusal::TooManyVertices);
+    }
+    Inserted::Done(Counts {
+        vertices: one_more16(counts.vertices),
+        edges: counts.edges,
+        blocks: counts.blocks,
+        relabellings: counts.relabellings,
+    })
+}
+
+// A landed record goes on at the next one, a refused one stops.
+pub fn step_of(inserted: Inserted, next: Cursor) -> Step
+    ensures { λ r. ⌜ stepMeans r ≡ stepOf (next .at) (answerIn inserted) ⌝ }
+{
+    match inserted {
+        Inserted::Done(counts) => Step::Landed(counts, next),
+        Inserted::Refused(refusal) => Step::Refused(refusal),
+    }
+}
+
+pub fn land_record(
+    degrees: &mut [u16],
+    sides: &mut [u16],
+    ends: &mut [u16],
+    lengths: &mut [u32],
+    labels: &mut [u32],
+    counts: Counts,
+    list: &[u8],
+    at: Cursor,
+) -> Step
+    ensures { λ r. ⌜ steppedIn (tables (now (degrees .exit)) (now (sides .exit)) (now (ends .exit)) (now (lengths .exit)) (now (labels .exit))) (stepMeans r)
+        ≡ landRecordIn (tables (now (degrees .entry)) (now (sides .entry)) (now (ends .entry)) (now (lengths .entry)) (now (labels .entry)))
+        (countsIn counts) (recordAt (now (list .entry)) (at .at)) ⌝ }
+{
+    let found = next_record(list, at);
+    match found {
+        Record::End => Step::End,
+        Record::Vertex(next) => step_of(land_vertex(counts), next),
+        Record::Edge(first, second, length, next) => {
+            let inserted = land_edge(
+                degrees,
+                sides,
+                ends,
+                lengths,
+                labels,
+                counts,
+                first,
+                second,
+                length,
+            );
+            step_of(inserted, next)
+        }
+        Record::Refused(refusal) => Step::Refused(refusal),
+    }
+}
+
+// The records from a cursor on. Each takes at least a byte, so there are no more than bytes.
+pub fn land_records(
+    degrees: &mut [u16],
+    sides: &mut [u16],
+    ends: &mut [u16],
+    lengths: &mut [u32],
+    labels: &mut [u32],
+    counts: Counts,
+    list: &[u8],
+    from: Cursor,
+) -> Landing
+    ensures { λ r. ⌜ landingMeans (tables (now (degrees .exit)) (now (sides .exit)) (now (ends .exit)) (now (lengths .exit)) (now (labels .exit))) r
+        ≡ landRecordsIn (now (list .entry)) (length (now (list .entry))) 0
+        (tables (now (degrees .entry)) (now (sides .entry)) (now (ends .entry)) (now (lengths .entry)) (now (labels .entry)))
+        (countsIn counts) (from .at) ⌝ }
+{
+    let mut sofar = counts;
+    let mut at = from;
+    let mut number: usize = 0;
+    let mut left = list.len();
+    while 0 < left {
+        let step = land_record(degrees, sides, ends, lengths, labels, sofar, list, at);
+        match step {
+            Step::End => {
+                return Landing {
+                    counts: sofar,
+                    answer: ListAnswer::Whole,
+                };
+            }
+            Step::Landed(next_counts, next) => {
+                sofar = next_counts;
+                at = next;
+            }
+            Step::Refused(refusal) => {
+                return Landing {
+                    counts: sofar,
+                    answer: ListAnswer::Stopped(number, refusal),
+                };
+            }
+        }
+        number += 1;
+        left -= 1;
+    }
+    Landing {
+        counts: sofar,
+        answer: ListAnswer::Whole,
+    }
+}
+
+// A whole list: the header, then the records.
+pub fn land_list(
+    degrees: &mut [u16],
+    sides: &mut [u16],
+    ends: &mut [u16],
+    lengths: &mut [u32],
+    labels: &mut [u32],
+    counts: Counts,
+    list: &[u8],
+) -> Landing
+    ensures { λ r. ⌜ landingMeans (tables (now (degrees .exit)) (now (sides .exit)) (now (ends .exit)) (now (lengths .exit)) (now (labels .exit))) r
+        ≡ landListIn (tables (now (degrees .entry)) (now (sides .entry)) (now (ends .entry)) (now (lengths .entry)) (now (labels .entry)))
+        (countsIn counts) (now (list .entry)) ⌝ }
+{
+    let header = read_header(list);
+    match header {
+        Header::Good(from) => land_records(
+            degrees,
+            sides,
+            ends,
+            lengths,
+            labels,
+            counts,
+            list,
+            from,
+        ),
+        Header::Refused(refusal) => Landing {
+            counts,
+            answer: ListAnswer::Stopped(0, refusal),
+        },
+    }
+}

@@ -1,0 +1,28 @@
+// Refusal 25: the sizes of lent tables.
+ghost use mathlib.Core.Path.{_≡_};
+ghost use Rattle.model.specs.Tables.{fits};
+ghost use Rattle.tables.specs.Steps.{tables};
+
+pub fn sizes_fit(
+    degrees: &[u16],
+    sides: &[u16],
+    ends: &[u16],
+    lengths: &[u32],
+    labels: &[u32],
+) -> bool
+    ensures { λ r. ⌜ r ≡ fits (tables (now (degrees .entry)) (now (sides .entry)) (now (ends .entry)) (now (lengths .entry)) (now (labels .entry))) ⌝ }
+{
+    if degrees.len() != 4096 {
+        return false;
+    }
+    if sides.len() != 8192 {
+        return false;
+    }
+    if ends.len() != 8192 {
+        return false;
+    }
+    if lengths.len() != 4096 {
+        return false;
+    }
+    labels.len() == 4096
+}

@@ -1,0 +1,110 @@
+// Whole tables: made all 0, and compared.
+ghost use mathlib.Core.Path.{_≡_};
+ghost use mathlib.Core.Bool.{true};
+ghost use lib.ListN.{length, replicate};
+ghost use Rattle.tables.specs.Steps.{tables, zeroed};
+
+pub fn clear16(xs: &mut [u16])
+    ensures { λ _. ⌜ now (xs .exit) ≡ replicate (length (now (xs .entry))) 0 ⌝ }
+{
+    let mut i = 0;
+    while i < xs.len() {
+        xs[i] = 0;
+        i += 1;
+    }
+}
+
+pub fn clear32(xs: &mut [u32])
+    ensures { λ _. ⌜ now (xs .exit) ≡ replicate (length (now (xs .entry))) 0 ⌝ }
+{
+    let mut i = 0;
+    while i < xs.len() {
+        xs[i] = 0;
+        i += 1;
+    }
+}
+
+pub fn clear_tables(
+    degrees: &mut [u16],
+    sides: &mut [u16],
+    ends: &mut [u16],
+    lengths: &mut [u32],
+    labels: &mut [u32],
+)
+    ensures { λ _. ⌜ tables (now (degrees .exit)) (now (sides .exit)) (now (ends .exit)) (now (lengths .exit)) (now (labels .exit))
+        ≡ zeroed (tables (now (degrees .entry)) (now (sides .entry)) (now (ends .entry)) (now (lengths .entry)) (now (labels .entry))) ⌝ }
+{
+    clear16(degrees);
+    clear16(sides);
+    clear16(ends);
+    clear32(lengths);
+    clear32(labels);
+}
+
+// Whether two tables have the same length and the same elements.
+pub fn same16(xs: &[u16], ys: &[u16]) -> bool
+    ensures { λ r. ⌜ (r ≡ true → now (xs .entry) ≡ now (ys .entry)) × (now (xs .entry) ≡ now (ys .entry) → r ≡ true) ⌝ }
+{
+    if xs.len() != ys.len() {
+        return false;
+    }
+    let mut i = 0;
+    while i < xs.len() {
+        if xs[i] != ys[i] {
+            return false;
+        }
+        i += 1;
+    }
+    true
+}
+
+pub fn same32(xs: &[u32], ys: &[u32]) -> bool
+    ensures { λ r. ⌜ (r ≡ true → now (xs .entry) ≡ now (ys .entry)) × (now (xs .entry) ≡ now (ys .entry) → r ≡ true) ⌝ }
+{
+    if xs.len() != ys.len() {
+        return false;
+    }
+    let mut i = 0;
+    while i < xs.len() {
+        if xs[i] != ys[i] {
+            return false;
+        }
+        i += 1;
+    }
+    true
+}
+
+pub fn same_tables(
+    degrees: &[u16],
+    sides: &[u16],
+    ends: &[u16],
+    lengths: &[u32],
+    labels: &[u32],
+    degrees2: &[u16],
+    sides2: &[u16],
+    ends2: &[u16],
+    lengths2: &[u32],
+    labels2: &[u32],
+) -> bool
+    ensures { λ r. ⌜ (r ≡ true → tables (now (degrees .entry)) (now (sides .entry)) (now (ends .entry)) (now (lengths .entry)) (now (labels .entry))
+        ≡ tables (now (degrees2 .entry)) (now (sides2 .entry)) (now (ends2 .entry)) (now (lengths2 .entry)) (now (labels2 .entry)))
+        × (tables (now (degrees .entry)) (now (sides .entry)) (now (ends .entry)) (now (lengths .entry)) (now (labels .entry))
+        ≡ tables (now (degrees2 .entry)) (now (sides2 .entry)) (now (ends2 .entry)) (now (lengths2 .entry)) (now (labels2 .entry)) → r ≡ true) ⌝ }
+{
+    if !same16(degrees, degrees2) {
+        return false;
+    }
+    if !same16(sides, sides2) {
+        return false;
+    }
+    if !same16(ends, ends2) {
+        return false;
+    }
+    if !same32(lengths, lengths2) {
+        return false;
+    }
+    if !same32(labels, labels2) {
+        return false;
+    }
+    true
+}
