@@ -4,3 +4,4 @@ pub mod ListingLaws
 pub mod ReplayLaws
 pub mod Ties
 pub mod CallLaws
+pub mod Grown

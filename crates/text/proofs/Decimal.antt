@@ -1,14 +1,15 @@
 -- A number in decimal, digit by digit.
 use mathlib.Core.Path.{_≡_, refl, sym, ap, _∙_}
-use Prim.Native.Nat.{ℕ, zero, suc, _+_, _/_, _%_, _≤_, _<_}
+use Prim.Native.Nat.{ℕ, zero, suc, _+_, _*_, _/_, _%_, _^_, _≤_, _<_}
 use native.Mathlib.Omega.{arith}
 use mathlib.Core.Bool.{Bool, true, false}
 use mathlib.Core.List.{List, [], _∷_, _++_}
+use lib.ListN.{length, length-append}
 use lib.Dec.{ltb}
 use native.Mathlib.Decide.{decLt}
 use native.Mathlib.Nat.{mod-eq-of-lt}
 use borrow.Author.Tests.{lt-ltb, le-ltb}
-use Rattle.model.specs.Printing.{digitsWithin, decimal}
+use Rattle.model.specs.Printing.{digitsWithin, decimal, spaced, line}
 use Rattle.text.specs.Pages.{Page, write}
 use Rattle.text.proofs.Writing.{write-two}
 
@@ -49,3 +50,25 @@ number-one n x p q h e w = rw (decimal-one n h, ← e) w
 pub number-more : (n x : ℕ) (p q r : Page) → 10 ≤ n → q ≡ write (decimal (n / 10)) p → x ≡ 48 + n % 10 → r ≡ write (x ∷ []) q
     → r ≡ write (decimal n) p
 number-more n x p q r h v e w = rw (decimal-more n h, ← e) (write-two (decimal (n / 10)) (x ∷ []) p q r v w)
+
+-- a number below 10 ^ k has at most k digits
+pub decimal-length : (k n : ℕ) → n < 10 ^ suc k → length (decimal n) ≤ suc k
+decimal-length zero n h = let l : n < 10 = omega (arith, h) in rw (decimal-one n l) (omega arith)
+decimal-length (suc k) n h = go (decLt n 10) (decimal-length k (n / 10))
+  where
+    go : Dec (n < 10) → (n / 10 < 10 ^ suc k → length (decimal (n / 10)) ≤ suc k) → length (decimal n) ≤ suc (suc k)
+    go (yes l) ih = rw (decimal-one n l) (omega arith)
+    go (no l) ih =
+        let m : n / 10 < 10 ^ suc k = omega (arith, h) in
+        rw (decimal-more n (omega arith)) (omega (arith, ih m, length-append (decimal (n / 10)) ((48 + n % 10) ∷ [])))
+
+-- the length of a line of numbers below 2 ^ 32
+abbrev pub Small : List ℕ → Type 0
+Small [] = Unit {0}
+Small (n ∷ ns) = (n < 4294967296) × Small ns
+
+pub line-length : (n : ℕ) (ns : List ℕ) → Small (n ∷ ns) → length (line (n ∷ ns)) ≤ 11 * length (n ∷ ns)
+unfolding line spaced
+line-length n [] h = omega (arith, decimal-length 9 n (omega (arith, h .0)), length-append (decimal n) (10 ∷ []))
+line-length n (m ∷ ns) h =
+    omega (arith, decimal-length 9 n (omega (arith, h .0)), line-length m ns (h .1), length-append (decimal n ++ (32 ∷ spaced (m ∷ ns))) (10 ∷ []), length-append (decimal n) (32 ∷ spaced (m ∷ ns)), length-append (spaced (m ∷ ns)) (10 ∷ []))

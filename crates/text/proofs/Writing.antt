@@ -3,10 +3,14 @@ use mathlib.Core.Path.{_≡_, refl, sym, ap, _∙_}
 use Prim.Native.Nat.{ℕ, zero, suc, _+_, _≤_, _<_}
 use native.Mathlib.Omega.{arith}
 use native.Mathlib.Numerals.{add-one}
+use native.Mathlib.Decide.{decLt}
+use mathlib.Core.Bool.{Bool, true, false}
 use mathlib.Core.List.{List, [], _∷_, _++_, append-nil}
-use lib.ListN.{length, set, take, length-set}
-use lib.Seq.{take-suc-set, append-snoc}
+use lib.ListN.{length, getD, set, take, drop, length-set, drop-of-length-le}
+use lib.Seq.{take-suc-set, append-snoc, drop-cons}
+use lib.Dec.{ltb}
 use borrow.Author.Tests.{lt-ltb, le-ltb}
+use Rattle.model.specs.Basics.{if_then_else_}
 use Rattle.text.specs.Pages.{Page, page, put, write}
 
 pub write-append : (xs ys : List ℕ) (p : Page) → write (xs ++ ys) p ≡ write ys (write xs p)
@@ -45,3 +49,57 @@ write-fits (x ∷ xs) bs at l =
       front = w .front ∙ rw s (append-snoc (take at bs) x xs);
       long = w .long ∙ length-set bs at x;
     })
+
+-- the position moves on by no more than the text's length
+put-at : (x : ℕ) (p : Page) → (put x p) .at ≤ p .at + 1
+unfolding put
+put-at x p = go (ltb (p .at) (length (p .bytes)))
+  where
+    go : (b : Bool) → (if b then page (set (p .bytes) (p .at) x) (p .at + 1) else p) .at ≤ p .at + 1
+    go true = omega arith
+    go false = omega arith
+
+pub write-at : (xs : List ℕ) (p : Page) → (write xs p) .at ≤ p .at + length xs
+unfolding write
+write-at [] p = omega arith
+write-at (x ∷ xs) p = omega (arith, write-at xs (put x p), put-at x p)
+
+-- a first byte within the page, and one past its end
+write-in : (x : ℕ) (xs bs : List ℕ) (at : ℕ) → at < length bs → write (x ∷ xs) (page bs at) ≡ write xs (page (set bs at x) (at + 1))
+unfolding write put
+write-in x xs bs at h = rw (lt-ltb at (length bs) h)
+
+write-past : (x : ℕ) (xs bs : List ℕ) (at : ℕ) → length bs ≤ at → write (x ∷ xs) (page bs at) ≡ write xs (page bs at)
+unfolding write put
+write-past x xs bs at h = rw (le-ltb at (length bs) h)
+
+at-of : {p q : Page} → p ≡ q → p .at ≡ q .at
+at-of e = ap (λ (p : Page). p .at) e
+
+stays : (xs bs : List ℕ) (at : ℕ) → length bs ≤ at → (write xs (page bs at)) .at ≡ at
+unfolding write
+stays [] bs at h = refl
+stays (x ∷ xs) bs at h = at-of (write-past x xs bs at h) ∙ stays xs bs at h
+
+-- a text that ends before the end of the page was written whole
+pub write-room : (xs bs : List ℕ) (at : ℕ) → at ≤ length bs → (write xs (page bs at)) .at < length bs → at + length xs ≤ length bs
+write-room [] bs at h l = omega arith
+write-room (x ∷ xs) bs at h l = go (decLt at (length bs)) (λ k m. write-room xs (set bs at x) (at + 1) k m)
+  where
+    n : length (set bs at x) ≡ length bs
+    n = length-set bs at x
+
+    go : Dec (at < length bs)
+        → (at + 1 ≤ length (set bs at x) → (write xs (page (set bs at x) (at + 1))) .at < length (set bs at x) → at + 1 + length xs ≤ length (set bs at x))
+        → at + suc (length xs) ≤ length bs
+    go (yes k) ih = omega (arith, n, ih (omega (arith, n)) (omega (arith, n, l, at-of (write-in x xs bs at k))))
+    go (no k) ih = absurd (omega (arith, l, stays (x ∷ xs) bs at (omega arith)))
+
+-- a text byte by byte
+pub text-none : (xs : List ℕ) (i : ℕ) (p : Page) → length xs ≤ i → p ≡ write (drop i xs) p
+unfolding write
+text-none xs i p h = rw (drop-of-length-le xs h)
+
+pub text-one : (xs : List ℕ) (i : ℕ) (p q : Page) → i < length xs → q ≡ write (getD xs i 0 ∷ []) p → write (drop i xs) p ≡ write (drop (i + 1) xs) q
+unfolding write
+text-one xs i p q h e = rw (drop-cons xs i 0 h, add-one, e)

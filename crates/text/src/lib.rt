@@ -17,14 +17,14 @@ pub fn put_byte(out: &mut [u8], at: usize, b: u8) -> usize
     at
 }
 
-fn digit(n: u32) -> u8
+fn digit(n: u64) -> u8
     ensures { λ r. ⌜ r ≡ 48 + n % 10 ⌝ }
 {
     48 + ((n % 10) as u8)
 }
 
 // A number in decimal.
-pub fn put_number(out: &mut [u8], at: usize, n: u32) -> usize
+pub fn put_number(out: &mut [u8], at: usize, n: u64) -> usize
     ensures { λ r. ⌜ page (now (out .exit)) r ≡ write (decimal n) (page (now (out .entry)) at) ⌝ }
 {
     if n < 10 {
@@ -35,9 +35,22 @@ pub fn put_number(out: &mut [u8], at: usize, n: u32) -> usize
 }
 
 // A number and the byte behind it: a space, or the end of the line.
-pub fn put_field(out: &mut [u8], at: usize, n: u32, behind: u8) -> usize
+pub fn put_field(out: &mut [u8], at: usize, n: u64, behind: u8) -> usize
     ensures { λ r. ⌜ page (now (out .exit)) r ≡ write (decimal n ++ (behind ∷ [])) (page (now (out .entry)) at) ⌝ }
 {
     let next = put_number(out, at, n);
     put_byte(out, next, behind)
+}
+
+// The bytes of a text, one after the other.
+pub fn put_text(out: &mut [u8], at: usize, text: &[u8]) -> usize
+    ensures { λ r. ⌜ page (now (out .exit)) r ≡ write (now (text .entry)) (page (now (out .entry)) at) ⌝ }
+{
+    let mut next = at;
+    let mut i: usize = 0;
+    while i < text.len() {
+        next = put_byte(out, next, text[i]);
+        i += 1;
+    }
+    next
 }

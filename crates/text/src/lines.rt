@@ -5,14 +5,14 @@ ghost use mathlib.Core.List.{[], _∷_};
 ghost use Rattle.model.specs.Printing.{line};
 ghost use Rattle.text.specs.Pages.{page, write};
 
-pub fn put_line2(out: &mut [u8], at: usize, a: u32, b: u32) -> usize
+pub fn put_line2(out: &mut [u8], at: usize, a: u64, b: u64) -> usize
     ensures { λ r. ⌜ page (now (out .exit)) r ≡ write (line (a ∷ b ∷ [])) (page (now (out .entry)) at) ⌝ }
 {
     let second = put_field(out, at, a, 32);
     put_field(out, second, b, 10)
 }
 
-pub fn put_line4(out: &mut [u8], at: usize, a: u32, b: u32, c: u32, d: u32) -> usize
+pub fn put_line4(out: &mut [u8], at: usize, a: u64, b: u64, c: u64, d: u64) -> usize
     ensures { λ r. ⌜ page (now (out .exit)) r ≡ write (line (a ∷ b ∷ c ∷ d ∷ [])) (page (now (out .entry)) at) ⌝ }
 {
     let second = put_field(out, at, a, 32);
@@ -20,7 +20,7 @@ pub fn put_line4(out: &mut [u8], at: usize, a: u32, b: u32, c: u32, d: u32) -> u
     put_line2(out, third, c, d)
 }
 
-pub fn put_line5(out: &mut [u8], at: usize, a: u32, b: u32, c: u32, d: u32, e: u32) -> usize
+pub fn put_line5(out: &mut [u8], at: usize, a: u64, b: u64, c: u64, d: u64, e: u64) -> usize
     ensures { λ r. ⌜ page (now (out .exit)) r ≡ write (line (a ∷ b ∷ c ∷ d ∷ e ∷ [])) (page (now (out .entry)) at) ⌝ }
 {
     let second = put_field(out, at, a, 32);

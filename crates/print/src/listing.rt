@@ -1,0 +1,156 @@
+// The bytes that the printing program prints, built in a lent slice.
+use counters::answers::ListAnswer;
+use counters::counts::Counts;
+use counters::refusals::Refusal;
+use queries::names::is_name;
+use queries::rows::count_rows;
+use queries::rows::row_at;
+use register::records::land_list;
+use text::lines::put_line2;
+use text::lines::put_line4;
+use text::lines::put_line5;
+use text::put_text;
+ghost use mathlib.Core.Path.{_≡_};
+ghost use mathlib.Core.List.{List, [], _∷_};
+ghost use Prim.Native.Nat.{ℕ, _+_, _*_, _≤_};
+ghost use lib.ListN.{length, take};
+ghost use Rattle.model.specs.Basics.{upTo};
+ghost use Rattle.model.specs.Printing.{lines, printed};
+ghost use Rattle.counters.specs.Answers.{countsIn, listReply};
+ghost use Rattle.tables.specs.Steps.{tables};
+ghost use Rattle.queries.specs.Chains.{rowsIn};
+ghost use Rattle.io.specs.Counts.{Counts as Counted};
+ghost use Rattle.text.specs.Pages.{page, write};
+ghost use Rattle.print.specs.Listing.{replyLine, listingIn};
+
+// The line of edge's chain, if edge is its name.
+fn put_chain(
+    out: &mut [u8],
+    at: usize,
+    degrees: &[u16],
+    sides: &[u16],
+    ends: &[u16],
+    lengths: &[u32],
+    edge: u16,
+    edges: u16,
+) -> usize
+    ensures { λ r. ⌜ ((labels : List ℕ) → page (now (out .exit)) r
+        ≡ write (lines (rowsIn (tables (now (degrees .entry)) (now (sides .entry)) (now (ends .entry)) (now (lengths .entry)) labels) edges (edge ∷ [])))
+        (page (now (out .entry)) at)) × (r ≤ at + 55) ⌝ }
+{
+    if !is_name(degrees, sides, ends, edge, edges) {
+        return at;
+    }
+    let row = row_at(degrees, sides, ends, lengths, edge, edges);
+    let name = row.name;
+    let low = row.low;
+    let high = row.high;
+    let inner = row.inner;
+    let length = row.length;
+    put_line5(
+        out,
+        at,
+        name as u64,
+        low as u64,
+        high as u64,
+        inner as u64,
+        length as u64,
+    )
+}
+
+// The sheet, one chain a line, by rising name.
+fn put_sheet(
+    out: &mut [u8],
+    at: usize,
+    degrees: &[u16],
+    sides: &[u16],
+    ends: &[u16],
+    lengths: &[u32],
+    edges: u16,
+) -> usize
+    ensures { λ r. ⌜ ((labels : List ℕ) → page (now (out .exit)) r
+        ≡ write (lines (rowsIn (tables (now (degrees .entry)) (now (sides .entry)) (now (ends .entry)) (now (lengths .entry)) labels) edges (upTo edges)))
+        (page (now (out .entry)) at)) × (r ≤ at + 55 * edges) ⌝ }
+{
+    let mut next = at;
+    let mut edge: u16 = 0;
+    let mut left = edges;
+    while 0 < left {
+        next = put_chain(out, next, degrees, sides, ends, lengths, edge, edges);
+        edge += 1;
+        left -= 1;
+    }
+    next
+}
+
+fn put_stop(out: &mut [u8], at: usize, answer: ListAnswer) -> usize
+    ensures { λ r. ⌜ (page (now (out .exit)) r ≡ write (replyLine (listReply answer)) (page (now (out .entry)) at)) × (r ≤ at + 60) ⌝ }
+{
+    match answer {
+        ListAnswer::Whole => at,
+        ListAnswer::Stopped(record, refusal) => {
+            let number = refusal.number();
+            let next = put_text(out, at, b"stopped ");
+            put_line2(out, next, record as u64, number as u64)
+        }
+        ListAnswer::Refused(refusal) => at,
+    }
+}
+
+// The four numbers, the sheet, and the stop.
+fn put_listing(
+    out: &mut [u8],
+    degrees: &[u16],
+    sides: &[u16],
+    ends: &[u16],
+    lengths: &[u32],
+    counts: Counts,
+    answer: ListAnswer,
+) -> usize
+    ensures { λ r. ⌜ ((labels : List ℕ) → page (now (out .exit)) r
+        ≡ write (listingIn (tables (now (degrees .entry)) (now (sides .entry)) (now (ends .entry)) (now (lengths .entry)) labels) (countsIn counts) (listReply answer))
+        (page (now (out .entry)) 0)) × (r ≤ 104 + 55 * counts .edges) ⌝ }
+{
+    let vertices = counts.vertices;
+    let edges = counts.edges;
+    let relabellings = counts.relabellings;
+    let chains = count_rows(degrees, sides, ends, edges);
+    let sheet = put_line4(
+        out,
+        0,
+        vertices as u64,
+        edges as u64,
+        chains as u64,
+        relabellings as u64,
+    );
+    let stop = put_sheet(out, sheet, degrees, sides, ends, lengths, edges);
+    put_stop(out, stop, answer)
+}
+
+// What the program prints for the bytes that it read. The slice has room for any listing: 4,096 lines of at most 55 bytes, the four
+// numbers, and the stop.
+pub fn print_list(list: &[u8], out: &mut [u8]) -> usize
+    requires { ⌜ 262144 ≤ length (now out) ⌝ }
+    ensures { λ r. ⌜ Counted r (now (out .exit)) × (take r (now (out .exit)) ≡ printed (now (list .entry))) ⌝ }
+{
+    if 65536 < list.len() {
+        return put_text(out, 0, b"too long\n");
+    }
+    let mut degrees = [0u16; 4096];
+    let mut sides = [0u16; 8192];
+    let mut ends = [0u16; 8192];
+    let mut lengths = [0u32; 4096];
+    let mut labels = [0u32; 4096];
+    let landing = land_list(
+        &mut degrees,
+        &mut sides,
+        &mut ends,
+        &mut lengths,
+        &mut labels,
+        Counts::none(),
+        list,
+    );
+    let counts = landing.counts;
+    let answer = landing.answer;
+    put_listing(out, &degrees, &sides, &ends, &lengths, counts, answer)
+}

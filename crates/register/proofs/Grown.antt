@@ -1,0 +1,39 @@
+-- What a list leaves that is landed on cleared tables: the tables, the counts and the answer of the register grown from it.
+use mathlib.Core.Path.{_≡_, refl, sym, ap, _∙_}
+use Prim.Native.Nat.{ℕ}
+use mathlib.Core.List.{List}
+use Rattle.model.specs.Register.{Register, empty}
+use Rattle.model.specs.Format.{Read, growList, landList}
+use Rattle.model.specs.Queries.{read}
+use Rattle.model.specs.Tables.{Tables, Counts, tablesOf, countsOf, cleared, noCounts}
+use Rattle.model.specs.Computing.{computing}
+use Rattle.agreement.specs.Listing as whole
+use Rattle.agreement.proofs.Growing.{Grown, empty-grown, list-grown}
+use Rattle.agreement.proofs.Listing.{list-agrees, readIn}
+use Rattle.register.specs.Listing.{ReadIn, landListIn}
+use Rattle.register.proofs.Ties.{replied, list-is}
+
+abbrev pub grownFrom : Read → ReadIn
+grownFrom d = record { tables = tablesOf (d .register); counts = countsOf (d .register); reply = read (d .stop) }
+
+empty-tables : tablesOf empty ≡ cleared
+unfolding computing
+empty-tables = refl
+
+empty-counts : countsOf empty ≡ noCounts
+unfolding computing
+empty-counts = refl
+
+shown : (d : Read) → replied (readIn d) ≡ grownFrom d
+unfolding replied readIn
+shown d = refl
+
+pub list-leaves : (bs : List ℕ) → landListIn cleared noCounts bs ≡ grownFrom (growList bs)
+unfolding growList
+list-leaves bs =
+    let i : whole.landListIn cleared noCounts bs ≡ readIn (landList empty bs) = rw (empty-tables, empty-counts) at (list-agrees empty bs empty-grown) in
+    list-is cleared noCounts bs ∙ ap replied i ∙ shown (landList empty bs)
+
+pub growList-grown : (bs : List ℕ) → Grown ((growList bs) .register)
+unfolding growList
+growList-grown bs = list-grown empty bs empty-grown

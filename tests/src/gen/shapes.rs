@@ -1,0 +1,271 @@
+//! Houses of many shapes. Each takes about as many fittings as it is told.
+
+use super::layout::Layout;
+use super::random::Random;
+
+type Shape = fn(&mut Random, usize) -> Layout;
+
+const SHAPES: &[Shape] = &[
+    scattered,
+    crowded,
+    line_in_any_order,
+    tree,
+    comb,
+    grid,
+    balanced_merges,
+    loops,
+    curled_lines,
+    parallel_pipes,
+    tapped_line_joined_again,
+    lone_couplings_extended,
+    line_grown_downwards,
+    ladder,
+    all_cases,
+    all_cases,
+    side_by_side,
+];
+
+pub fn any(random: &mut Random, size: usize) -> Layout {
+    let shape = random.pick(SHAPES);
+    shape(random, size.max(2))
+}
+
+/// Fewer pipes than fittings, anywhere.
+pub fn scattered(random: &mut Random, size: usize) -> Layout {
+    let mut layout = Layout::of_fittings(size);
+    for _ in 0..size * 3 / 4 {
+        layout.joins.push(random.pair_below(size));
+    }
+    layout
+}
+
+/// Many pipes between few fittings.
+pub fn crowded(random: &mut Random, size: usize) -> Layout {
+    let fittings = random.between(2, 3 + size / 4);
+    let mut layout = Layout::of_fittings(fittings);
+    for _ in 0..size * 2 {
+        layout.joins.push(random.pair_below(fittings));
+    }
+    layout
+}
+
+pub fn line_in_any_order(random: &mut Random, size: usize) -> Layout {
+    let mut layout = Layout::default();
+    layout.line(size);
+    layout.shuffled(random)
+}
+
+pub fn tree(random: &mut Random, size: usize) -> Layout {
+    // Hanging on one of the last few makes long branches, on any one short branches.
+    let near = random.between(1, size);
+    let mut layout = Layout::of_fittings(1);
+    while layout.fittings < size {
+        let from = layout.fittings - random.between(1, near.min(layout.fittings));
+        layout.onward(from);
+    }
+    layout.maybe_shuffled(random)
+}
+
+/// A line with a tooth at most of its fittings.
+pub fn comb(random: &mut Random, size: usize) -> Layout {
+    let mut layout = Layout::default();
+    for fitting in layout.line(1 + size / 2) {
+        if !random.one_in(4) {
+            layout.onward(fitting);
+        }
+    }
+    layout.maybe_shuffled(random)
+}
+
+pub fn grid(random: &mut Random, size: usize) -> Layout {
+    let width = random.between(2, 2 + size.isqrt());
+    let height = size.div_ceil(width);
+    let mut layout = Layout::of_fittings(width * height);
+    for fitting in 0..width * height {
+        if (fitting + 1) % width != 0 {
+            layout.join(fitting, fitting + 1);
+        }
+        if fitting + width < width * height {
+            layout.join(fitting, fitting + width);
+        }
+    }
+    layout.maybe_shuffled(random)
+}
+
+/// A line made of pairs, then fours, then eights: the most re-hanging.
+pub fn balanced_merges(random: &mut Random, size: usize) -> Layout {
+    let mut layout = Layout::default();
+    layout.line(size);
+    if random.one_in(2) {
+        random.shuffle(&mut layout.joins);
+    }
+    layout
+        .joins
+        .sort_by_key(|&(_, right)| right.trailing_zeros());
+    layout
+}
+
+/// A hub with arms, and lines that leave it and come back.
+pub fn loops(random: &mut Random, size: usize) -> Layout {
+    let mut layout = Layout::default();
+    let hub = layout.fitting();
+    for _ in 0..random.between(2, 4) {
+        layout.onward(hub);
+    }
+    while layout.fittings < size {
+        let mut last = hub;
+        for _ in 0..random.between(1, 5) {
+            last = layout.onward(last);
+        }
+        layout.join(last, hub);
+    }
+    layout.maybe_shuffled(random)
+}
+
+/// Lines whose free ends are joined to couplings of their own.
+pub fn curled_lines(random: &mut Random, size: usize) -> Layout {
+    let mut layout = Layout::default();
+    while layout.fittings < size {
+        let fittings = random.between(3, 12);
+        let line = layout.line(fittings);
+        layout.join(line[fittings - 1], line[random.between(1, fittings - 2)]);
+        if random.one_in(2) {
+            layout.join(line[0], line[random.between(1, fittings - 2)]);
+        }
+    }
+    layout
+}
+
+/// A line with several pipes at each of its places.
+pub fn parallel_pipes(random: &mut Random, size: usize) -> Layout {
+    let mut layout = Layout::of_fittings(size);
+    for fitting in 1..size {
+        for _ in 0..random.between(1, 3) {
+            layout.join(fitting - 1, fitting);
+        }
+    }
+    layout.maybe_shuffled(random)
+}
+
+/// Lines tapped at couplings, and then the ends of lines and stubs joined two by two.
+pub fn tapped_line_joined_again(random: &mut Random, size: usize) -> Layout {
+    let mut layout = Layout::default();
+    while layout.fittings < size {
+        let fittings = random.between(3, 14);
+        let line = layout.line(fittings);
+        let mut ends = vec![line[0], line[fittings - 1]];
+        for _ in 0..random.between(1, 3) {
+            let mut end = line[random.between(1, fittings - 2)];
+            for _ in 0..random.between(1, 4) {
+                end = layout.onward(end);
+            }
+            ends.push(end);
+        }
+        random.shuffle(&mut ends);
+        for pair in ends.chunks_exact(2) {
+            layout.join(pair[0], pair[1]);
+        }
+    }
+    layout
+}
+
+/// Lines tapped so that lone couplings are left, which are extended and at last joined.
+pub fn lone_couplings_extended(random: &mut Random, size: usize) -> Layout {
+    let mut layout = Layout::default();
+    let mut ends = Vec::new();
+    while layout.fittings < size {
+        let fittings = random.between(5, 8);
+        let line = layout.line(fittings);
+        layout.onward(line[2]);
+        layout.onward(line[fittings - 3]);
+        let (mut one, mut other) = (line[0], line[fittings - 1]);
+        for _ in 0..random.between(1, 6) {
+            if random.one_in(2) {
+                one = layout.onward(one);
+            } else {
+                other = layout.onward(other);
+            }
+        }
+        ends.extend([one, other]);
+    }
+    random.shuffle(&mut ends);
+    for pair in ends.chunks_exact(2) {
+        layout.join(pair[0], pair[1]);
+    }
+    layout
+}
+
+/// Lines that are extended at their low ends only, tapped here and there, some joined there.
+pub fn line_grown_downwards(random: &mut Random, size: usize) -> Layout {
+    let lines = random.between(1, 3);
+    let mut layout = Layout::default();
+    let mut lows = Vec::new();
+    for _ in 0..lines {
+        let start = layout.line(3);
+        let mut below = vec![start[0]];
+        for _ in 0..size / lines {
+            below.push(layout.onward(below[below.len() - 1]));
+        }
+        if random.one_in(2) {
+            layout.onward(random.pick(&below));
+        }
+        lows.push(below[below.len() - 1]);
+    }
+    if random.one_in(2) {
+        for pair in lows.windows(2) {
+            layout.join(pair[1], pair[0]);
+        }
+    }
+    layout
+}
+
+/// Two lines, rungs between their couplings, and chords within one line.
+pub fn ladder(random: &mut Random, size: usize) -> Layout {
+    let fittings = 2 + size / 2;
+    let mut layout = Layout::default();
+    let sides = [layout.line(fittings), layout.line(fittings)];
+    for _ in 0..random.between(1, fittings) {
+        let one = &sides[random.below(2)];
+        let other = &sides[random.below(2)];
+        // The same fitting twice is left out later.
+        layout.join(one[random.below(fittings)], other[random.below(fittings)]);
+    }
+    layout
+}
+
+/// Pipes whose two ends are drawn by their degrees, so that every case of landing comes up often.
+pub fn all_cases(random: &mut Random, size: usize) -> Layout {
+    let mut layout = Layout::of_fittings(size);
+    let mut degrees = vec![0; size];
+    for _ in 0..size * 5 / 4 {
+        let one = fitting_of_some_degree(random, &degrees);
+        let other = fitting_of_some_degree(random, &degrees);
+        if one != other {
+            layout.join(one, other);
+            degrees[one] += 1;
+            degrees[other] += 1;
+        }
+    }
+    layout
+}
+
+/// A fitting of degree 0, 1, 2, or 3 and up, if a look around finds one.
+fn fitting_of_some_degree(random: &mut Random, degrees: &[usize]) -> usize {
+    let wanted = random.below(4);
+    let start = random.below(degrees.len());
+    let around = (start..degrees.len()).chain(0..start);
+    let found = around.into_iter().find(|&at| degrees[at].min(3) == wanted);
+    found.unwrap_or(start)
+}
+
+/// Two shapes, with a few pipes between them at the end.
+fn side_by_side(random: &mut Random, size: usize) -> Layout {
+    let one = any(random, size / 2);
+    let other = any(random, size / 2);
+    let mut layout = one.beside(random, other);
+    for _ in 0..random.below(6) {
+        let join = random.pair_below(layout.fittings);
+        layout.joins.push(join);
+    }
+    layout
+}

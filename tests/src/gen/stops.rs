@@ -1,0 +1,224 @@
+//! Lists that stop with a refusal that is known beforehand.
+
+use super::layout::Layout;
+use super::random::Random;
+use super::{records, shapes, small_size, whole};
+use crate::house::{LONGEST_PIPE, MOST_FITTINGS};
+use crate::list::{self, Record};
+
+/// Makes a list that stops with the refusal that it is named for.
+pub type Stopping = fn(&mut Random) -> Vec<u8>;
+
+pub fn any(random: &mut Random) -> Vec<u8> {
+    let stopping = random.pick(&[
+        no_mark,
+        version,
+        cut_header,
+        cut_record,
+        unknown_kind,
+        not_landed,
+        same_fitting,
+        wrong_length,
+        ring,
+        ring,
+        full_fittings,
+    ] as &[Stopping]);
+    stopping(random)
+}
+
+pub fn no_mark(random: &mut Random) -> Vec<u8> {
+    let mut list = list::write(&whole(random));
+    let at = random.below(list::MARK.len());
+    if random.one_in(2) {
+        list.truncate(at);
+    } else {
+        list[at] ^= 1 << random.below(8);
+    }
+    list
+}
+
+pub fn version(random: &mut Random) -> Vec<u8> {
+    let other = random.byte().max(2);
+    let version = random.pick(&[[0, 0], [2, 0], [0, 1], [1, 1], [other, 0]]);
+    let mut list = list::write(&whole(random));
+    list[3..5].copy_from_slice(&version);
+    list
+}
+
+pub fn cut_header(random: &mut Random) -> Vec<u8> {
+    let mut list = list::MARK.to_vec();
+    if random.one_in(2) {
+        list.push(random.byte() % 4);
+    }
+    list
+}
+
+pub fn cut_record(random: &mut Random) -> Vec<u8> {
+    let records = whole(random);
+    let (place, landed) = place(random, &records, 0);
+    let pipe = if random.one_in(2) {
+        records::pipe(0, 1, 1)
+    } else {
+        records::pipe(landed, landed, 0)
+    };
+    let bytes = list::record_bytes(&pipe);
+    let cut = random.between(1, list::PIPE_BODY);
+    [&list::write(&records[..place]), &bytes[..cut]].concat()
+}
+
+pub fn unknown_kind(random: &mut Random) -> Vec<u8> {
+    let records = whole(random);
+    let (place, _) = place(random, &records, 0);
+    let near = random.pick(b"EGOQfp\x00\xFF");
+    let any = random.byte();
+    let kind = match random.pick(&[near, any]) {
+        list::FITTING_KIND | list::PIPE_KIND => near,
+        other => other,
+    };
+    with_tail(random, &records, place, &[kind])
+}
+
+/// One or both fittings not landed, with any length and even the same one twice.
+pub fn not_landed(random: &mut Random) -> Vec<u8> {
+    let records = whole(random);
+    let (place, landed) = place(random, &records, 0);
+    let far = random.between(landed, usize::from(u16::MAX));
+    let missing = random.pick(&[landed, landed, landed + 1, MOST_FITTINGS, far]);
+    let other = random.below(landed + 1);
+    let (first, second) = random.pick(&[(missing, other), (other, missing), (missing, missing)]);
+    let length = random.pick(&[1, LONGEST_PIPE, 0, LONGEST_PIPE + 1]);
+    with_bad_pipe(random, &records, place, (first, second, length))
+}
+
+/// The same fitting twice, with any length.
+pub fn same_fitting(random: &mut Random) -> Vec<u8> {
+    let records = whole(random);
+    let (place, landed) = place(random, &records, 1);
+    let fitting = random.below(landed);
+    let length = random.pick(&[1, LONGEST_PIPE, 0, LONGEST_PIPE + 1]);
+    with_bad_pipe(random, &records, place, (fitting, fitting, length))
+}
+
+/// A length of 0 or above 100,000, even where the pipe would close a ring.
+pub fn wrong_length(random: &mut Random) -> Vec<u8> {
+    let records = whole(random);
+    let (place, landed) = place(random, &records, 2);
+    let (first, second) = random.pair_below(landed);
+    let above = (LONGEST_PIPE + 1).max(random.u32());
+    let with_good_low_half = 0x0002_0001;
+    let length = random.pick(&[0, LONGEST_PIPE + 1, with_good_low_half, u32::MAX, above]);
+    with_bad_pipe(random, &records, place, (first, second, length))
+}
+
+/// A line that closes to a ring of couplings only, beside some other shape.
+pub fn ring(random: &mut Random) -> Vec<u8> {
+    let size = small_size(random);
+    let shape = shapes::any(random, size).landable();
+    let fittings = random.between(2, 9);
+    let mut layout = shapes::line_in_any_order(random, fittings).beside(random, shape);
+    layout.join(0, fittings - 1);
+    let mut records = records::of(random, &layout);
+    if random.one_in(2) {
+        records.push(Record::Fitting);
+        records.push(records::pipe(0, 1, 1));
+    }
+    list::write(&records)
+}
+
+/// A 4,097th fitting, with a few pipes before it.
+pub fn full_fittings(random: &mut Random) -> Vec<u8> {
+    let size = small_size(random);
+    let mut layout = shapes::any(random, size).landable();
+    layout.fittings = MOST_FITTINGS;
+    one_fitting_more(random, &layout)
+}
+
+/// The records of a layout of 4,096 fittings, and one fitting more.
+pub fn one_fitting_more(random: &mut Random, layout: &Layout) -> Vec<u8> {
+    let mut records = records::of(random, layout);
+    let last_fitting = records
+        .iter()
+        .rposition(|&record| record == Record::Fitting);
+    let earliest = last_fitting.map_or(0, |at| at + 1);
+    records.insert(random.between(earliest, records.len()), Record::Fitting);
+    list::write(&records)
+}
+
+/// A place before which at least so many fittings are landed, and how many are.
+fn place(random: &mut Random, records: &[Record], least: usize) -> (usize, usize) {
+    let landed_before = |place: usize| {
+        let before = records[..place].iter();
+        before.filter(|&&record| record == Record::Fitting).count()
+    };
+    let earliest = (0..records.len()).find(|&place| landed_before(place) >= least);
+    let place = random.between(earliest.unwrap_or(records.len()), records.len());
+    (place, landed_before(place))
+}
+
+fn with_bad_pipe(
+    random: &mut Random,
+    records: &[Record],
+    place: usize,
+    (first, second, length): (usize, usize, u32),
+) -> Vec<u8> {
+    let bytes = list::record_bytes(&records::pipe(first, second, length));
+    with_tail(random, records, place, &bytes)
+}
+
+/// The records before a place, other bytes there, and perhaps the records after it.
+fn with_tail(random: &mut Random, records: &[Record], place: usize, bytes: &[u8]) -> Vec<u8> {
+    let (before, after) = records.split_at(place);
+    let mut list = list::write(before);
+    list.extend(bytes);
+    if random.one_in(2) {
+        list.extend(after.iter().flat_map(list::record_bytes));
+    }
+    list
+}
+
+#[cfg(test)]
+mod tests {
+    use super::*;
+    use crate::list::{grow, Stop};
+    use crate::refusal::Refusal;
+
+    fn stops_of(stopping: Stopping) -> Vec<Stop> {
+        let random = &mut Random::new(5);
+        let lists = (0..60).map(|_| stopping(random));
+        let stops = lists.map(|list| grow(&list).1.expect_err("a list that stops"));
+        stops.collect()
+    }
+
+    #[test]
+    fn headers_stop_as_named() {
+        for (stopping, refusal) in [
+            (no_mark as Stopping, Refusal::NoMark),
+            (version, Refusal::Version),
+            (cut_header, Refusal::Cut),
+        ] {
+            for stop in stops_of(stopping) {
+                assert_eq!(stop, Stop::Header(refusal));
+            }
+        }
+    }
+
+    #[test]
+    fn records_stop_as_named() {
+        for (stopping, refusal) in [
+            (cut_record as Stopping, Refusal::Cut),
+            (unknown_kind, Refusal::Kind),
+            (not_landed, Refusal::NotLanded),
+            (same_fitting, Refusal::SameFitting),
+            (wrong_length, Refusal::Length),
+            (ring, Refusal::Ring),
+            (full_fittings, Refusal::FullFittings),
+        ] {
+            for stop in stops_of(stopping) {
+                assert!(
+                    matches!(stop, Stop::Record(_, r) if r == refusal),
+                    "{stop:?}"
+                );
+            }
+        }
+    }
+}

@@ -1,0 +1,310 @@
+//! The register of document 01, kept as explicit runs.
+//!
+//! Degrees, names and lengths are worked out from the landed pipes whenever they are asked for.
+//! Beside the pipes stand the runs as ordered lists, low end first, and the tags hung along them.
+
+use crate::refusal::Refusal;
+use crate::run::{self, Run};
+
+/// A fitting's number, from 0 in order of landing.
+pub type Fitting = usize;
+/// A pipe's number, from 0 in order of landing.
+pub type PipeNumber = usize;
+/// A coupling's tag; 0 at a junction.
+pub type Tag = u32;
+pub type Millimetres = u32;
+
+pub const MOST_FITTINGS: usize = 4_096;
+pub const MOST_PIPES: usize = 4_096;
+pub const LONGEST_PIPE: Millimetres = 100_000;
+
+/// The k-th birth uses this times k.
+const BIRTH_STEP: Tag = 8_192;
+
+/// A pipe with its two fittings in the order in which they are named.
+#[derive(Clone, Copy, Debug, PartialEq, Eq)]
+pub struct Pipe {
+    pub first: Fitting,
+    pub second: Fitting,
+    pub length: Millimetres,
+}
+
+impl Pipe {
+    /// The end that is not `near`.
+    pub fn far_end(&self, near: Fitting) -> Fitting {
+        if self.first == near {
+            self.second
+        } else {
+            self.first
+        }
+    }
+}
+
+/// What its degree makes of a fitting that a pipe comes to ("Landing a pipe").
+#[derive(Clone, Copy, Debug, PartialEq, Eq)]
+enum Standing {
+    /// Degree 2.
+    Coupling,
+    /// A junction of degree 1.
+    Free,
+    /// Any other junction.
+    Settled,
+}
+
+/// The way in which tags go on from a run's end.
+#[derive(Clone, Copy, Debug, PartialEq, Eq)]
+enum Side {
+    Low,
+    High,
+}
+
+#[derive(Clone, Debug, Default, PartialEq, Eq)]
+pub struct House {
+    pipes: Vec<Pipe>,
+    runs: Vec<Run>,
+    /// One for each landed fitting.
+    tags: Vec<Tag>,
+    births: u32,
+    re_hung: u32,
+}
+
+/// What the register holds.
+impl House {
+    pub fn fittings(&self) -> usize {
+        self.tags.len()
+    }
+
+    pub fn pipes(&self) -> &[Pipe] {
+        &self.pipes
+    }
+
+    /// The runs with their sides, in no order.
+    pub fn runs(&self) -> &[Run] {
+        &self.runs
+    }
+
+    /// The runs by rising name, without sides, from the pipes alone.
+    pub fn runs_afresh(&self) -> Vec<Run> {
+        run::afresh(self.fittings(), &self.pipes)
+    }
+
+    pub fn tags(&self) -> &[Tag] {
+        &self.tags
+    }
+
+    pub fn births(&self) -> u32 {
+        self.births
+    }
+
+    pub fn re_hung(&self) -> u32 {
+        self.re_hung
+    }
+
+    /// The number of pipe ends at a fitting.
+    pub fn degree(&self, fitting: Fitting) -> usize {
+        let ends = self.pipes.iter().flat_map(|pipe| [pipe.first, pipe.second]);
+        ends.filter(|&end| end == fitting).count()
+    }
+
+    /// The run that a coupling lies on.
+    pub fn run_through(&self, coupling: Fitting) -> Option<&Run> {
+        let mut runs = self.runs.iter();
+        runs.find(|run| run.couplings().contains(&coupling))
+    }
+}
+
+/// Landing ("Landing a pipe" and "Tags").
+impl House {
+    pub fn land_fitting(&mut self) -> Result<(), Refusal> {
+        if self.fittings() == MOST_FITTINGS {
+            return Err(Refusal::FullFittings);
+        }
+        self.tags.push(0);
+        Ok(())
+    }
+
+    /// Lands a pipe; a refused one changes nothing.
+    pub fn land_pipe(&mut self, pipe: Pipe) -> Result<(), Refusal> {
+        self.check(&pipe)?;
+        let before = self.tags.clone();
+        self.land_by_case(&pipe)?;
+        self.pipes.push(pipe);
+        self.re_hung += re_hangings(&before, &self.tags);
+        Ok(())
+    }
+
+    /// Refusals 5, 6, 7 and 23, in this order; 24 comes after them, out of the case itself.
+    fn check(&self, pipe: &Pipe) -> Result<(), Refusal> {
+        if pipe.first >= self.fittings() || pipe.second >= self.fittings() {
+            return Err(Refusal::NotLanded);
+        }
+        if pipe.first == pipe.second {
+            return Err(Refusal::SameFitting);
+        }
+        if pipe.length == 0 || pipe.length > LONGEST_PIPE {
+            return Err(Refusal::Length);
+        }
+        if self.pipes.len() == MOST_PIPES {
+            return Err(Refusal::FullPipes);
+        }
+        Ok(())
+    }
+
+    /// The cases, by the two degrees before the pipe.
+    fn land_by_case(&mut self, pipe: &Pipe) -> Result<(), Refusal> {
+        use Standing::{Coupling, Free, Settled};
+        let (first, second) = (pipe.first, pipe.second);
+        match (self.standing(first), self.standing(second)) {
+            (Settled, Settled) => self.start_run(first, second),
+            (Free, Settled) => self.extend(first, second),
+            (Settled, Free) => self.extend(second, first),
+            (Free, Free) => self.merge(first, second)?,
+            (Coupling, Free) => {
+                self.split(first);
+                self.extend(second, first);
+            }
+            (Free, Coupling) => {
+                self.split(second);
+                self.extend(first, second);
+            }
+            (Coupling, Settled) => {
+                self.split(first);
+                self.start_run(first, second);
+            }
+            (Settled, Coupling) => {
+                self.split(second);
+                self.start_run(first, second);
+            }
+            (Coupling, Coupling) => {
+                self.split(first);
+                self.split(second);
+                self.start_run(first, second);
+            }
+        }
+        Ok(())
+    }
+
+    fn standing(&self, fitting: Fitting) -> Standing {
+        match self.degree(fitting) {
+            1 => Standing::Free,
+            2 => Standing::Coupling,
+            _ => Standing::Settled,
+        }
+    }
+
+    /// The number of the pipe that is being landed.
+    fn next_pipe(&self) -> PipeNumber {
+        self.pipes.len()
+    }
+
+    fn start_run(&mut self, first: Fitting, second: Fitting) {
+        let run = Run::of_one_pipe(self.next_pipe(), first, second);
+        self.runs.push(run);
+    }
+
+    /// The run of a free fitting goes on to another fitting.
+    fn extend(&mut self, free: Fitting, other: Fitting) {
+        let pipe = self.next_pipe();
+        let run = self.take_run_ending_at(free);
+        let (side, next) = if run.couplings().is_empty() {
+            (Side::High, self.birth())
+        } else {
+            self.next_tag(&run, free)
+        };
+        self.hang(side, next, &[free]);
+        let path = run.leading_to(free).lengthened(pipe, other);
+        self.keep(path, side);
+    }
+
+    /// The runs of two free fittings become one, unless it is the same run.
+    fn merge(&mut self, first: Fitting, second: Fitting) -> Result<(), Refusal> {
+        if self.run_ending_at(first) == self.run_ending_at(second) {
+            return Err(Refusal::Ring);
+        }
+        let one = self.take_run_ending_at(first);
+        let two = self.take_run_ending_at(second);
+        if two.couplings().len() > one.couplings().len() {
+            self.merge_onto(two, second, one, first);
+        } else {
+            self.merge_onto(one, first, two, second);
+        }
+        Ok(())
+    }
+
+    /// Merges two runs; the first given keeps its tags. Where neither has couplings, it is the run
+    /// of the first named fitting, and the base goes where its next tag would.
+    fn merge_onto(&mut self, keeper: Run, joint: Fitting, other: Run, other_joint: Fitting) {
+        let pipe = self.next_pipe();
+        let (side, next) = if keeper.couplings().is_empty() {
+            (Side::High, self.birth())
+        } else {
+            self.next_tag(&keeper, joint)
+        };
+        let onward = other.leading_from(other_joint);
+        let outwards = [&[joint, other_joint], onward.couplings()].concat();
+        self.hang(side, next, &outwards);
+        self.keep(keeper.leading_to(joint).joined(pipe, onward), side);
+    }
+
+    /// Splits a coupling's run there; the pieces keep their tags and sides.
+    fn split(&mut self, coupling: Fitting) {
+        let mut runs = self.runs.iter();
+        let place = runs.position(|run| run.couplings().contains(&coupling));
+        let place = place.expect("a coupling lies on a run");
+        let pieces = self.runs.swap_remove(place).split_at(coupling);
+        let (low, high) = pieces.expect("the run was found by this coupling");
+        self.tags[coupling] = 0;
+        self.runs.extend([low, high]);
+    }
+
+    /// The base of the next birth.
+    fn birth(&mut self) -> Tag {
+        self.births += 1;
+        BIRTH_STEP * self.births
+    }
+
+    /// At which side of a run with couplings an end lies, and the tag that is next there.
+    fn next_tag(&self, run: &Run, end: Fitting) -> (Side, Tag) {
+        let tags = run.couplings().iter().map(|&coupling| self.tags[coupling]);
+        if run.high() == end {
+            (Side::High, tags.max().expect("the run has couplings") + 1)
+        } else {
+            (Side::Low, tags.min().expect("the run has couplings") - 1)
+        }
+    }
+
+    /// Hangs tags outwards from one side of a run, starting with `next`.
+    fn hang(&mut self, side: Side, next: Tag, outwards: &[Fitting]) {
+        for (&fitting, step) in outwards.iter().zip(0..) {
+            self.tags[fitting] = match side {
+                Side::High => next + step,
+                Side::Low => next - step,
+            };
+        }
+    }
+
+    /// Keeps a path whose last fitting is the end on the side given.
+    fn keep(&mut self, path: Run, side: Side) {
+        self.runs.push(match side {
+            Side::High => path,
+            Side::Low => path.reversed(),
+        });
+    }
+
+    fn run_ending_at(&self, free: Fitting) -> usize {
+        let place = self.runs.iter().position(|run| run.ends_at(free));
+        place.expect("a free fitting ends a run")
+    }
+
+    fn take_run_ending_at(&mut self, free: Fitting) -> Run {
+        let place = self.run_ending_at(free);
+        self.runs.swap_remove(place)
+    }
+}
+
+/// The fittings whose tags before and after are both not 0 and differ.
+fn re_hangings(before: &[Tag], after: &[Tag]) -> u32 {
+    let pairs = before.iter().zip(after);
+    let changed = pairs.filter(|&(&old, &new)| old != 0 && new != 0 && old != new);
+    changed.map(|_| 1).sum()
+}

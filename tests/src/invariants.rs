@@ -1,0 +1,304 @@
+//! What demand 3 and document 01 say of every house, on random ones.
+
+use std::collections::BTreeSet;
+
+use crate::gen::random::Random;
+use crate::gen::{self, layout::Layout, records, shapes};
+use crate::house::{House, Tag};
+use crate::list::{self, Record};
+use crate::queries;
+use crate::refusal::Refusal;
+
+/// A house that is landed record by record, and its re-hangings as counted from outside.
+#[derive(Default)]
+struct Watched {
+    house: House,
+    re_hung: usize,
+}
+
+impl Watched {
+    fn land(&mut self, record: Record) -> Result<(), Refusal> {
+        let before = self.house.clone();
+        let result = list::land_record(&mut self.house, record);
+        if result.is_ok() {
+            let changed = re_hung_fittings(before.tags(), self.house.tags());
+            self.re_hung += changed.len();
+        } else {
+            assert_eq!(before, self.house, "a refused record changes nothing");
+        }
+        result
+    }
+
+    fn check(&self) {
+        assert_eq!(self.house.re_hung() as usize, self.re_hung);
+        check_re_hung_bound(&self.house);
+        check_tags(&self.house);
+        check_lengths(&self.house);
+        check_reaches(&self.house);
+        check_finds(&self.house);
+    }
+}
+
+fn re_hung_fittings(before: &[Tag], after: &[Tag]) -> Vec<usize> {
+    let both_worn = |&fitting: &usize| before[fitting] != 0 && after[fitting] != 0;
+    let changed = |&fitting: &usize| before[fitting] != after[fitting];
+    (0..before.len())
+        .filter(both_worn)
+        .filter(changed)
+        .collect()
+}
+
+/// At most n times the whole part of the base-2 logarithm of n.
+fn check_re_hung_bound(house: &House) {
+    let pipes = house.pipes().len();
+    let bound = pipes.checked_ilog2().map_or(0, |log| pipes * log as usize);
+    assert!(house.re_hung() as usize <= bound);
+}
+
+/// A coupling wears a tag and a junction none; tags are worn once and rise by 1 from low to high.
+fn check_tags(house: &House) {
+    for (fitting, &tag) in house.tags().iter().enumerate() {
+        assert_eq!(tag != 0, house.degree(fitting) == 2, "tag of {fitting}");
+    }
+    let worn: Vec<Tag> = house
+        .tags()
+        .iter()
+        .copied()
+        .filter(|&tag| tag != 0)
+        .collect();
+    assert_eq!(worn.iter().collect::<BTreeSet<_>>().len(), worn.len());
+    for run in house.runs() {
+        for pair in run.couplings().windows(2) {
+            assert_eq!(house.tags()[pair[0]] + 1, house.tags()[pair[1]]);
+        }
+    }
+}
+
+/// The run lengths add up to the lengths of the pipes, and every pipe lies on exactly one run.
+fn check_lengths(house: &House) {
+    let on_sheet: u32 = queries::sheet(house).iter().map(|line| line[4]).sum();
+    let of_pipes: u32 = house.pipes().iter().map(|pipe| pipe.length).sum();
+    assert_eq!(on_sheet, of_pipes);
+    let mut on_runs: Vec<usize> = house
+        .runs()
+        .iter()
+        .flat_map(|run| run.pipes().to_vec())
+        .collect();
+    on_runs.sort_unstable();
+    assert_eq!(on_runs, (0..house.pipes().len()).collect::<Vec<_>>());
+}
+
+/// The two reaches of a coupling add up to the length of its run, and rise along it.
+fn check_reaches(house: &House) {
+    for run in house.runs() {
+        let mut below = 0;
+        for &coupling in run.couplings() {
+            let (low, high) = queries::reach(house, coupling).expect("a coupling");
+            assert_eq!(low + high, run.length(house.pipes()));
+            assert!(low > below && high > 0);
+            below = low;
+        }
+    }
+    for fitting in 0..house.fittings() {
+        let refused = queries::reach(house, fitting) == Err(Refusal::NoCoupling);
+        assert_eq!(refused, house.degree(fitting) != 2);
+    }
+    assert_eq!(
+        queries::reach(house, house.fittings()),
+        Err(Refusal::NotLanded)
+    );
+}
+
+/// Each tag in use finds its own run, and the tags beside a run's own find another run or none.
+fn check_finds(house: &House) {
+    for run in house.runs() {
+        for &coupling in run.couplings() {
+            let tag = house.tags()[coupling];
+            assert_eq!(queries::find(house, tag), Ok(run.name()));
+            for beside in [tag - 1, tag + 1] {
+                let worn = house.tags().contains(&beside);
+                assert_eq!(queries::find(house, beside).is_ok(), worn);
+            }
+        }
+    }
+    assert_eq!(queries::find(house, 0), Err(Refusal::NoCoupling));
+}
+
+/// The query itself compares the ways over pipes and over runs; here, what a distance has to be.
+fn check_distances(house: &House) {
+    let all: Vec<Vec<Option<u32>>> = (0..house.fittings())
+        .map(|from| distances_from(house, from))
+        .collect();
+    for (from, row) in all.iter().enumerate() {
+        assert_eq!(row[from], Some(0));
+        for (to, &distance) in row.iter().enumerate() {
+            assert_eq!(distance, all[to][from]);
+        }
+        for pipe in house.pipes() {
+            let (one, other) = (row[pipe.first], row[pipe.second]);
+            assert_eq!(one.is_some(), other.is_some());
+            assert!(one <= other.map(|length| length + pipe.length));
+            assert!(other <= one.map(|length| length + pipe.length));
+        }
+    }
+}
+
+fn distances_from(house: &House, from: usize) -> Vec<Option<u32>> {
+    let targets = 0..house.fittings();
+    let distances = targets.map(|to| queries::distance(house, from, to).expect("both landed"));
+    distances.collect()
+}
+
+#[test]
+fn small_houses_after_every_record() {
+    for index in 0..1_500 {
+        let random = &mut Random::of_list(101, index);
+        let size = random.between(2, 24);
+        let layout = shapes::any(random, size).landable();
+        let mut watched = Watched::default();
+        for record in records::of(random, &layout) {
+            assert_eq!(watched.land(record), Ok(()));
+            watched.check();
+        }
+    }
+}
+
+#[test]
+fn distances_of_small_houses() {
+    for index in 0..800 {
+        let random = &mut Random::of_list(202, index);
+        let size = random.between(2, 16);
+        let layout = shapes::any(random, size).landable();
+        let list = list::write(&records::of(random, &layout));
+        check_distances(&list::grow(&list).0);
+    }
+}
+
+/// A series in the sense of demand 3: refused records and stopped lists included.
+#[test]
+fn series_of_lists_on_one_register() {
+    for index in 0..400 {
+        let random = &mut Random::of_list(303, index);
+        let mut watched = Watched::default();
+        for _ in 0..random.between(1, 4) {
+            land_until_refused(random, &mut watched);
+            watched.check();
+        }
+        check_distances(&watched.house);
+    }
+}
+
+/// Records drawn from all fittings landed so far and some that are not.
+fn land_until_refused(random: &mut Random, watched: &mut Watched) {
+    for _ in 0..random.below(30) {
+        let fittings = watched.house.fittings();
+        let record = if fittings < 3 || random.one_in(4) {
+            Record::Fitting
+        } else {
+            let not_landed = usize::from(random.one_in(40));
+            let (first, second) = random.pair_below(fittings + not_landed);
+            records::pipe(first, second, 1 + random.u32() % 500)
+        };
+        if watched.land(record).is_err() {
+            return;
+        }
+    }
+}
+
+/// Refusal 24 comes exactly where the pipe would leave a ring of couplings only.
+#[test]
+fn rings_are_refused_and_nothing_else_is() {
+    let mut rings = 0;
+    for index in 0..3_000 {
+        let random = &mut Random::of_list(505, index);
+        let size = random.between(2, 12);
+        let layout = shapes::any(random, size).landable();
+        let mut house = list::grow(&list::write(&records::of(random, &layout))).0;
+        let (first, second) = random.pair_below(house.fittings());
+        let closes = closes_a_ring(&house, first, second);
+        let landed = list::land_record(&mut house, records::pipe(first, second, 1));
+        assert_eq!(landed == Err(Refusal::Ring), closes);
+        assert_eq!(landed.is_ok(), !closes);
+        rings += usize::from(closes);
+    }
+    assert!(rings > 50, "{rings}");
+}
+
+/// Whether all fittings joined with these two would have degree 2, if a pipe joined them.
+fn closes_a_ring(house: &House, first: usize, second: usize) -> bool {
+    let degree = |fitting| house.degree(fitting) + usize::from([first, second].contains(&fitting));
+    let joined = |fitting| {
+        let distance = |end| queries::distance(house, end, fitting).expect("both landed");
+        distance(first).or(distance(second)).is_some()
+    };
+    (0..house.fittings())
+        .filter(|&fitting| joined(fitting))
+        .all(|fitting| degree(fitting) == 2)
+}
+
+/// Landing list by list is landing all at once.
+#[test]
+fn a_list_landed_in_parts() {
+    for index in 0..300 {
+        let random = &mut Random::of_list(404, index);
+        let records = gen::whole(random);
+        let (before, after) = records.split_at(random.below(records.len() + 1));
+        let mut house = list::grow(&list::write(before)).0;
+        assert_eq!(list::land(&mut house, &list::write(after)), Ok(()));
+        assert_eq!(house, list::grow(&list::write(&records)).0);
+    }
+}
+
+#[test]
+fn a_full_line_of_merges_comes_near_the_bound() {
+    let layout = shapes::balanced_merges(&mut Random::new(1), 4_096);
+    let house = grown_in_order(&layout);
+    // Of 4,095 pipes; the bound is 4,095 times 11.
+    assert!(house.re_hung() > 10_000, "{}", house.re_hung());
+    check_re_hung_bound(&house);
+    check_tags(&house);
+    check_lengths(&house);
+}
+
+#[test]
+fn distances_of_full_houses() {
+    for shape in [shapes::grid, shapes::all_cases, shapes::comb, shapes::loops] {
+        let random = &mut Random::new(6);
+        let house = grown_in_order(&shape(random, 4_096).landable());
+        for _ in 0..10 {
+            let (from, to) = random.pair_below(house.fittings());
+            assert!(queries::distance(&house, from, to).is_ok());
+        }
+    }
+}
+
+#[test]
+fn the_longest_line() {
+    let house = grown_in_order(&shapes::line_in_any_order(&mut Random::new(2), 4_096));
+    let length = 4_095 * 100_000;
+    assert_eq!(queries::distance(&house, 4_095, 0), Ok(Some(length)));
+    assert_eq!(queries::sheet(&house), [[0, 0, 4_095, 4_094, length]]);
+}
+
+#[test]
+fn a_full_line_grown_downwards_keeps_its_tags_apart() {
+    let mut layout = Layout::default();
+    let mut low = layout.line(3)[0];
+    while layout.fittings < 4_096 {
+        low = layout.onward(low);
+    }
+    let house = grown_in_order(&layout);
+    let lowest = house.tags().iter().filter(|&&tag| tag != 0).min();
+    assert_eq!(lowest, Some(&(8_192 - 4_093)));
+    assert_eq!(house.re_hung(), 0);
+    check_tags(&house);
+}
+
+fn grown_in_order(layout: &Layout) -> House {
+    let mut records = vec![Record::Fitting; layout.fittings];
+    let joins = layout.joins.iter();
+    records.extend(joins.map(|&(first, second)| records::pipe(first, second, 100_000)));
+    let (house, result) = list::grow(&list::write(&records));
+    assert_eq!(result, Ok(()));
+    house
+}

@@ -1,0 +1,25 @@
+//! A second implementation of document 01, for comparison.
+//!
+//! - [`house`] and [`run`]: fittings, pipes, runs and tags;
+//! - [`list`]: the list of records, read and written;
+//! - [`queries`]: find, reach, distance and sheet;
+//! - [`calls`]: the same as calls from C answer them;
+//! - [`print`]: what the printing program prints;
+//! - [`gen`]: lists of every kind, drawn from a seed;
+//! - [`child`] and [`tally`]: asking a binary, and counting outcomes.
+
+pub mod calls;
+pub mod child;
+pub mod gen;
+pub mod house;
+pub mod list;
+pub mod print;
+pub mod queries;
+pub mod refusal;
+pub mod run;
+pub mod tally;
+
+#[cfg(test)]
+mod invariants;
+#[cfg(test)]
+mod values;

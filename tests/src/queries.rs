@@ -1,0 +1,168 @@
+//! Find, reach, distance and sheet (document 01, "What may be called").
+
+use std::cmp::Reverse;
+use std::collections::BinaryHeap;
+
+use crate::house::{Fitting, House, Millimetres, PipeNumber, Tag};
+use crate::refusal::Refusal;
+use crate::run::{self, Run};
+
+/// Name, end with the lower number, other end, couplings, length.
+pub type Line = [u32; 5];
+
+/// The name of the run whose couplings include the tag.
+pub fn find(house: &House, tag: Tag) -> Result<PipeNumber, Refusal> {
+    let wears = |coupling: &Fitting| house.tags()[*coupling] == tag;
+    let runs = house.runs_afresh();
+    let run = runs.iter().find(|run| run.couplings().iter().any(wears));
+    run.map(Run::name).ok_or(Refusal::NoCoupling)
+}
+
+/// The lengths from a coupling to its run's low and high end.
+pub fn reach(house: &House, fitting: Fitting) -> Result<(Millimetres, Millimetres), Refusal> {
+    landed(house, fitting)?;
+    let run = house.run_through(fitting);
+    run.and_then(|run| run.reach(fitting, house.pipes()))
+        .ok_or(Refusal::NoCoupling)
+}
+
+/// The least length between two fittings, or nothing where they are not joined. It is worked out
+/// over the pipes and over the runs, and both must agree.
+pub fn distance(house: &House, from: Fitting, to: Fitting) -> Result<Option<Millimetres>, Refusal> {
+    landed(house, from)?;
+    landed(house, to)?;
+    let over_pipes = least_over_pipes(house, from)[to];
+    let over_runs = distance_over_runs(house, from, to);
+    assert_eq!(over_pipes, over_runs, "distance from {from} to {to}");
+    Ok(over_pipes)
+}
+
+/// The runs by rising name. The runs kept with their sides must be the runs that the pipes make.
+pub fn sheet(house: &House) -> Vec<Line> {
+    let runs = house.runs_afresh();
+    assert_eq!(sorted(house.runs().to_vec()), sorted(runs.clone()), "runs");
+    runs.iter().map(|run| line(house, run)).collect()
+}
+
+/// The sheet into a lent slice, the rest of it untouched; gives the number of runs.
+pub fn sheet_into(house: &House, lent: &mut [u32]) -> Result<usize, Refusal> {
+    let lines = sheet(house);
+    let numbers = lines.concat();
+    let room = lent.get_mut(..numbers.len()).ok_or(Refusal::TooShort)?;
+    room.copy_from_slice(&numbers);
+    Ok(lines.len())
+}
+
+fn landed(house: &House, fitting: Fitting) -> Result<(), Refusal> {
+    if fitting < house.fittings() {
+        Ok(())
+    } else {
+        Err(Refusal::NotLanded)
+    }
+}
+
+fn line(house: &House, run: &Run) -> Line {
+    [
+        number(run.name()),
+        number(run.low().min(run.high())),
+        number(run.low().max(run.high())),
+        number(run.couplings().len()),
+        run.length(house.pipes()),
+    ]
+}
+
+fn number(count: usize) -> u32 {
+    u32::try_from(count).expect("at most 4,096")
+}
+
+fn sorted(runs: Vec<Run>) -> Vec<Run> {
+    let mut runs: Vec<Run> = runs.into_iter().map(Run::without_sides).collect();
+    runs.sort();
+    runs
+}
+
+/// The least lengths over pipes from one fitting to every fitting, nearest first (Dijkstra).
+fn least_over_pipes(house: &House, from: Fitting) -> Vec<Option<Millimetres>> {
+    let pipes_at = run::pipes_at(house.fittings(), house.pipes());
+    let mut least = vec![None; house.fittings()];
+    let mut ahead = BinaryHeap::from([Reverse((0, from))]);
+    while let Some(Reverse((length, fitting))) = ahead.pop() {
+        if least[fitting].is_none() {
+            least[fitting] = Some(length);
+            let pipes = pipes_at[fitting].iter().map(|&pipe| house.pipes()[pipe]);
+            ahead.extend(pipes.map(|pipe| Reverse((length + pipe.length, pipe.far_end(fitting)))));
+        }
+    }
+    least
+}
+
+/// The least length of a way that uses whole runs, a coupling's two reaches, and the stretch
+/// between two couplings of one run.
+fn distance_over_runs(house: &House, from: Fitting, to: Fitting) -> Option<Millimetres> {
+    if from == to {
+        return Some(0);
+    }
+    let least = least_over_runs(house, &doors(house, from));
+    let arrivals = doors(house, to)
+        .into_iter()
+        .filter_map(|(junction, reach)| Some(least[junction]? + reach));
+    arrivals.chain(stretch(house, from, to)).min()
+}
+
+/// The junctions at which a way over the runs begins or ends, with the lengths to them: a
+/// coupling's two reaches, or the junction itself.
+fn doors(house: &House, fitting: Fitting) -> Vec<(Fitting, Millimetres)> {
+    let on_run = house.run_through(fitting);
+    on_run.map_or(vec![(fitting, 0)], |run| {
+        let reach = run.reach(fitting, house.pipes());
+        let (low, high) = reach.expect("the run was found by this coupling");
+        vec![(run.low(), low), (run.high(), high)]
+    })
+}
+
+/// The length between two couplings along one run, if it is one run.
+fn stretch(house: &House, from: Fitting, to: Fitting) -> Option<Millimetres> {
+    let run = house.run_through(from)?;
+    let (one, _) = run.reach(from, house.pipes())?;
+    let (other, _) = run.reach(to, house.pipes())?;
+    Some(one.abs_diff(other))
+}
+
+/// The least lengths over whole runs from any of the doors to every junction, by going over all
+/// runs until nothing gets shorter (Bellman and Ford).
+fn least_over_runs(house: &House, doors: &[(Fitting, Millimetres)]) -> Vec<Option<Millimetres>> {
+    let mut least = vec![None; house.fittings()];
+    for &(junction, reach) in doors {
+        shorten(&mut least[junction], Some(reach));
+    }
+    let lengths: Vec<Millimetres> = house
+        .runs()
+        .iter()
+        .map(|run| run.length(house.pipes()))
+        .collect();
+    let mut shorter = true;
+    while shorter {
+        shorter = false;
+        for (run, length) in house.runs().iter().zip(&lengths) {
+            let (low, high) = (run.low(), run.high());
+            let upwards = least[low].map(|there| there + length);
+            shorter |= shorten(&mut least[high], upwards);
+            let downwards = least[high].map(|there| there + length);
+            shorter |= shorten(&mut least[low], downwards);
+        }
+    }
+    least
+}
+
+/// Takes over a shorter length; whether it was shorter.
+fn shorten(least: &mut Option<Millimetres>, length: Option<Millimetres>) -> bool {
+    let shorter = match (*least, length) {
+        (Some(old), Some(new)) => new < old,
+        (None, Some(_)) => true,
+        (_, None) => false,
+    };
+    if shorter {
+        *least = length;
+    }
+    shorter
+}

@@ -1,0 +1,80 @@
+//! Counting lists by what became of them.
+
+use std::collections::BTreeMap;
+use std::fmt;
+
+use crate::list::Stop;
+use crate::print::Outcome;
+use crate::refusal::Refusal;
+
+/// What became of a list, as far as it is counted.
+#[derive(Clone, Copy, Debug, PartialEq, Eq, PartialOrd, Ord)]
+enum Kind {
+    Whole,
+    TooLong,
+    InHeader(Refusal),
+    InRecord(Refusal),
+}
+
+#[derive(Debug, Default)]
+pub struct Tally {
+    counts: BTreeMap<Kind, usize>,
+    /// Pipes and fittings of the house with the most pipes.
+    largest: (usize, usize),
+    most_re_hung: u32,
+}
+
+impl Tally {
+    pub fn count(&mut self, outcome: &Outcome) {
+        *self.counts.entry(kind(outcome)).or_default() += 1;
+        if let Outcome::Grown(house, _) = outcome {
+            let size = (house.pipes().len(), house.fittings());
+            self.largest = self.largest.max(size);
+            self.most_re_hung = self.most_re_hung.max(house.re_hung());
+        }
+    }
+
+    pub fn add(&mut self, other: Tally) {
+        for (kind, count) in other.counts {
+            *self.counts.entry(kind).or_default() += count;
+        }
+        self.largest = self.largest.max(other.largest);
+        self.most_re_hung = self.most_re_hung.max(other.most_re_hung);
+    }
+
+    pub fn lists(&self) -> usize {
+        self.counts.values().sum()
+    }
+}
+
+fn kind(outcome: &Outcome) -> Kind {
+    match outcome {
+        Outcome::TooLong => Kind::TooLong,
+        Outcome::Grown(_, Ok(())) => Kind::Whole,
+        Outcome::Grown(_, Err(Stop::Header(refusal))) => Kind::InHeader(*refusal),
+        Outcome::Grown(_, Err(Stop::Record(_, refusal))) => Kind::InRecord(*refusal),
+    }
+}
+
+impl fmt::Display for Kind {
+    fn fmt(&self, f: &mut fmt::Formatter) -> fmt::Result {
+        match self {
+            Kind::Whole => write!(f, "whole"),
+            Kind::TooLong => write!(f, "too long"),
+            Kind::InHeader(refusal) => write!(f, "header {}", refusal.number()),
+            Kind::InRecord(refusal) => write!(f, "record {}", refusal.number()),
+        }
+    }
+}
+
+/// One line.
+impl fmt::Display for Tally {
+    fn fmt(&self, f: &mut fmt::Formatter) -> fmt::Result {
+        for (kind, count) in &self.counts {
+            write!(f, "{kind}: {count}, ")?;
+        }
+        let (pipes, fittings) = self.largest;
+        write!(f, "largest house: {fittings} fittings {pipes} pipes, ")?;
+        write!(f, "most re-hung: {}", self.most_re_hung)
+    }
+}

@@ -1,0 +1,217 @@
+//! Document 01's "Values to hold", and the faults that it names as near at hand.
+
+use crate::gen::records;
+use crate::house::{House, MOST_FITTINGS, MOST_PIPES};
+use crate::list::{self, Record, Stop};
+use crate::print::Outcome;
+use crate::queries;
+use crate::refusal::Refusal;
+
+/// A list of so many fittings and then these pipes.
+pub fn pipes(fittings: usize, pipes: &[(usize, usize, u32)]) -> Vec<u8> {
+    let mut records = vec![Record::Fitting; fittings];
+    let pipes = pipes.iter();
+    records.extend(pipes.map(|&(first, second, length)| records::pipe(first, second, length)));
+    list::write(&records)
+}
+
+/// The example of "The printing program".
+pub fn listing() -> Vec<u8> {
+    pipes(
+        7,
+        &[
+            (0, 1, 1000),
+            (1, 2, 2000),
+            (3, 4, 500),
+            (4, 5, 700),
+            (2, 3, 300),
+            (3, 6, 900),
+        ],
+    )
+}
+
+fn printed(list: &[u8]) -> String {
+    Outcome::of(list).to_string()
+}
+
+fn grown(list: &[u8]) -> House {
+    let (house, result) = list::grow(list);
+    assert_eq!(result, Ok(()));
+    house
+}
+
+/// The house of these pipes, each 1 mm long.
+fn joined(fittings: usize, joins: &[(usize, usize)]) -> House {
+    let with_length: Vec<_> = joins.iter().map(|&(a, b)| (a, b, 1)).collect();
+    grown(&pipes(fittings, &with_length))
+}
+
+fn stop_of(list: &[u8]) -> Option<Refusal> {
+    list::grow(list).1.err().map(Stop::refusal)
+}
+
+#[test]
+fn the_listing() {
+    assert_eq!(
+        printed(&listing()),
+        "7 6 3 1\n0 0 3 2 3300\n2 3 5 1 1200\n5 3 6 0 900\n"
+    );
+}
+
+#[test]
+fn the_tags_of_the_listing() {
+    let house = grown(&listing());
+    assert_eq!(house.tags(), [0, 8192, 8193, 0, 8195, 0, 0]);
+    assert_eq!(queries::find(&house, 8192), Ok(0));
+    assert_eq!(queries::find(&house, 8195), Ok(2));
+    assert_eq!(queries::find(&house, 8194), Err(Refusal::NoCoupling));
+}
+
+#[test]
+fn header_alone() {
+    assert_eq!(printed(b"PNL\x01\x00"), "0 0 0 0\n");
+}
+
+#[test]
+fn two_pipes_on_two_fittings() {
+    let list = pipes(2, &[(0, 1, 10), (1, 0, 20)]);
+    assert_eq!(printed(&list), "2 1 1 0\n0 0 1 0 10\nstopped 3 24\n");
+}
+
+#[test]
+fn a_loop() {
+    let list = pipes(
+        5,
+        &[(0, 3, 5), (0, 4, 5), (0, 1, 10), (1, 2, 20), (2, 0, 30)],
+    );
+    assert!(printed(&list).ends_with("\n2 0 0 2 60\n"));
+    assert_eq!(queries::distance(&grown(&list), 1, 2), Ok(Some(20)));
+}
+
+#[test]
+fn a_low_end_extended() {
+    let house = joined(7, &[(0, 1), (1, 2), (2, 3), (3, 4), (2, 5), (0, 6)]);
+    assert_eq!(house.tags()[0], 8191);
+}
+
+#[test]
+fn lengths_and_the_same_fitting() {
+    assert_eq!(stop_of(&pipes(2, &[(0, 1, 100_000)])), None);
+    assert_eq!(
+        stop_of(&pipes(2, &[(0, 1, 100_001)])),
+        Some(Refusal::Length)
+    );
+    assert_eq!(stop_of(&pipes(2, &[(0, 1, 0)])), Some(Refusal::Length));
+    assert_eq!(stop_of(&pipes(1, &[(0, 0, 1)])), Some(Refusal::SameFitting));
+}
+
+#[test]
+fn full_and_ring_together() {
+    // A hub with an arm for every pipe but one, and a line of one pipe apart from it.
+    let hub = 2;
+    let mut records = vec![Record::Fitting; MOST_FITTINGS];
+    records.push(records::pipe(0, 1, 1));
+    records.resize(MOST_FITTINGS + 3, records::pipe(hub, 3, 1));
+    records[MOST_FITTINGS + 2] = records::pipe(hub, 4, 1);
+    records.resize(MOST_FITTINGS + MOST_PIPES - 1, records::pipe(hub, 5, 1));
+    let ring = records::pipe(1, 0, 1);
+
+    let mut not_full = records.clone();
+    not_full.push(ring);
+    assert_eq!(stop_of(&list::write(&not_full)), Some(Refusal::Ring));
+
+    let mut full = records;
+    full.push(records::pipe(hub, 5, 1));
+    assert_eq!(stop_of(&list::write(&full)), None);
+    full.push(ring);
+    assert_eq!(stop_of(&list::write(&full)), Some(Refusal::FullPipes));
+}
+
+#[test]
+fn a_last_record_of_one_byte() {
+    let mut list = listing();
+    list.push(0x00);
+    assert!(printed(&list).ends_with("\nstopped 13 4\n"));
+}
+
+#[test]
+fn the_lowest_coupling_is_found() {
+    let house = joined(5, &[(0, 1), (1, 2), (2, 3), (3, 4)]);
+    let names = [8192, 8193, 8194].map(|tag| queries::find(&house, tag));
+    assert_eq!(names, [Ok(0); 3]);
+    for tag in [0, 8191, 8195, 16_384] {
+        assert_eq!(queries::find(&house, tag), Err(Refusal::NoCoupling));
+    }
+}
+
+#[test]
+fn a_reach_after_a_split() {
+    let line = [(0, 1, 1), (1, 2, 20), (2, 3, 300), (3, 4, 4000), (4, 5, 5)];
+    let mut tapped = line.to_vec();
+    tapped.push((2, 6, 7));
+    assert_eq!(queries::reach(&grown(&pipes(7, &line)), 3), Ok((321, 4005)));
+    assert_eq!(
+        queries::reach(&grown(&pipes(7, &tapped)), 3),
+        Ok((300, 4005))
+    );
+}
+
+#[test]
+fn lone_couplings_keep_their_sides() {
+    // Couplings 1 and 3 are left alone by the tap at 2, and each is extended at its free end.
+    let mut joins = vec![(0, 1), (1, 2), (2, 3), (3, 4), (2, 5)];
+    joins.extend([(0, 6), (6, 7), (4, 8)]);
+    let house = joined(9, &joins);
+    assert_eq!(house.tags(), [8191, 8192, 0, 8194, 8195, 0, 8190, 0, 0]);
+}
+
+#[test]
+fn two_couplings_of_one_run() {
+    let house = joined(6, &[(0, 1), (1, 2), (2, 3), (3, 4), (4, 5), (4, 1)]);
+    assert_eq!(house.tags(), [0, 0, 8193, 8194, 0, 0]);
+    let sheet = queries::sheet(&house);
+    assert_eq!(sheet[..2], [[0, 0, 1, 0, 1], [1, 1, 4, 2, 3]]);
+    assert_eq!(sheet[2..], [[4, 4, 5, 0, 1], [5, 1, 4, 0, 1]]);
+}
+
+#[test]
+fn a_free_end_joined_to_its_own_run() {
+    let house = joined(4, &[(0, 1), (1, 2), (2, 3), (3, 1)]);
+    assert_eq!(house.tags(), [0, 0, 8193, 8194]);
+    assert_eq!(queries::sheet(&house), [[0, 0, 1, 0, 1], [1, 1, 1, 2, 3]]);
+    // A piece without couplings has no sides: its extension is a birth.
+    let house = joined(3, &[(0, 1), (1, 2), (1, 2)]);
+    assert_eq!(house.tags(), [0, 0, 16_384]);
+    assert_eq!(queries::sheet(&house), [[0, 0, 1, 0, 1], [1, 1, 1, 1, 2]]);
+}
+
+#[test]
+fn merging_keeps_the_tags_of_more_couplings() {
+    // Two couplings against one, the longer run's joint named second and at its low end.
+    let joins = [(4, 5), (5, 6), (0, 1), (1, 2), (2, 3), (6, 0)];
+    let house = joined(7, &joins);
+    let tags = [16_383, 16_384, 16_385, 0, 0, 16_381, 16_382];
+    assert_eq!(house.tags(), tags);
+    assert_eq!(house.re_hung(), 1);
+    assert_eq!(queries::reach(&house, 5), Ok((1, 5)));
+}
+
+#[test]
+fn merging_without_couplings_is_a_birth() {
+    let house = joined(4, &[(0, 1), (2, 3), (3, 0)]);
+    assert_eq!(house.tags(), [8193, 0, 0, 8192]);
+    assert_eq!((house.births(), house.re_hung()), (1, 0));
+}
+
+#[test]
+fn a_lent_sheet_too_short_stays_untouched() {
+    let house = grown(&listing());
+    let mut lent = [77; 16];
+    assert_eq!(
+        queries::sheet_into(&house, &mut lent[..14]),
+        Err(Refusal::TooShort)
+    );
+    assert_eq!(lent, [77; 16]);
+    assert_eq!(queries::sheet_into(&house, &mut lent), Ok(3));
+    assert_eq!(lent[10..], [5, 3, 6, 0, 900, 77]);
+}
