@@ -1,14 +1,13 @@
 -- The refusals of an edge, in their order, and the two ways out of an insertion.
 use mathlib.Core.Path.{_≡_, refl, sym, ap, _∙_, subst}
-use mathlib.Core.Logic.{⊎-elim}
-use mathlib.Core.Bool.{Bool, true, false, not, _&&_, _||_}
+use mathlib.Core.Bool.{Bool, true, false, _||_}
 use mathlib.Core.List.{List}
 use mathlib.Core.Option.{Option, none, some}
-use Prim.Native.Nat.{ℕ, zero, suc, _<_, _≤_}
+use Prim.Native.Nat.{ℕ, _<_, _≤_}
 use native.Mathlib.Omega.{arith}
 use native.Mathlib.Decide.{decLe, decLt}
 use borrow.Author.Tests.{eq-eqb, ne-eqb, lt-ltb, le-ltb, le-leb, lt-leb}
-use lib.Dec.{T, eqb, leb, ltb}
+use lib.Dec.{eqb, ltb}
 use lib.ListN.{getD, set}
 use Rattle.model.specs.Basics.{if_then_else_, maxEdges, maxLength}
 use Rattle.model.specs.Graph.{Edge}
@@ -31,10 +30,22 @@ module _ (d s ends l t d′ s′ t′ : List ℕ) (c : Counts) (a b len da db bl
   unfolding insertIn
   insert-ring y =
       let q = place-keeps k d ends s t (c .blocks) a b (c .edges) (c .edges) (ap (λ (x : Placed). x .ring) (sym p) ∙ y) in
-      rw (← i, ← j, ← g, ← p, y, ap (λ (x : Placed). x .degrees) p, ap (λ (x : Placed). x .sides) p, ap (λ (x : Placed). x .labels) p, q .0, q .1 .0, q .1 .1)
+      rw (
+        ← i,
+        ← j,
+        ← g,
+        ← p,
+        y,
+        ap (λ (x : Placed). x .degrees) p,
+        ap (λ (x : Placed). x .sides) p,
+        ap (λ (x : Placed). x .labels) p,
+        q .0,
+        q .1 .0,
+        q .1 .1,
+      )
 
-  pub insert-done : (ends′ l′ : List ℕ) (edges n : ℕ) → ring ≡ false → ends′ ≡ setPair ends (c .edges) a b → l′ ≡ set l (c .edges) len
-      → edges ≡ more16 (c .edges) → n ≡ sum32 (c .relabellings) m
+  pub insert-done : (ends′ l′ : List ℕ) (edges n : ℕ) → ring ≡ false → ends′ ≡ setPair ends (c .edges) a b
+      → l′ ≡ set l (c .edges) len → edges ≡ more16 (c .edges) → n ≡ sum32 (c .relabellings) m
       → landingIn (tables d′ s′ ends′ l′ t′) (done (counts (c .vertices) edges blocks n))
       ≡ insertIn (tables d s ends l t) c (record { first = a; second = b; len = len })
   unfolding insertIn
@@ -47,7 +58,8 @@ length-test n =
       | yes h ↦ sym (within-below _ _ _ h) ∙ rw (eq-eqb n 0 (omega arith))
       | no h ↦ elim (decLe n maxLength) [
         | yes g ↦ sym (within-yes _ _ _ (omega arith) g) ∙ rw (ne-eqb n 0 (λ e. h (omega arith)), le-ltb maxLength n g)
-        | no g ↦ sym (within-above _ _ _ (omega arith) (omega arith)) ∙ rw (ne-eqb n 0 (λ e. h (omega arith)), lt-ltb maxLength n (omega arith))
+        | no g ↦ sym (within-above _ _ _ (omega arith) (omega arith))
+            ∙ rw (ne-eqb n 0 (λ e. h (omega arith)), lt-ltb maxLength n (omega arith))
       ]
     ]
 
@@ -85,12 +97,14 @@ module _ (t : Tables) (c : Counts) (a b n : ℕ) where
   unfolding landIn
   check-length h g e l = rw (lt-ltb _ _ h, lt-ltb _ _ g, ne-eqb _ _ e, if-none (eqb n 0 || ltb maxLength n) n (l ∙ length-test n))
 
-  pub check-edges : (m : ℕ) → a < c .vertices → b < c .vertices → (a ≡ b → ⊥) → some m ≡ within 1 maxLength n → maxEdges ≤ c .edges
-      → landingIn t (refusedIn 23) ≡ landIn t c edge
+  pub check-edges : (m : ℕ) → a < c .vertices → b < c .vertices → (a ≡ b → ⊥)
+      → some m ≡ within 1 maxLength n → maxEdges ≤ c .edges → landingIn t (refusedIn 23) ≡ landIn t c edge
   unfolding landIn
-  check-edges m h g e l o = rw (lt-ltb _ _ h, lt-ltb _ _ g, ne-eqb _ _ e, if-some (eqb n 0 || ltb maxLength n) m n (l ∙ length-test n) .0, le-leb _ _ o)
+  check-edges m h g e l o =
+      rw (lt-ltb _ _ h, lt-ltb _ _ g, ne-eqb _ _ e, if-some (eqb n 0 || ltb maxLength n) m n (l ∙ length-test n) .0, le-leb _ _ o)
 
-  pub check-passed : (m : ℕ) → a < c .vertices → b < c .vertices → (a ≡ b → ⊥) → some m ≡ within 1 maxLength n → c .edges < maxEdges
+  pub check-passed : (m : ℕ) → a < c .vertices → b < c .vertices → (a ≡ b → ⊥)
+      → some m ≡ within 1 maxLength n → c .edges < maxEdges
       → insertIn t c (record { first = a; second = b; len = m }) ≡ landIn t c edge
   unfolding landIn
   check-passed m h g e l o =

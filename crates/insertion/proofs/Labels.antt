@@ -25,7 +25,8 @@ one-le true = omega arith
 one-le false = omega arith
 
 -- a vertex is relabelled at most once
-pub label-le : (s l s′ l′ : List ℕ) (v label inner outer n : ℕ) (up : Bool) → worn s′ l′ n ≡ labelIn s l v label inner outer up → n ≤ 1
+pub label-le : (s l s′ l′ : List ℕ) (v label inner outer n : ℕ) (up : Bool)
+    → worn s′ l′ n ≡ labelIn s l v label inner outer up → n ≤ 1
 unfolding labelIn
 label-le s l s′ l′ v label inner outer n up e = rw (ap (λ (w : Worn). w .count) e) (one-le (isRelabelled (getD l v 0) label))
 
@@ -48,8 +49,10 @@ module _ (degrees ends : List ℕ) (up : Bool) where
   relabel-stop (suc n) s l d v label k h = rw (ne-eqb _ _ h, add-zero)
 
   pub relabel-step : (n : ℕ) (s l s′ l′ : List ℕ) (d v label d′ v′ label′ k m : ℕ) → 0 < n → getD degrees v 0 ≡ 2
-      → d′ ≡ turnIn s d v → v′ ≡ farIn ends d′ v → label′ ≡ nextIn up label → worn s′ l′ m ≡ labelIn s l v label d d′ up
-      → after k (relabelIn degrees ends up n s l d v label) ≡ after (k + m) (relabelIn degrees ends up (n - 1) s′ l′ d′ v′ label′)
+      → d′ ≡ turnIn s d v → v′ ≡ farIn ends d′ v → label′ ≡ nextIn up label
+      → worn s′ l′ m ≡ labelIn s l v label d d′ up
+      → after k (relabelIn degrees ends up n s l d v label)
+      ≡ after (k + m) (relabelIn degrees ends up (n - 1) s′ l′ d′ v′ label′)
   unfolding relabelIn after
   relabel-step zero s l s′ l′ d v label d′ v′ label′ k m h e f g i j = absurd (not-suc-le-zero h)
   relabel-step (suc n) s l s′ l′ d v label d′ v′ label′ k m h e f g i j =
@@ -67,20 +70,27 @@ module _ (degrees ends : List ℕ) (up : Bool) where
       let c = turnIn s d v in
       let w = labelIn s l v label d c up in
       count-if (eqb (getD degrees v 0) 2) _ _ (suc n)
-      (omega (arith, one-le (isRelabelled (getD l v 0) label), count-le n (w .sides) (w .labels) c (farIn ends c v) (nextIn up label)))
+      (omega (
+        arith,
+        one-le (isRelabelled (getD l v 0) label),
+        count-le n (w .sides) (w .labels) c (farIn ends c v) (nextIn up label),
+      ))
       (omega arith)
 
-  pub relabel-le : (n : ℕ) (s l s′ l′ : List ℕ) (d v label m : ℕ) → worn s′ l′ m ≡ relabelIn degrees ends up n s l d v label → m ≤ n
+  pub relabel-le : (n : ℕ) (s l s′ l′ : List ℕ) (d v label m : ℕ)
+      → worn s′ l′ m ≡ relabelIn degrees ends up n s l d v label → m ≤ n
   relabel-le n s l s′ l′ d v label m e = rw (ap (λ (w : Worn). w .count) e) (count-le n s l d v label)
 
 -- the chain at the leaf x, whose one edge is d with the far end u: with regular vertices, and without
-module _ (degrees ends s l s′ l′ : List ℕ) (blocks x e d u m : ℕ) (a : d ≡ getD s (2 * x) 0) (b : u ≡ farIn ends d x) where
-  pub extend-on : (old label : ℕ) (up : Bool) → getD degrees u 0 ≡ 2 → up ≡ not (eqb (getD s (2 * u) 0) d) → old ≡ getD l u 0
-      → label ≡ nextIn up old → worn s′ l′ m ≡ labelIn s l x label d e up → worn s′ l′ blocks ≡ extendIn degrees ends s l blocks x e
+module _ (degrees ends s l s′ l′ : List ℕ) (blocks x e d u m : ℕ)
+    (a : (d ≡ getD s (2 * x) 0) × (u ≡ farIn ends d x)) where
+  pub extend-on : (old label : ℕ) (up : Bool) → getD degrees u 0 ≡ 2 → up ≡ not (eqb (getD s (2 * u) 0) d)
+      → old ≡ getD l u 0 → label ≡ nextIn up old → worn s′ l′ m ≡ labelIn s l x label d e up
+      → worn s′ l′ blocks ≡ extendIn degrees ends s l blocks x e
   unfolding extendIn extendAt
-  extend-on old label up h i j g k = rw (← a, ← b, eq-eqb _ _ h, ← i, ← j, ← g, ← k)
+  extend-on old label up h i j g k = rw (← a .0, ← a .1, eq-eqb _ _ h, ← i, ← j, ← g, ← k)
 
   pub extend-begun : (k label : ℕ) → (getD degrees u 0 ≡ 2 → ⊥) → k ≡ more16 blocks → label ≡ base k
       → worn s′ l′ m ≡ labelIn s l x label d e true → worn s′ l′ k ≡ extendIn degrees ends s l blocks x e
   unfolding extendIn extendAt
-  extend-begun k label h i g j = rw (← a, ← b, ne-eqb _ _ h, ← i, ← g, ← j)
+  extend-begun k label h i g j = rw (← a .0, ← a .1, ne-eqb _ _ h, ← i, ← g, ← j)

@@ -1,4 +1,4 @@
--- The five ways out of a merge. The walks stand at f and g after k steps; z is what the code answers where there is no ring.
+-- The five ways out of a merge. The walks stand at f and g after k steps; z is what the code answers.
 use mathlib.Core.Path.{_≡_}
 use mathlib.Core.Bool.{Bool, true, false}
 use mathlib.Core.List.{List}
@@ -10,16 +10,17 @@ use Rattle.tables.specs.Walks.{met, lockstepIn}
 use Rattle.insertion.specs.Labelling.{worn, joinIn, beginIn, merged, mergeAt, mergeIn}
 
 pub merge-met : (degrees ends s l : List ℕ) (blocks a b e n da ua db ub f g k : ℕ)
-    → da ≡ getD s (2 * a) 0 → ua ≡ farIn ends da a → db ≡ getD s (2 * b) 0 → ub ≡ farIn ends db b
+    → (da ≡ getD s (2 * a) 0) × (ua ≡ farIn ends da a) → (db ≡ getD s (2 * b) 0) × (ub ≡ farIn ends db b)
     → met f g k ≡ lockstepIn degrees s ends n da ua db ub
     → mergeAt degrees ends s l blocks a b e n da db (met f g k) ≡ mergeIn degrees ends s l blocks a b e n
 unfolding mergeIn
-merge-met degrees ends s l blocks a b e n da ua db ub f g k h i j o m = rw (← h, ← i, ← j, ← o, ← m)
+merge-met degrees ends s l blocks a b e n da ua db ub f g k h i m = rw (← h .0, ← h .1, ← i .0, ← i .1, ← m)
 
 module _ (degrees ends s l : List ℕ) (blocks a b e n da db f g k : ℕ) where
-  pub merge-ring : f ≡ b → merged true s l blocks 0 ≡ mergeAt degrees ends s l blocks a b e n da db (met f g k)
+  pub merge-ring : (ring : Bool) (blocks′ m : ℕ) → f ≡ b → (ring ≡ true) × ((blocks′ ≡ blocks) × (m ≡ 0))
+      → merged ring s l blocks′ m ≡ mergeAt degrees ends s l blocks a b e n da db (met f g k)
   unfolding mergeAt
-  merge-ring h = rw (eq-eqb _ _ h)
+  merge-ring ring blocks′ m h z = rw (z .0, z .1 .0, z .1 .1, eq-eqb _ _ h)
 
   module _ (s′ l′ : List ℕ) (ring : Bool) (blocks′ m m′ : ℕ) where
     pub merge-second : (f ≡ b → ⊥) → getD degrees g 0 ≡ 2 → worn s′ l′ m ≡ joinIn degrees ends s l b a e n
@@ -40,8 +41,9 @@ module _ (degrees ends s l : List ℕ) (blocks a b e n da db f g k : ℕ) where
     unfolding mergeAt
     merge-tie h i o q j z = rw (z .0, z .1 .0, z .1 .1, ne-eqb _ _ h, ne-eqb _ _ i, ne-eqb _ _ o, ne-eqb _ _ q, ← j)
 
-    pub merge-begun : (c : ℕ) → (f ≡ b → ⊥) → (getD degrees g 0 ≡ 2 → ⊥) → (getD degrees f 0 ≡ 2 → ⊥) → k ≡ 0 → c ≡ more16 blocks
-        → worn s′ l′ m ≡ beginIn s l a da b db e c → (ring ≡ false) × ((blocks′ ≡ c) × (m′ ≡ 0))
+    pub merge-begun : (c : ℕ) → (f ≡ b → ⊥) → (getD degrees g 0 ≡ 2 → ⊥) → (getD degrees f 0 ≡ 2 → ⊥) → k ≡ 0
+        → c ≡ more16 blocks → worn s′ l′ m ≡ beginIn s l a da b db e c → (ring ≡ false) × ((blocks′ ≡ c) × (m′ ≡ 0))
         → merged ring s′ l′ blocks′ m′ ≡ mergeAt degrees ends s l blocks a b e n da db (met f g k)
     unfolding mergeAt
-    merge-begun c h i o q r j z = rw (z .0, z .1 .0, z .1 .1, ne-eqb _ _ h, ne-eqb _ _ i, ne-eqb _ _ o, eq-eqb _ _ q, ← r, ← j)
+    merge-begun c h i o q r j z =
+        rw (z .0, z .1 .0, z .1 .1, ne-eqb _ _ h, ne-eqb _ _ i, ne-eqb _ _ o, eq-eqb _ _ q, ← r, ← j)

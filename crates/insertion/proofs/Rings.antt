@@ -18,7 +18,8 @@ no-ring : (b : Bool) (p q : Merged) → p .ring ≡ false → q .ring ≡ false 
 no-ring true p q h g = h
 no-ring false p q h g = g
 
-ring-only : (b : Bool) (s l : List ℕ) (n m : ℕ) (q : Merged) → q .ring ≡ false → (if b then merged true s l n m else q) .ring ≡ true
+ring-only : (b : Bool) (s l : List ℕ) (n m : ℕ) (q : Merged) → q .ring ≡ false
+    → (if b then merged true s l n m else q) .ring ≡ true
     → ((if b then merged true s l n m else q) .sides ≡ s) × ((if b then merged true s l n m else q) .labels ≡ l)
 ring-only true s l n m q h g = (refl, refl)
 ring-only false s l n m q h g = false-true _ (sym h ∙ g)
@@ -28,7 +29,8 @@ merge-keeps : (d ends s l : List ℕ) (blocks a b e n da db : ℕ) (m : Met) →
 unfolding mergeAt
 merge-keeps d ends s l blocks a b e n da db m h =
     ring-only (eqb (m .first) b) s l blocks 0 _
-    (no-ring (eqb (getD d (m .second) 0) 2) _ _ refl (no-ring (eqb (getD d (m .first) 0) 2) _ _ refl (no-ring (eqb (m .steps) 0) _ _ refl refl))) h
+    (no-ring (eqb (getD d (m .second) 0) 2) _ _ refl
+    (no-ring (eqb (getD d (m .first) 0) 2) _ _ refl (no-ring (eqb (m .steps) 0) _ _ refl refl))) h
 
 abbrev Keeps : List ℕ → List ℕ → List ℕ → Placed → Type 0
 Keeps d s l p = p .ring ≡ true → (p .degrees ≡ d) × ((p .sides ≡ s) × (p .labels ≡ l))

@@ -3,7 +3,7 @@ ghost use mathlib.Core.Path.{_≡_};
 ghost use Rattle.model.specs.Cases.{isolated, leaf, regular, classOf, caseOf};
 ghost use Rattle.insertion.specs.Meaning.{classIn, caseIn};
 
-// Degrees 0, 1, 2, 3 and up.
+// Degrees 0, 1, 2, 3 and up. Document 01 calls a leaf free, a regular vertex a coupling, and every other one a junction.
 pub enum Class {
     Isolated,
     Leaf,
@@ -46,7 +46,7 @@ pub fn case_of(first: Class, second: Class) -> Case
     }
 }
 
-// The first end is singular and no leaf: an isolated one and a branch make the same cases.
+// The first end is a junction that is no leaf: an isolated one and a branch make the same cases.
 pub fn case_of_junction(second: Class) -> Case
     ensures { λ r. ⌜ caseIn r ≡ caseOf isolated (classIn second) ⌝ }
 {

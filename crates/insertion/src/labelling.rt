@@ -1,10 +1,10 @@
-// The labels along a chain, and its two directions. A vertex has its own label and its own low edge, and no chain is stored: that is
-// what rules out document 01's "faults near at hand".
-// - The greatest key smaller than a label: there is no dictionary of chains by their lowest label. A find looks for the label itself.
-// - A stored weight that a split makes false: `label_vertex` stores none. A reach adds up lengths.
-// - A lone regular vertex always extended upwards: `rises`.
-// - The second split in the chain as it was: `placing::open_both`.
-// - The leaf's own chain split: `placing::place_extend`.
+// Labels (document 01: tags) along a chain. A vertex has its own label and its own low edge, and no chain is stored: that rules out
+// document 01's "faults near at hand". Where each would have been:
+// - the greatest key smaller than a label: `label_vertex`. It keeps no dictionary of lowest labels; a find looks for the label itself.
+// - a stored weight that a split makes false: `label_vertex`. It stores none; a reach adds up lengths.
+// - a lone regular vertex always extended upwards: `rises`.
+// - the second split in the chain as it was: `placing::open_both`.
+// - the leaf's own chain split: `placing::place_extend`.
 use tables::access::at32;
 use tables::access::of16;
 use tables::access::of32;
@@ -75,8 +75,8 @@ pub fn label_vertex(
     if relabelled(old, label) { 1 } else { 0 }
 }
 
-// The regular vertices from the walker's on get the labels from `label` on. The answer counts the relabelled. Each turn is taken before
-// the vertex is labelled, since that changes its sides.
+// The regular vertices from the walker's on get the labels from `label` on. The answer counts the relabelled. Each step is found
+// before the vertex is labelled, since that changes its sides.
 pub fn relabel_chain(
     degrees: &[u16],
     ends: &[u16],
@@ -88,7 +88,8 @@ pub fn relabel_chain(
     fuel: u16,
 ) -> u32
     ensures { λ r. ⌜ worn (now (sides .exit)) (now (labels .exit)) r
-        ≡ relabelIn (now (degrees .entry)) (now (ends .entry)) up fuel (now (sides .entry)) (now (labels .entry)) (from .edge) (from .at) label ⌝ }
+        ≡ relabelIn (now (degrees .entry)) (now (ends .entry)) up fuel (now (sides .entry)) (now (labels .entry))
+        (from .edge) (from .at) label ⌝ }
 {
     let mut w = from;
     let mut next = label;
@@ -107,9 +108,8 @@ pub fn relabel_chain(
     count
 }
 
-// Whether the labels rise from the walker's vertex back over its edge: that edge is not the low one. A lone regular vertex that a split
-// left has both its sides still, so it is extended downwards at its low end like any other; always upwards, two chains would soon share
-// a label.
+// Whether labels rise from the walker's vertex back over its edge: that edge is not the low one. A lone regular vertex that a split
+// left has its sides still, so at its low end labels fall; were they to rise there too, two chains would soon share one.
 pub fn rises(sides: &[u16], w: Walker) -> bool
     ensures { λ r. ⌜ r ≡ not (eqb (getD (now (sides .entry)) (2 * w .at) 0) (w .edge)) ⌝ }
 {

@@ -20,19 +20,22 @@ ghost use Rattle.tables.specs.Steps.{tables, setPair};
 ghost use Rattle.insertion.specs.Insertion.{landingIn, insertIn, landIn};
 ghost use Rattle.insertion.specs.Meaning.{answerIn, checkedIn};
 
-// The counts after the edge, or its refusal.
+// "At most 4,096 of each": a 4,097th is refused.
+pub const MAX_EDGES: u16 = 4096;
+
+// The counts after the edge (document 01: the head), or its refusal.
 pub enum Inserted {
     Done(Counts),
     Refused(Refusal),
 }
 
-// The first of refusals 5, 6, 7 and 23 that holds of an edge, or the edge's length where none does.
+// The first of refusals 5, 6, 7 and 23 that holds of an edge (document 01: pipe), or its length where none does.
 pub enum Checked {
     Passed(Millimetres),
     Refused(Refusal),
 }
 
-// What the answer says of the edge is the same in all tables.
+// Document 01's order. These refusals look at no table, so the answer says what landing comes to in any.
 pub fn check_edge(counts: Counts, first: u16, second: u16, length: u32) -> Checked
     ensures { λ r. ⌜ ((t : Tables) → checkedIn r t (countsIn counts) first second
         ≡ landIn t (countsIn counts) (record { first = first; second = second; len = length })) ⌝ }
@@ -49,7 +52,7 @@ pub fn check_edge(counts: Counts, first: u16, second: u16, length: u32) -> Check
     let CheckedMillimetres::Is(millimetres) = Millimetres::new(length) else {
         return Checked::Refused(Refusal::Length);
     };
-    if 4096 <= counts.edges {
+    if MAX_EDGES <= counts.edges {
         return Checked::Refused(Refusal::TooManyEdges);
     }
     Checked::Passed(millimetres)
@@ -57,13 +60,14 @@ pub fn check_edge(counts: Counts, first: u16, second: u16, length: u32) -> Check
 
 // Edge e is written down, and nothing that another edge wrote is touched.
 pub fn record_edge(ends: &mut [u16], lengths: &mut [u32], e: u16, a: u16, b: u16, length: u32)
-    ensures { λ _. ⌜ (now (ends .exit) ≡ setPair (now (ends .entry)) e a b) × (now (lengths .exit) ≡ set (now (lengths .entry)) e length) ⌝ }
+    ensures { λ _. ⌜ (now (ends .exit) ≡ setPair (now (ends .entry)) e a b)
+        × (now (lengths .exit) ≡ set (now (lengths .entry)) e length) ⌝ }
 {
     put_pair(ends, e, a, b);
     put32(lengths, e as usize, length);
 }
 
-// An edge that passed these. A ring shows before anything is written; else every table and count gets the edge.
+// An edge that passed these. A ring, 24, shows before anything is written.
 pub fn insert_edge(
     degrees: &mut [u16],
     sides: &mut [u16],
@@ -75,26 +79,17 @@ pub fn insert_edge(
     second: Vertex,
     length: Millimetres,
 ) -> Inserted
-    ensures { λ r. ⌜ landingIn (tables (now (degrees .exit)) (now (sides .exit)) (now (ends .exit)) (now (lengths .exit)) (now (labels .exit))) (answerIn r)
-        ≡ insertIn (tables (now (degrees .entry)) (now (sides .entry)) (now (ends .entry)) (now (lengths .entry)) (now (labels .entry)))
+    ensures { λ r. ⌜ landingIn
+        (tables (now (degrees .exit)) (now (sides .exit)) (now (ends .exit)) (now (lengths .exit)) (now (labels .exit))) (answerIn r)
+        ≡ insertIn
+        (tables (now (degrees .entry)) (now (sides .entry)) (now (ends .entry)) (now (lengths .entry)) (now (labels .entry)))
         (countsIn counts) (record { first = first .0; second = second .0; len = length .0 }) ⌝ }
 {
     let a = first.0;
     let b = second.0;
     let e = counts.edges;
     let case = case_of(class_of(of16(degrees, a)), class_of(of16(degrees, b)));
-    let p = place_edge(
-        case,
-        degrees,
-        ends,
-        sides,
-        labels,
-        counts.blocks,
-        a,
-        b,
-        e,
-        e,
-    );
+    let p = place_edge(case, degrees, ends, sides, labels, counts.blocks, a, b, e);
     if p.ring {
         return Inserted::Refused(Refusal::Ring);
     }
@@ -107,6 +102,7 @@ pub fn insert_edge(
     })
 }
 
+// Every refusal in its order; a refused edge leaves the tables.
 pub fn land_edge(
     degrees: &mut [u16],
     sides: &mut [u16],
@@ -118,8 +114,10 @@ pub fn land_edge(
     second: u16,
     length: u32,
 ) -> Inserted
-    ensures { λ r. ⌜ landingIn (tables (now (degrees .exit)) (now (sides .exit)) (now (ends .exit)) (now (lengths .exit)) (now (labels .exit))) (answerIn r)
-        ≡ landIn (tables (now (degrees .entry)) (now (sides .entry)) (now (ends .entry)) (now (lengths .entry)) (now (labels .entry)))
+    ensures { λ r. ⌜ landingIn
+        (tables (now (degrees .exit)) (now (sides .exit)) (now (ends .exit)) (now (lengths .exit)) (now (labels .exit))) (answerIn r)
+        ≡ landIn
+        (tables (now (degrees .entry)) (now (sides .entry)) (now (ends .entry)) (now (lengths .entry)) (now (labels .entry)))
         (countsIn counts) (record { first = first; second = second; len = length }) ⌝ }
 {
     let checked = check_edge(counts, first, second, length);

@@ -1,4 +1,4 @@
-// The chains of two leaves become one.
+// The chains of two leaves become one (document 01: merging).
 use crate::labelling::base;
 use crate::labelling::label_vertex;
 use crate::labelling::relabel_chain;
@@ -10,10 +10,11 @@ use tables::steps::next_label;
 use tables::walks::leave_leaf;
 use tables::walks::walk_lockstep;
 ghost use mathlib.Core.Path.{_≡_};
-ghost use mathlib.Core.Bool.{false};
+ghost use mathlib.Core.Bool.{true, false};
 ghost use Rattle.insertion.specs.Labelling.{worn, joinIn, beginIn, merged, mergeIn};
 
-// What an edge makes of the counts: the number of blocks, and how many vertices it relabelled. A ring is refused.
+// What an edge makes of the counts: the number of blocks (document 01: births), and of the vertices that it relabelled (re-hung). A
+// ring is refused.
 pub struct Merging {
     pub ring: bool,
     pub blocks: u16,
@@ -21,7 +22,16 @@ pub struct Merging {
 }
 
 impl Merging {
-    // No ring.
+    pub fn ring(blocks: u16) -> Merging
+        ensures { λ r. ⌜ (r .ring ≡ true) × ((r .blocks ≡ blocks) × (r .relabellings ≡ 0)) ⌝ }
+    {
+        Merging {
+            ring: true,
+            blocks,
+            relabellings: 0,
+        }
+    }
+
     pub fn done(blocks: u16, relabellings: u32) -> Merging
         ensures { λ r. ⌜ (r .ring ≡ false) × ((r .blocks ≡ blocks) × (r .relabellings ≡ relabellings)) ⌝ }
     {
@@ -55,20 +65,12 @@ pub fn join_chains(
     let ly = next_label(lx, up);
     let n = label_vertex(sides, labels, x, lx, kept.edge, e, up);
     let m = label_vertex(sides, labels, y, ly, e, other.edge, up);
-    let rest = relabel_chain(
-        degrees,
-        ends,
-        sides,
-        labels,
-        other,
-        next_label(ly, up),
-        up,
-        fuel,
-    );
+    let lz = next_label(ly, up);
+    let rest = relabel_chain(degrees, ends, sides, labels, other, lz, up, fuel);
     n + (m + rest)
 }
 
-// Two chains without regular vertices become one with two, a and b, in block k. The answer is 1 where b is relabelled, as no leaf is.
+// Two chains without regular vertices become one with two, a and b, in block k. The answer is 1 where b is relabelled: no leaf is.
 pub fn begin_chain(
     sides: &mut [u16],
     labels: &mut [u32],
@@ -87,8 +89,8 @@ pub fn begin_chain(
     label_vertex(sides, labels, b, low + 1, e, db, true)
 }
 
-// The chains of the leaves a and b are merged over edge e. Walking in lockstep costs what the shorter chain has; it shows which one is
-// longer, a tie going to a's, and a ring, where a's walk ends at b.
+// The chains of the leaves a and b are merged over edge e. Walking in lockstep costs what the shorter one has. It shows which has more
+// regular vertices, and keeps its labels, a's on a tie; and it shows a ring, where a's walk ends at b.
 pub fn merge_chains(
     degrees: &[u16],
     ends: &[u16],
@@ -107,31 +109,21 @@ pub fn merge_chains(
     let second = leave_leaf(sides, ends, b);
     let met = walk_lockstep(degrees, sides, ends, first, second, fuel);
     if met.first == b {
-        return Merging {
-            ring: true,
-            blocks,
-            relabellings: 0,
-        };
+        return Merging::ring(blocks);
     }
     if of16(degrees, met.second) == 2 {
-        return Merging::done(
-            blocks,
-            join_chains(degrees, ends, sides, labels, b, a, e, fuel),
-        );
+        let n = join_chains(degrees, ends, sides, labels, b, a, e, fuel);
+        return Merging::done(blocks, n);
     }
     if of16(degrees, met.first) == 2 {
-        return Merging::done(
-            blocks,
-            join_chains(degrees, ends, sides, labels, a, b, e, fuel),
-        );
+        let n = join_chains(degrees, ends, sides, labels, a, b, e, fuel);
+        return Merging::done(blocks, n);
     }
     if met.steps == 0 {
         let k = one_more16(blocks);
         begin_chain(sides, labels, a, first.edge, b, second.edge, e, k);
         return Merging::done(k, 0);
     }
-    Merging::done(
-        blocks,
-        join_chains(degrees, ends, sides, labels, a, b, e, fuel),
-    )
+    let n = join_chains(degrees, ends, sides, labels, a, b, e, fuel);
+    Merging::done(blocks, n)
 }

@@ -14,7 +14,7 @@ ghost use Rattle.insertion.specs.Labelling.{worn};
 ghost use Rattle.insertion.specs.Insertion.{openIn, placed, openBothIn, placeExtend, placeMerge, placeIn};
 ghost use Rattle.insertion.specs.Meaning.{caseIn};
 
-// Vertex v is regular no more. The pieces of its chain keep their labels and sides: no other vertex is touched, and no chain looked up.
+// Vertex v is regular no more. The pieces of its chain keep their labels and sides: no other vertex is touched, no chain looked up.
 pub fn split_vertex(sides: &mut [u16], labels: &mut [u32], v: u16)
     ensures { λ _. ⌜ worn (now (sides .exit)) (now (labels .exit)) 0
         ≡ worn (setPair (now (sides .entry)) v 0 0) (set (now (labels .entry)) v 0) 0 ⌝ }
@@ -36,8 +36,8 @@ pub fn open_end(degrees: &[u16], sides: &mut [u16], labels: &mut [u32], v: u16, 
     }
 }
 
-// Both ends are opened, the first named first. The second is found in the tables that the first one left, so that two regular vertices
-// of one chain are split as they should be.
+// Both ends are opened, the first named first. The second is split in the tables that the first split left, so that two regular
+// vertices of one chain need no care.
 pub fn open_both(
     degrees: &mut [u16],
     sides: &mut [u16],
@@ -56,8 +56,8 @@ pub fn open_both(
     Merging::done(blocks, 0)
 }
 
-// The chain of the leaf x, which is a or b, goes on over edge e. The other end may split that very chain, which then is a loop: x is
-// labelled by the chain as it is after the split, with the new degrees.
+// The chain of the leaf x, which is a or b, goes on over edge e. The other end may have split that very chain, which e makes a loop:
+// x is labelled by what the split left, with the new degrees.
 pub fn place_extend(
     degrees: &mut [u16],
     ends: &[u16],
@@ -77,6 +77,7 @@ pub fn place_extend(
     Merging::done(k, 0)
 }
 
+// A ring leaves the degrees too.
 pub fn place_merge(
     degrees: &mut [u16],
     ends: &[u16],
@@ -99,6 +100,7 @@ pub fn place_merge(
     m
 }
 
+// By the case. e edges were landed before, which is fuel enough for every walk.
 pub fn place_edge(
     case: Case,
     degrees: &mut [u16],
@@ -109,16 +111,16 @@ pub fn place_edge(
     a: u16,
     b: u16,
     e: u16,
-    fuel: u16,
 ) -> Merging
     ensures { λ r. ⌜ placed (r .ring) (now (degrees .exit)) (now (sides .exit)) (now (labels .exit)) (r .blocks) (r .relabellings)
-        ≡ placeIn (caseIn case) (now (degrees .entry)) (now (ends .entry)) (now (sides .entry)) (now (labels .entry)) blocks a b e fuel ⌝ }
+        ≡ placeIn (caseIn case) (now (degrees .entry)) (now (ends .entry)) (now (sides .entry)) (now (labels .entry))
+        blocks a b e e ⌝ }
 {
     match case {
         Case::New => open_both(degrees, sides, labels, blocks, a, b, e),
         Case::ExtendFirst => place_extend(degrees, ends, sides, labels, blocks, a, a, b, e),
         Case::ExtendSecond => place_extend(degrees, ends, sides, labels, blocks, b, a, b, e),
-        Case::Merge => place_merge(degrees, ends, sides, labels, blocks, a, b, e, fuel),
+        Case::Merge => place_merge(degrees, ends, sides, labels, blocks, a, b, e, e),
         Case::SplitExtendFirst => place_extend(degrees, ends, sides, labels, blocks, a, a, b, e),
         Case::SplitExtendSecond => place_extend(degrees, ends, sides, labels, blocks, b, a, b, e),
         Case::SplitFirst => open_both(degrees, sides, labels, blocks, a, b, e),

@@ -27,7 +27,8 @@ clear-all xs₀ xs i l m e =
 pub same-no : {A : Type 0} (a b : A) → (a ≡ b → ⊥) → (false ≡ true → a ≡ b) × (a ≡ b → false ≡ true)
 same-no a b h = (λ p. absurd (subst T (sym p) tt), λ e. absurd (h e))
 
-pub same-yes : (xs ys : List ℕ) (i : ℕ) → length xs ≡ length ys → length xs ≤ i → ((k : ℕ) → k < i → getD xs k 0 ≡ getD ys k 0)
+pub same-yes : (xs ys : List ℕ) (i : ℕ) → length xs ≡ length ys → length xs ≤ i
+    → ((k : ℕ) → k < i → getD xs k 0 ≡ getD ys k 0)
     → (true ≡ true → xs ≡ ys) × (xs ≡ ys → true ≡ true)
 same-yes xs ys i n l all = (λ _. ext-getD 0 xs ys n (λ k h. all k (omega arith)), λ _. refl)
 

@@ -1,5 +1,5 @@
 // The lent tables: reads and writes that ask nothing of their callers, whole tables, single steps, and walks along a chain.
-// A contract is one equation with a definition of specs/, and no function has a `requires`.
+// Contracts are equations with the definitions of specs/, and no function has a `requires`.
 pub mod access;
 pub mod steps;
 pub mod walks;

@@ -57,7 +57,9 @@ pub fn raise_degree(degrees: &mut [u16], v: u16)
     ensures { λ _. ⌜ now (degrees .exit) ≡ raiseIn (now (degrees .entry)) v ⌝ }
 {
     let i = v as usize;
-    put16(degrees, i, one_more16(at16(degrees, i)));
+    let degree = at16(degrees, i);
+    let raised = one_more16(degree);
+    put16(degrees, i, raised);
 }
 
 pub fn raise_both(degrees: &mut [u16], v: u16, w: u16)

@@ -1,4 +1,4 @@
-// Walks along a chain, one regular vertex at a step.
+// Walks along a chain (document 01: run), one regular vertex at a step.
 use crate::access::of16;
 use crate::steps::far_end;
 use crate::steps::low_edge;
@@ -35,7 +35,8 @@ pub fn leave_leaf(sides: &[u16], ends: &[u16], v: u16) -> Walker
 
 // Over the regular vertex at which the walker stands.
 pub fn step_over(sides: &[u16], ends: &[u16], w: Walker) -> Walker
-    ensures { λ r. ⌜ (r .edge ≡ turnIn (now (sides .entry)) (w .edge) (w .at)) × (r .at ≡ farIn (now (ends .entry)) (r .edge) (w .at)) ⌝ }
+    ensures { λ r. ⌜ (r .edge ≡ turnIn (now (sides .entry)) (w .edge) (w .at))
+        × (r .at ≡ farIn (now (ends .entry)) (r .edge) (w .at)) ⌝ }
 {
     let d = turn_at(sides, w.edge, w.at);
     Walker {
@@ -55,7 +56,8 @@ pub fn walk_lockstep(
     fuel: u16,
 ) -> Meeting
     ensures { λ r. ⌜ met (r .first) (r .second) (r .steps)
-        ≡ lockstepIn (now (degrees .entry)) (now (sides .entry)) (now (ends .entry)) fuel (first .edge) (first .at) (second .edge) (second .at) ⌝ }
+        ≡ lockstepIn (now (degrees .entry)) (now (sides .entry)) (now (ends .entry)) fuel
+        (first .edge) (first .at) (second .edge) (second .at) ⌝ }
 {
     let mut v = first;
     let mut w = second;

@@ -1,25 +1,25 @@
-// Whole tables: made all 0, and compared.
+// Whole tables: cleared, and compared. A table is narrow, of 16-bit numbers, or wide, of 32-bit ones.
 ghost use mathlib.Core.Path.{_≡_};
 ghost use mathlib.Core.Bool.{true};
 ghost use lib.ListN.{length, replicate};
 ghost use Rattle.tables.specs.Steps.{tables, zeroed};
 
-pub fn clear16(xs: &mut [u16])
-    ensures { λ _. ⌜ now (xs .exit) ≡ replicate (length (now (xs .entry))) 0 ⌝ }
+pub fn clear16(narrow: &mut [u16])
+    ensures { λ _. ⌜ now (narrow .exit) ≡ replicate (length (now (narrow .entry))) 0 ⌝ }
 {
     let mut i = 0;
-    while i < xs.len() {
-        xs[i] = 0;
+    while i < narrow.len() {
+        narrow[i] = 0;
         i += 1;
     }
 }
 
-pub fn clear32(xs: &mut [u32])
-    ensures { λ _. ⌜ now (xs .exit) ≡ replicate (length (now (xs .entry))) 0 ⌝ }
+pub fn clear32(wide: &mut [u32])
+    ensures { λ _. ⌜ now (wide .exit) ≡ replicate (length (now (wide .entry))) 0 ⌝ }
 {
     let mut i = 0;
-    while i < xs.len() {
-        xs[i] = 0;
+    while i < wide.len() {
+        wide[i] = 0;
         i += 1;
     }
 }
@@ -32,7 +32,8 @@ pub fn clear_tables(
     labels: &mut [u32],
 )
     ensures { λ _. ⌜ tables (now (degrees .exit)) (now (sides .exit)) (now (ends .exit)) (now (lengths .exit)) (now (labels .exit))
-        ≡ zeroed (tables (now (degrees .entry)) (now (sides .entry)) (now (ends .entry)) (now (lengths .entry)) (now (labels .entry))) ⌝ }
+        ≡ zeroed
+        (tables (now (degrees .entry)) (now (sides .entry)) (now (ends .entry)) (now (lengths .entry)) (now (labels .entry))) ⌝ }
 {
     clear16(degrees);
     clear16(sides);
@@ -86,10 +87,12 @@ pub fn same_tables(
     lengths2: &[u32],
     labels2: &[u32],
 ) -> bool
-    ensures { λ r. ⌜ (r ≡ true → tables (now (degrees .entry)) (now (sides .entry)) (now (ends .entry)) (now (lengths .entry)) (now (labels .entry))
+    ensures { λ r. ⌜ (r ≡ true
+        → tables (now (degrees .entry)) (now (sides .entry)) (now (ends .entry)) (now (lengths .entry)) (now (labels .entry))
         ≡ tables (now (degrees2 .entry)) (now (sides2 .entry)) (now (ends2 .entry)) (now (lengths2 .entry)) (now (labels2 .entry)))
         × (tables (now (degrees .entry)) (now (sides .entry)) (now (ends .entry)) (now (lengths .entry)) (now (labels .entry))
-        ≡ tables (now (degrees2 .entry)) (now (sides2 .entry)) (now (ends2 .entry)) (now (lengths2 .entry)) (now (labels2 .entry)) → r ≡ true) ⌝ }
+        ≡ tables (now (degrees2 .entry)) (now (sides2 .entry)) (now (ends2 .entry)) (now (lengths2 .entry)) (now (labels2 .entry))
+        → r ≡ true) ⌝ }
 {
     if !same16(degrees, degrees2) {
         return false;

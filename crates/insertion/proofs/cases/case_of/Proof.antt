@@ -1,59 +1,42 @@
-use Rattle.insertion.proofs.Classes.{case-branch}
 use mathlib.Core.Path.{_∙_}
 use borrow.Author.Needs.{needs}
+use Rattle.insertion.proofs.Classes.{case-branch}
 use Rattle.insertion.proofs.cases.case_of.Statement.{statement}
 use Rattle.insertion.proofs.cases.case_of.Tie as tie
-use Rattle.insertion.proofs.cases.case_of.Reads as reads
-use Rattle.insertion.proofs.cases.case_of.Lts as lts
-use Rattle.insertion.proofs.cases.case_of_junction.Reads as case-of-junction-reads
-use Rattle.insertion.proofs.cases.case_of_leaf.Reads as case-of-leaf-reads
-use Rattle.insertion.proofs.cases.case_of_regular.Reads as case-of-regular-reads
 
--- src/cases.rt:42:28
 enum-told : tie.Need-enum-told
 enum-told c = search needs
 
--- src/cases.rt:42:28
 case-of-junction-requires : tie.Need-case-of-junction-requires
 case-of-junction-requires c κs = search needs
 
--- src/cases.rt:43:24
 enum-told-2 : tie.Need-enum-told-2
 enum-told-2 c = search needs
 
--- src/cases.rt:43:24
 case-of-leaf-requires : tie.Need-case-of-leaf-requires
 case-of-leaf-requires c κs = search needs
 
--- src/cases.rt:44:27
 enum-told-3 : tie.Need-enum-told-3
 enum-told-3 c = search needs
 
--- src/cases.rt:44:27
 case-of-regular-requires : tie.Need-case-of-regular-requires
 case-of-regular-requires c κs = search needs
 
--- src/cases.rt:45:26
 enum-told-4 : tie.Need-enum-told-4
 enum-told-4 c = search needs
 
--- src/cases.rt:45:26
 case-of-junction-requires-2 : tie.Need-case-of-junction-requires-2
 case-of-junction-requires-2 c κs = search needs
 
--- src/cases.rt:38:1
 returns : tie.Need-returns
 returns c = rw (c .before .enum-told .given .1) (c .case-of-junction .ensures)
 
--- src/cases.rt:38:1
 returns-2 : tie.Need-returns-2
 returns-2 c = rw (c .before .enum-told2 .given .1) (c .case-of-leaf .ensures)
 
--- src/cases.rt:38:1
 returns-3 : tie.Need-returns-3
 returns-3 c = rw (c .before .enum-told3 .given .1) (c .case-of-regular .ensures)
 
--- src/cases.rt:38:1
 returns-4 : tie.Need-returns-4
 returns-4 c = rw (c .before .enum-told4 .given .1) (c .case-of-junction2 .ensures ∙ case-branch _)
 

@@ -1,42 +1,32 @@
-use Rattle.model.specs.Cases.{caseOf}
 use borrow.Author.Needs.{needs}
+use Rattle.model.specs.Cases.{caseOf}
 use Rattle.insertion.proofs.cases.case_of_regular.Statement.{statement}
 use Rattle.insertion.proofs.cases.case_of_regular.Tie as tie
-use Rattle.insertion.proofs.cases.case_of_regular.Reads as reads
-use Rattle.insertion.proofs.cases.case_of_regular.Lts as lts
 
--- src/cases.rt:76:28
 enum-told : tie.Need-enum-told
 enum-told c = search needs
 
--- src/cases.rt:77:24
 enum-told-2 : tie.Need-enum-told-2
 enum-told-2 c = search needs
 
--- src/cases.rt:78:27
 enum-told-3 : tie.Need-enum-told-3
 enum-told-3 c = search needs
 
--- src/cases.rt:79:26
 enum-told-4 : tie.Need-enum-told-4
 enum-told-4 c = search needs
 
--- src/cases.rt:72:1
 returns : tie.Need-returns
 unfolding caseOf
 returns c = rw (c .enum-told .given .1)
 
--- src/cases.rt:72:1
 returns-2 : tie.Need-returns-2
 unfolding caseOf
 returns-2 c = rw (c .enum-told2 .given .1)
 
--- src/cases.rt:72:1
 returns-3 : tie.Need-returns-3
 unfolding caseOf
 returns-3 c = rw (c .enum-told3 .given .1)
 
--- src/cases.rt:72:1
 returns-4 : tie.Need-returns-4
 unfolding caseOf
 returns-4 c = rw (c .enum-told4 .given .1)

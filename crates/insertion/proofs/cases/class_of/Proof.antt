@@ -1,26 +1,20 @@
-use Rattle.insertion.proofs.Classes.{class-branch}
 use Rattle.model.specs.Cases.{classOf}
+use Rattle.insertion.proofs.Classes.{class-branch}
 use Rattle.insertion.proofs.cases.class_of.Statement.{statement}
 use Rattle.insertion.proofs.cases.class_of.Tie as tie
-use Rattle.insertion.proofs.cases.class_of.Reads as reads
-use Rattle.insertion.proofs.cases.class_of.Lts as lts
 
--- src/cases.rt:27:1
 returns : tie.Need-returns
 unfolding classOf
 returns c = rw (c .match .keys1)
 
--- src/cases.rt:27:1
 returns-2 : tie.Need-returns-2
 unfolding classOf
 returns-2 c = rw (c .match .keys2)
 
--- src/cases.rt:27:1
 returns-3 : tie.Need-returns-3
 unfolding classOf
 returns-3 c = rw (c .match .keys3)
 
--- src/cases.rt:27:1
 returns-4 : tie.Need-returns-4
 returns-4 c = class-branch _ (c .match .rest .0 .0 .1) (c .match .rest .0 .1) (c .match .rest .1)
 

@@ -1,52 +1,33 @@
-use Rattle.insertion.proofs.Labels.{extend-on, extend-begun}
 use mathlib.Core.Path.{sym, _∙_}
 use borrow.Author.Needs.{needs}
+use Rattle.insertion.proofs.Labels.{extend-on, extend-begun}
 use Rattle.insertion.proofs.labelling.extend_chain.Statement.{statement}
 use Rattle.insertion.proofs.labelling.extend_chain.Tie as tie
-use Rattle.insertion.proofs.labelling.extend_chain.Reads as reads
-use Rattle.insertion.proofs.labelling.extend_chain.Lts as lts
-use Rattle.insertion.proofs.labelling.base.Reads as base-reads
-use Rattle.insertion.proofs.labelling.label_vertex.Reads as label-vertex-reads
-use Rattle.insertion.proofs.labelling.rises.Reads as rises-reads
-use Rattle.tables.proofs.access.of16.Reads as of16-reads
-use Rattle.tables.proofs.access.of32.Reads as of32-reads
-use Rattle.tables.proofs.access.one_more16.Reads as one-more16-reads
-use Rattle.tables.proofs.steps.next_label.Reads as next-label-reads
-use Rattle.tables.proofs.walks.leave_leaf.Reads as leave-leaf-reads
 
--- src/labelling.rt:132:9
 leave-leaf-requires : tie.Need-leave-leaf-requires
 leave-leaf-requires c κs = search needs
 
--- src/labelling.rt:133:8
 of16-requires : tie.Need-of16-requires
 of16-requires c κs = search needs
 
--- src/labelling.rt:134:13
 rises-requires : tie.Need-rises-requires
 rises-requires c κs = search needs
 
--- src/labelling.rt:135:32
 of32-requires : tie.Need-of32-requires
 of32-requires c κs = search needs
 
--- src/labelling.rt:135:13
 next-label-requires : tie.Need-next-label-requires
 next-label-requires c κs = search needs
 
--- src/labelling.rt:136:9
 label-vertex-requires : tie.Need-label-vertex-requires
 label-vertex-requires c κs = search needs
 
--- src/labelling.rt:137:9
 same-length : tie.Need-same-length
 same-length c = search needs
 
--- src/labelling.rt:137:9
 same-length-2 : tie.Need-same-length-2
 same-length-2 c = search needs
 
--- src/labelling.rt:137:9
 returns : tie.Need-returns
 returns c =
     let at-label-vertex = c .before .before .before .before in
@@ -56,30 +37,25 @@ returns c =
     let at-if1 = at-rises .before .before in
     let at-of16 = at-if1 .before in
     let at-leave-leaf = at-of16 .before in
-    extend-on _ _ _ _ _ _ _ _ _ _ _ _ (at-leave-leaf .leave-leaf .ensures .0) (at-leave-leaf .leave-leaf .ensures .1)
-    _ _ _ (sym (at-of16 .of16 .ensures) ∙ at-if1 .if1 .taken) (at-rises .rises .ensures) (at-of32 .of32 .ensures) (at-next-label .next-label .ensures) (at-label-vertex .label-vertex .ensures)
+    extend-on _ _ _ _ _ _ _ _ _ _ _ _ (at-leave-leaf .leave-leaf .ensures)
+    _ _ _ (sym (at-of16 .of16 .ensures) ∙ at-if1 .if1 .taken) (at-rises .rises .ensures) (at-of32 .of32 .ensures)
+    (at-next-label .next-label .ensures) (at-label-vertex .label-vertex .ensures)
 
--- src/labelling.rt:139:9
 one-more16-requires : tie.Need-one-more16-requires
 one-more16-requires c κs = search needs
 
--- src/labelling.rt:140:36
 base-requires : tie.Need-base-requires
 base-requires c κs = search needs
 
--- src/labelling.rt:140:5
 label-vertex-requires-2 : tie.Need-label-vertex-requires-2
 label-vertex-requires-2 c κs = search needs
 
--- src/labelling.rt:120:1
 same-length-3 : tie.Need-same-length-3
 same-length-3 c = search needs
 
--- src/labelling.rt:120:1
 same-length-4 : tie.Need-same-length-4
 same-length-4 c = search needs
 
--- src/labelling.rt:120:1
 returns-2 : tie.Need-returns-2
 returns-2 c =
     let at-label-vertex2 = c .before .before .before .before in
@@ -88,8 +64,9 @@ returns-2 c =
     let at-if1 = at-one-more16 .before in
     let at-of16 = at-if1 .before in
     let at-leave-leaf = at-of16 .before in
-    extend-begun _ _ _ _ _ _ _ _ _ _ _ _ (at-leave-leaf .leave-leaf .ensures .0) (at-leave-leaf .leave-leaf .ensures .1)
-    _ _ (λ e. at-if1 .if1 .left (at-of16 .of16 .ensures ∙ e)) (at-one-more16 .one-more16 .ensures) (at-base .base .ensures) (at-label-vertex2 .label-vertex2 .ensures)
+    extend-begun _ _ _ _ _ _ _ _ _ _ _ _ (at-leave-leaf .leave-leaf .ensures)
+    _ _ (λ e. at-if1 .if1 .left (at-of16 .of16 .ensures ∙ e)) (at-one-more16 .one-more16 .ensures) (at-base .base .ensures)
+    (at-label-vertex2 .label-vertex2 .ensures)
 
 pub extend-chain-spec : {M : Type 1} → statement M
 extend-chain-spec =

@@ -1,43 +1,35 @@
-use Rattle.insertion.proofs.Labels.{relabel-none, relabel-stop, relabel-step, label-le, after-none}
-use Rattle.insertion.specs.Labelling.{relabelIn, after}
+use mathlib.Core.Path.{_≡_, refl, sym, _∙_}
+use Prim.Native.Nat.{_+_, _≤_}
+use native.Mathlib.Omega.{arith}
 use borrow.Author.Needs.{needs}
 use lib.ListN.{length}
-use native.Mathlib.Omega.{arith}
-use Prim.Native.Nat.{_+_, _≤_}
-use mathlib.Core.Path.{_≡_, refl, sym, _∙_}
+use Rattle.insertion.specs.Labelling.{relabelIn, after}
+use Rattle.insertion.proofs.Labels.{relabel-none, relabel-stop, relabel-step, label-le, after-none}
 use Rattle.insertion.proofs.labelling.relabel_chain.Statement.{statement}
 use Rattle.insertion.proofs.labelling.relabel_chain.Tie as tie
-use Rattle.insertion.proofs.labelling.relabel_chain.Reads as reads
-use Rattle.insertion.proofs.labelling.relabel_chain.Lts as lts
-use Rattle.insertion.proofs.labelling.label_vertex.Reads as label-vertex-reads
-use Rattle.tables.proofs.access.of16.Reads as of16-reads
-use Rattle.tables.proofs.steps.next_label.Reads as next-label-reads
-use Rattle.tables.proofs.walks.step_over.Reads as step-over-reads
 
+-- what is left to relabel, with the count so far in front, is the whole; the tables keep their lengths
 abbrev Inv-loop : tie.InvT-loop
 Inv-loop degrees ends sides₀ labels₀ label up fuel w₀ next₀ count₀ left₀ sides labels w next count left =
-    (count + left ≤ fuel) × ((length sides ≡ length sides₀) × ((length labels ≡ length labels₀) × (after count (relabelIn degrees ends up left sides labels (w .edge) (w .at) next) ≡ relabelIn degrees ends up fuel sides₀ labels₀ (w₀ .edge) (w₀ .at) label)))
+    (count + left ≤ fuel) × ((length sides ≡ length sides₀) × ((length labels ≡ length labels₀) × (after count
+    (relabelIn degrees ends up left sides labels (w .edge) (w .at) next) ≡ relabelIn degrees ends up fuel sides₀ labels₀ (w₀ .edge)
+    (w₀ .at) label)))
 
 abbrev μ-loop : tie.MeasureT-loop
 μ-loop degrees ends sides₀ labels₀ label up fuel w₀ next₀ count₀ left₀ sides labels w next count left = left
 
--- src/labelling.rt:97:5
 loop-holds : tie.Need-loop-holds Inv-loop μ-loop
 loop-holds c = (omega arith, (refl, (refl, sym (after-none _))))
 
--- src/labelling.rt:98:12
 of16-requires : tie.Need-of16-requires Inv-loop μ-loop
 of16-requires c κs = search needs
 
--- src/labelling.rt:101:13
 step-over-requires : tie.Need-step-over-requires Inv-loop μ-loop
 step-over-requires c κs = search needs
 
--- src/labelling.rt:102:18
 label-vertex-requires : tie.Need-label-vertex-requires Inv-loop μ-loop
 label-vertex-requires c κs = search needs
 
--- src/labelling.rt:102:9
 add-count : tie.Need-add-count Inv-loop μ-loop
 add-count c =
     let at-label-vertex = c .before .before .before .before in
@@ -46,19 +38,15 @@ add-count c =
     let m = label-le _ _ _ _ _ _ _ _ _ _ (at-label-vertex .label-vertex .ensures) in
     omega (arith, at-loop .loop .inv .0, at-fits .fits .fuel .fits)
 
--- src/labelling.rt:103:9
 next-label-requires : tie.Need-next-label-requires Inv-loop μ-loop
 next-label-requires c κs = search needs
 
--- src/labelling.rt:105:9
 sub-left : tie.Need-sub-left Inv-loop μ-loop
 sub-left c = omega arith
 
--- src/labelling.rt:97:5
 loop-less : tie.Need-loop-less Inv-loop μ-loop
 loop-less c = omega arith
 
--- src/labelling.rt:97:5
 loop-again : tie.Need-loop-again Inv-loop μ-loop
 loop-again c =
     let at-label-vertex = c .before .before .before .before .before in
@@ -71,32 +59,37 @@ loop-again c =
     let l = at-loop-test .loop-test .taken in
     let h = sym (at-of16 .of16 .ensures) ∙ at-if1 .if1 .left in
     let g = at-label-vertex .label-vertex .ensures in
-    let m = label-le _ _ _ _ _ _ _ _ _ _ g in
-    (omega arith, (omega arith, (omega arith, sym (relabel-step _ _ _ _ _ _ _ _ _ _ _ _ _ _ _ _ l h (at-step-over .step-over .ensures .0) (at-step-over .step-over .ensures .1) (c .next-label .ensures) g) ∙ inv .1 .1 .1)))
+    let m = label-le _ _ _ _ _ _ _ _ _ _ g in (
+      omega arith,
+      (
+        omega arith,
+        (
+          omega arith,
+          sym (relabel-step _ _ _ _ _ _ _ _ _ _ _ _ _ _ _ _ l h
+              (at-step-over .step-over .ensures .0) (at-step-over .step-over .ensures .1) (c .next-label .ensures) g) ∙ inv .1 .1 .1,
+        ),
+      ),
+    )
 
--- src/labelling.rt:80:1
 same-length : tie.Need-same-length Inv-loop μ-loop
 same-length c = c .before .loop .inv .1 .0
 
--- src/labelling.rt:80:1
 same-length-2 : tie.Need-same-length-2 Inv-loop μ-loop
 same-length-2 c = c .before .loop .inv .1 .1 .0
 
--- src/labelling.rt:80:1
 returns : tie.Need-returns Inv-loop μ-loop
 returns c = relabel-none _ _ _ _ _ _ _ _ _ _ (c .loop-test .left) ∙ c .before .loop .inv .1 .1 .1
 
--- src/labelling.rt:80:1
 same-length-3 : tie.Need-same-length-3 Inv-loop μ-loop
 same-length-3 c = c .before .before .before .loop .inv .1 .0
 
--- src/labelling.rt:80:1
 same-length-4 : tie.Need-same-length-4 Inv-loop μ-loop
 same-length-4 c = c .before .before .before .loop .inv .1 .1 .0
 
--- src/labelling.rt:80:1
 returns-2 : tie.Need-returns-2 Inv-loop μ-loop
-returns-2 c = relabel-stop _ _ _ _ _ _ _ _ _ _ (λ e. c .if1 .taken (c .before .of16 .ensures ∙ e)) ∙ c .before .before .before .loop .inv .1 .1 .1
+returns-2 c =
+    relabel-stop _ _ _ _ _ _ _ _ _ _ (λ e. c .if1 .taken (c .before .of16 .ensures ∙ e)) ∙ c .before .before .before .loop .inv .1
+    .1 .1
 
 pub relabel-chain-spec : {M : Type 1} → statement M
 relabel-chain-spec =

@@ -1,21 +1,16 @@
-use Rattle.model.specs.Labels.{isRelabelled}
 use borrow.Author.Tests.{eq-eqb, ne-eqb}
+use Rattle.model.specs.Labels.{isRelabelled}
 use Rattle.insertion.proofs.labelling.relabelled.Statement.{statement}
 use Rattle.insertion.proofs.labelling.relabelled.Tie as tie
-use Rattle.insertion.proofs.labelling.relabelled.Reads as reads
-use Rattle.insertion.proofs.labelling.relabelled.Lts as lts
 
--- src/labelling.rt:50:9
 returns : tie.Need-returns
 unfolding isRelabelled
 returns c = rw (eq-eqb _ _ (c .if1 .taken))
 
--- src/labelling.rt:53:9
 returns-2 : tie.Need-returns-2
 unfolding isRelabelled
 returns-2 c = rw (ne-eqb _ _ (c .before .if1 .left), eq-eqb _ _ (c .if2 .taken))
 
--- src/labelling.rt:46:1
 returns-3 : tie.Need-returns-3
 unfolding isRelabelled
 returns-3 c = rw (ne-eqb _ _ (c .before .if1 .left), ne-eqb _ _ (c .if2 .left))

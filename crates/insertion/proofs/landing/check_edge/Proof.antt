@@ -1,61 +1,52 @@
-use Rattle.insertion.proofs.Answers.{check-first, check-second, check-same, check-length, check-edges, check-passed}
-use Rattle.counters.specs.Numbers.{millimetresIn}
 use mathlib.Core.Path.{ap, sym, _∙_}
 use borrow.Author.Needs.{needs}
+use Rattle.counters.specs.Numbers.{millimetresIn}
+use Rattle.insertion.proofs.Answers.{check-first, check-second, check-same, check-length, check-edges, check-passed}
 use Rattle.insertion.proofs.landing.check_edge.Statement.{statement}
 use Rattle.insertion.proofs.landing.check_edge.Tie as tie
-use Rattle.insertion.proofs.landing.check_edge.Reads as reads
-use Rattle.insertion.proofs.landing.check_edge.Lts as lts
-use Rattle.counters.proofs.numbers.Millimetres.new.Reads as new-reads
 
--- src/landing.rt:40:9
 returns : tie.Need-returns
 returns c = λ t. check-first t _ _ _ _ (c .if1 .taken)
 
--- src/landing.rt:43:9
 returns-2 : tie.Need-returns-2
 returns-2 c = λ t. check-second t _ _ _ _ (c .before .before .if1 .left) (c .if2 .taken)
 
--- src/landing.rt:46:9
 returns-3 : tie.Need-returns-3
 returns-3 c = λ t. check-same t _ _ _ _ (c .before .before .before .if1 .left) (c .before .if2 .left) (c .if3 .taken)
 
--- src/landing.rt:48:47
 new-requires : tie.Need-new-requires
 new-requires c κs = search needs
 
--- src/landing.rt:48:32
 enum-known-millimetres : tie.Need-enum-known-millimetres
 enum-known-millimetres c = search needs
 
--- src/landing.rt:49:33
 enum-told : tie.Need-enum-told
 enum-told c = search needs
 
--- src/landing.rt:49:9
 returns-4 : tie.Need-returns-4
 returns-4 c =
     let at-if2 = c .before .before .before .before in
     let at-if1 = at-if2 .before .before in
-    λ t. check-length t _ _ _ _ (at-if1 .if1 .left) (at-if2 .if2 .left) (c .before .before .before .if3 .left) (ap millimetresIn (sym (c .enum-told .given .1)) ∙ c .before .before .new .ensures)
+    λ t. check-length t _ _ _ _ (at-if1 .if1 .left) (at-if2 .if2 .left) (c .before .before .before .if3 .left)
+    (ap millimetresIn (sym (c .enum-told .given .1)) ∙ c .before .before .new .ensures)
 
--- src/landing.rt:52:9
 returns-5 : tie.Need-returns-5
 returns-5 c =
     let at-new = c .before .before .before .before .before in
     let at-if3 = at-new .before in
     let at-if2 = at-if3 .before in
     let at-if1 = at-if2 .before .before in
-    λ t. check-edges t _ _ _ _ _ (at-if1 .if1 .left) (at-if2 .if2 .left) (at-if3 .if3 .left) (ap millimetresIn (sym (c .before .before .before .millimetres .given .1)) ∙ at-new .new .ensures) (c .if4 .taken)
+    λ t. check-edges t _ _ _ _ _ (at-if1 .if1 .left) (at-if2 .if2 .left) (at-if3 .if3 .left)
+    (ap millimetresIn (sym (c .before .before .before .millimetres .given .1)) ∙ at-new .new .ensures) (c .if4 .taken)
 
--- src/landing.rt:35:1
 returns-6 : tie.Need-returns-6
 returns-6 c =
     let at-new = c .before .before .before .before .before in
     let at-if3 = at-new .before in
     let at-if2 = at-if3 .before in
     let at-if1 = at-if2 .before .before in
-    λ t. check-passed t _ _ _ _ _ (at-if1 .if1 .left) (at-if2 .if2 .left) (at-if3 .if3 .left) (ap millimetresIn (sym (c .before .before .before .millimetres .given .1)) ∙ at-new .new .ensures) (c .if4 .left)
+    λ t. check-passed t _ _ _ _ _ (at-if1 .if1 .left) (at-if2 .if2 .left) (at-if3 .if3 .left)
+    (ap millimetresIn (sym (c .before .before .before .millimetres .given .1)) ∙ at-new .new .ensures) (c .if4 .left)
 
 pub check-edge-spec : {M : Type 1} → statement M
 check-edge-spec =

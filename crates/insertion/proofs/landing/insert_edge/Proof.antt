@@ -1,60 +1,40 @@
-use Rattle.insertion.proofs.Answers.{insert-ring, insert-done}
-use Rattle.model.specs.Cases.{caseOf}
 use mathlib.Core.Path.{_∙_, ap₂}
 use borrow.Author.Needs.{needs}
+use Rattle.model.specs.Cases.{caseOf}
+use Rattle.insertion.proofs.Answers.{insert-ring, insert-done}
 use Rattle.insertion.proofs.landing.insert_edge.Statement.{statement}
 use Rattle.insertion.proofs.landing.insert_edge.Tie as tie
-use Rattle.insertion.proofs.landing.insert_edge.Reads as reads
-use Rattle.insertion.proofs.landing.insert_edge.Lts as lts
-use Rattle.insertion.proofs.cases.case_of.Reads as case-of-reads
-use Rattle.insertion.proofs.cases.class_of.Reads as class-of-reads
-use Rattle.insertion.proofs.landing.record_edge.Reads as record-edge-reads
-use Rattle.insertion.proofs.placing.place_edge.Reads as place-edge-reads
-use Rattle.tables.proofs.access.add32.Reads as add32-reads
-use Rattle.tables.proofs.access.of16.Reads as of16-reads
-use Rattle.tables.proofs.access.one_more16.Reads as one-more16-reads
 
--- src/landing.rt:85:33
 of16-requires : tie.Need-of16-requires
 of16-requires c κs = search needs
 
--- src/landing.rt:85:24
 class-of-requires : tie.Need-class-of-requires
 class-of-requires c κs = search needs
 
--- src/landing.rt:85:61
 of16-requires-2 : tie.Need-of16-requires-2
 of16-requires-2 c κs = search needs
 
--- src/landing.rt:85:52
 class-of-requires-2 : tie.Need-class-of-requires-2
 class-of-requires-2 c κs = search needs
 
--- src/landing.rt:85:9
 case-of-requires : tie.Need-case-of-requires
 case-of-requires c κs = search needs
 
--- src/landing.rt:86:9
 place-edge-requires : tie.Need-place-edge-requires
 place-edge-requires c κs = search needs
 
--- src/landing.rt:99:9
 same-length : tie.Need-same-length
 same-length c = search needs
 
--- src/landing.rt:99:9
 same-length-2 : tie.Need-same-length-2
 same-length-2 c = search needs
 
--- src/landing.rt:99:9
 same-length-3 : tie.Need-same-length-3
 same-length-3 c = search needs
 
--- src/landing.rt:99:9
 same-length-4 : tie.Need-same-length-4
 same-length-4 c = search needs
 
--- src/landing.rt:99:9
 returns : tie.Need-returns
 returns c =
     let at-place-edge = c .before .before .before .before .before .before .before in
@@ -63,41 +43,34 @@ returns c =
     let at-of162 = at-class-of2 .before in
     let at-class-of = at-of162 .before .before in
     let at-of16 = at-class-of .before in
-    insert-ring _ _ _ _ _ _ _ _ _ _ _ _ _ _ _ _ _ _ (at-of16 .of16 .ensures) (at-of162 .of162 .ensures) (at-case-of .case-of .ensures ∙ ap₂ caseOf (at-class-of .class-of .ensures) (at-class-of2 .class-of2 .ensures)) (at-place-edge .place-edge .ensures) (c .if1 .taken)
+    insert-ring _ _ _ _ _ _ _ _ _ _ _ _ _ _ _ _ _ _ (at-of16 .of16 .ensures) (at-of162 .of162 .ensures)
+    (at-case-of .case-of .ensures ∙ ap₂ caseOf (at-class-of .class-of .ensures) (at-class-of2 .class-of2 .ensures))
+    (at-place-edge .place-edge .ensures) (c .if1 .taken)
 
--- src/landing.rt:101:5
 record-edge-requires : tie.Need-record-edge-requires
 record-edge-requires c κs = search needs
 
--- src/landing.rt:104:16
 one-more16-requires : tie.Need-one-more16-requires
 one-more16-requires c κs = search needs
 
--- src/landing.rt:106:23
 add32-requires : tie.Need-add32-requires
 add32-requires c κs = search needs
 
--- src/landing.rt:67:1
 same-length-5 : tie.Need-same-length-5
 same-length-5 c = search needs
 
--- src/landing.rt:67:1
 same-length-6 : tie.Need-same-length-6
 same-length-6 c = search needs
 
--- src/landing.rt:67:1
 same-length-7 : tie.Need-same-length-7
 same-length-7 c = search needs
 
--- src/landing.rt:67:1
 same-length-8 : tie.Need-same-length-8
 same-length-8 c = search needs
 
--- src/landing.rt:67:1
 same-length-9 : tie.Need-same-length-9
 same-length-9 c = search needs
 
--- src/landing.rt:67:1
 returns-2 : tie.Need-returns-2
 returns-2 c =
     let at-record-edge = c .before .before .before .before .before .before in
@@ -108,8 +81,11 @@ returns-2 c =
     let at-of162 = at-class-of2 .before in
     let at-class-of = at-of162 .before .before in
     let at-of16 = at-class-of .before in
-    insert-done _ _ _ _ _ _ _ _ _ _ _ _ _ _ _ _ _ _ (at-of16 .of16 .ensures) (at-of162 .of162 .ensures) (at-case-of .case-of .ensures ∙ ap₂ caseOf (at-class-of .class-of .ensures) (at-class-of2 .class-of2 .ensures)) (at-place-edge .place-edge .ensures)
-    _ _ _ _ (at-if1 .if1 .left) (at-record-edge .record-edge .ensures .0) (at-record-edge .record-edge .ensures .1) (c .before .one-more16 .ensures) (c .add32 .ensures)
+    insert-done _ _ _ _ _ _ _ _ _ _ _ _ _ _ _ _ _ _ (at-of16 .of16 .ensures) (at-of162 .of162 .ensures)
+    (at-case-of .case-of .ensures ∙ ap₂ caseOf (at-class-of .class-of .ensures) (at-class-of2 .class-of2 .ensures))
+    (at-place-edge .place-edge .ensures)
+    _ _ _ _ (at-if1 .if1 .left) (at-record-edge .record-edge .ensures .0) (at-record-edge .record-edge .ensures .1)
+    (c .before .one-more16 .ensures) (c .add32 .ensures)
 
 pub insert-edge-spec : {M : Type 1} → statement M
 insert-edge-spec =

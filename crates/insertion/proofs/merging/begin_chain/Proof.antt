@@ -1,23 +1,16 @@
-use Rattle.model.specs.Labels.{base}
 use native.Mathlib.Omega.{arith}
-use Rattle.insertion.proofs.Joins.{begin-law}
 use borrow.Author.Needs.{needs}
+use Rattle.model.specs.Labels.{base}
+use Rattle.insertion.proofs.Joins.{begin-law}
 use Rattle.insertion.proofs.merging.begin_chain.Statement.{statement}
 use Rattle.insertion.proofs.merging.begin_chain.Tie as tie
-use Rattle.insertion.proofs.merging.begin_chain.Reads as reads
-use Rattle.insertion.proofs.merging.begin_chain.Lts as lts
-use Rattle.insertion.proofs.labelling.base.Reads as base-reads
-use Rattle.insertion.proofs.labelling.label_vertex.Reads as label-vertex-reads
 
--- src/merging.rt:85:9
 base-requires : tie.Need-base-requires
 base-requires c κs = search needs
 
--- src/merging.rt:86:5
 label-vertex-requires : tie.Need-label-vertex-requires
 label-vertex-requires c κs = search needs
 
--- src/merging.rt:87:36
 add-label-vertex : tie.Need-add-label-vertex
 unfolding base
 add-label-vertex c =
@@ -25,25 +18,22 @@ add-label-vertex c =
     let at-fits = at-base .before .before .before in
     omega (arith, at-base .base .ensures, at-fits .fits .k .fits)
 
--- src/merging.rt:87:5
 label-vertex-requires-2 : tie.Need-label-vertex-requires-2
 label-vertex-requires-2 c κs = search needs
 
--- src/merging.rt:72:1
 same-length : tie.Need-same-length
 same-length c = search needs
 
--- src/merging.rt:72:1
 same-length-2 : tie.Need-same-length-2
 same-length-2 c = search needs
 
--- src/merging.rt:72:1
 returns : tie.Need-returns
 returns c =
     let at-label-vertex2 = c .before .before .before .before in
     let at-label-vertex = at-label-vertex2 .before .before .before .before .before .before .before in
     let at-base = at-label-vertex .before .before .before in
-    begin-law _ _ _ _ _ _ _ _ _ _ _ _ _ _ _ (at-base .base .ensures) (at-label-vertex .label-vertex .ensures) (at-label-vertex2 .label-vertex2 .ensures)
+    begin-law _ _ _ _ _ _ _ _ _ _ _ _ _ _ _ (at-base .base .ensures) (at-label-vertex .label-vertex .ensures)
+    (at-label-vertex2 .label-vertex2 .ensures)
 
 pub begin-chain-spec : {M : Type 1} → statement M
 begin-chain-spec =

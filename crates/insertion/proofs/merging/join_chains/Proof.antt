@@ -1,95 +1,75 @@
-use Rattle.insertion.proofs.Labels.{label-le, relabel-le}
-use Rattle.insertion.proofs.Joins.{join-law}
-use mathlib.Core.Path.{ap}
 use native.Mathlib.Omega.{arith}
 use borrow.Author.Needs.{needs}
+use Rattle.insertion.proofs.Joins.{join-law}
+use Rattle.insertion.proofs.Labels.{label-le, relabel-le}
 use Rattle.insertion.proofs.merging.join_chains.Statement.{statement}
 use Rattle.insertion.proofs.merging.join_chains.Tie as tie
-use Rattle.insertion.proofs.merging.join_chains.Reads as reads
-use Rattle.insertion.proofs.merging.join_chains.Lts as lts
-use Rattle.insertion.proofs.labelling.label_vertex.Reads as label-vertex-reads
-use Rattle.insertion.proofs.labelling.relabel_chain.Reads as relabel-chain-reads
-use Rattle.insertion.proofs.labelling.rises.Reads as rises-reads
-use Rattle.tables.proofs.access.of32.Reads as of32-reads
-use Rattle.tables.proofs.steps.next_label.Reads as next-label-reads
-use Rattle.tables.proofs.walks.leave_leaf.Reads as leave-leaf-reads
 
--- src/merging.rt:51:9
 leave-leaf-requires : tie.Need-leave-leaf-requires
 leave-leaf-requires c κs = search needs
 
--- src/merging.rt:52:9
 leave-leaf-requires-2 : tie.Need-leave-leaf-requires-2
 leave-leaf-requires-2 c κs = search needs
 
--- src/merging.rt:53:9
 rises-requires : tie.Need-rises-requires
 rises-requires c κs = search needs
 
--- src/merging.rt:54:25
 of32-requires : tie.Need-of32-requires
 of32-requires c κs = search needs
 
--- src/merging.rt:54:9
 next-label-requires : tie.Need-next-label-requires
 next-label-requires c κs = search needs
 
--- src/merging.rt:55:9
 next-label-requires-2 : tie.Need-next-label-requires-2
 next-label-requires-2 c κs = search needs
 
--- src/merging.rt:56:9
 label-vertex-requires : tie.Need-label-vertex-requires
 label-vertex-requires c κs = search needs
 
--- src/merging.rt:57:9
 label-vertex-requires-2 : tie.Need-label-vertex-requires-2
 label-vertex-requires-2 c κs = search needs
 
--- src/merging.rt:64:9
 next-label-requires-3 : tie.Need-next-label-requires-3
 next-label-requires-3 c κs = search needs
 
--- src/merging.rt:58:9
 relabel-chain-requires : tie.Need-relabel-chain-requires
 relabel-chain-requires c κs = search needs
 
--- src/merging.rt:68:10
 add-result : tie.Need-add-result
 add-result c =
     let at-relabel-chain = c .before .before .before .before in
     let at-label-vertex2 = at-relabel-chain .before .before .before .before .before .before .before .before in
-    let at-fits = at-label-vertex2 .before .before .before .before .before .before .before .before .before .before .before .before .before .before .before .before .before .before .before .before .before .before .before .before in
+    let at-fits =
+    at-label-vertex2 .before .before .before .before .before .before .before .before .before .before .before .before .before
+    .before .before .before .before .before .before .before .before .before .before .before in
     let y = label-le _ _ _ _ _ _ _ _ _ _ (at-label-vertex2 .label-vertex2 .ensures) in
     let rest = relabel-le _ _ _ _ _ _ _ _ _ _ _ _ (at-relabel-chain .relabel-chain .ensures) in
     omega (arith, y, rest, at-fits .fits .fuel .fits)
 
--- src/merging.rt:68:5
 add-result-2 : tie.Need-add-result-2
 add-result-2 c =
     let at-relabel-chain = c .before .before .before .before in
     let at-label-vertex2 = at-relabel-chain .before .before .before .before .before .before .before .before in
     let at-label-vertex = at-label-vertex2 .before .before .before .before .before .before .before in
-    let at-fits = at-label-vertex .before .before .before .before .before .before .before .before .before .before .before .before .before .before .before .before .before in
+    let at-fits =
+    at-label-vertex .before .before .before .before .before .before .before .before .before .before .before .before .before
+    .before .before .before .before in
     let x = label-le _ _ _ _ _ _ _ _ _ _ (at-label-vertex .label-vertex .ensures) in
     let y = label-le _ _ _ _ _ _ _ _ _ _ (at-label-vertex2 .label-vertex2 .ensures) in
     let rest = relabel-le _ _ _ _ _ _ _ _ _ _ _ _ (at-relabel-chain .relabel-chain .ensures) in
     omega (arith, x, y, rest, at-fits .fits .fuel .fits)
 
--- src/merging.rt:38:1
 same-length : tie.Need-same-length
 same-length c = search needs
 
--- src/merging.rt:38:1
 same-length-2 : tie.Need-same-length-2
 same-length-2 c = search needs
 
--- src/merging.rt:38:1
 returns : tie.Need-returns
 returns c =
     let at-relabel-chain = c .before .before .before .before in
-    let at-next-label3 = at-relabel-chain .before in
-    let at-label-vertex2 = at-next-label3 .before .before .before .before .before .before .before in
+    let at-next-label3 = at-relabel-chain .before .before .before in
+    let at-label-vertex2 = at-next-label3 .before .before .before .before .before in
     let at-label-vertex = at-label-vertex2 .before .before .before .before .before .before .before in
     let at-next-label2 = at-label-vertex .before .before .before in
     let at-next-label = at-next-label2 .before in
@@ -98,9 +78,10 @@ returns c =
     let at-leave-leaf2 = at-rises .before .before in
     let at-leave-leaf = at-leave-leaf2 .before .before in
     join-law _ _ _ _ _ _ _ _ _ _ _ _ _ _ _ _ _ _ _ _ _ _ _ _ _ _
-    (at-leave-leaf .leave-leaf .ensures .0) (at-leave-leaf .leave-leaf .ensures .1) (at-leave-leaf2 .leave-leaf2 .ensures .0) (at-leave-leaf2 .leave-leaf2 .ensures .1)
+    (at-leave-leaf .leave-leaf .ensures) (at-leave-leaf2 .leave-leaf2 .ensures)
     (at-rises .rises .ensures) (at-of32 .of32 .ensures) (at-next-label .next-label .ensures) (at-next-label2 .next-label2 .ensures)
-    (at-label-vertex .label-vertex .ensures) (at-label-vertex2 .label-vertex2 .ensures) (at-next-label3 .next-label3 .ensures) (at-relabel-chain .relabel-chain .ensures)
+    (at-label-vertex .label-vertex .ensures) (at-label-vertex2 .label-vertex2 .ensures) (at-next-label3 .next-label3 .ensures)
+    (at-relabel-chain .relabel-chain .ensures)
 
 pub join-chains-spec : {M : Type 1} → statement M
 join-chains-spec =

@@ -1,43 +1,32 @@
-use Rattle.insertion.proofs.Places.{place-extend}
 use borrow.Author.Needs.{needs}
+use Rattle.insertion.proofs.Places.{place-extend}
 use Rattle.insertion.proofs.placing.place_extend.Statement.{statement}
 use Rattle.insertion.proofs.placing.place_extend.Tie as tie
-use Rattle.insertion.proofs.placing.place_extend.Reads as reads
-use Rattle.insertion.proofs.placing.place_extend.Lts as lts
-use Rattle.insertion.proofs.labelling.extend_chain.Reads as extend-chain-reads
-use Rattle.insertion.proofs.merging.Merging.done.Reads as done-reads
-use Rattle.insertion.proofs.placing.open_both.Reads as open-both-reads
 
--- src/placing.rt:75:5
 open-both-requires : tie.Need-open-both-requires
 open-both-requires c κs = search needs
 
--- src/placing.rt:76:9
 extend-chain-requires : tie.Need-extend-chain-requires
 extend-chain-requires c κs = search needs
 
--- src/placing.rt:77:5
 done-requires : tie.Need-done-requires
 done-requires c κs = search needs
 
--- src/placing.rt:61:1
 same-length : tie.Need-same-length
 same-length c = search needs
 
--- src/placing.rt:61:1
 same-length-2 : tie.Need-same-length-2
 same-length-2 c = search needs
 
--- src/placing.rt:61:1
 same-length-3 : tie.Need-same-length-3
 same-length-3 c = search needs
 
--- src/placing.rt:61:1
 returns : tie.Need-returns
 returns c =
     let at-extend-chain = c .before .before .before .before .before in
     let at-open-both = at-extend-chain .before .before .before .before .before .before .before .before .before .before in
-    place-extend _ _ _ _ _ _ _ _ _ _ _ _ _ _ _ _ _ _ _ _ _ (at-open-both .open-both .ensures) (at-extend-chain .extend-chain .ensures) (c .done .ensures)
+    place-extend _ _ _ _ _ _ _ _ _ _ _ _ _ _ _ _ _ _ _ _ _ (at-open-both .open-both .ensures)
+    (at-extend-chain .extend-chain .ensures) (c .done .ensures)
 
 pub place-extend-spec : {M : Type 1} → statement M
 place-extend-spec =

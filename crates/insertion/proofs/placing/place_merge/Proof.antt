@@ -1,56 +1,43 @@
-use Rattle.insertion.proofs.Places.{place-ring, place-merged}
 use borrow.Author.Needs.{needs}
+use Rattle.insertion.proofs.Places.{place-ring, place-merged}
 use Rattle.insertion.proofs.placing.place_merge.Statement.{statement}
 use Rattle.insertion.proofs.placing.place_merge.Tie as tie
-use Rattle.insertion.proofs.placing.place_merge.Reads as reads
-use Rattle.insertion.proofs.placing.place_merge.Lts as lts
-use Rattle.insertion.proofs.merging.merge_chains.Reads as merge-chains-reads
-use Rattle.tables.proofs.steps.raise_both.Reads as raise-both-reads
 
--- src/placing.rt:94:9
 merge-chains-requires : tie.Need-merge-chains-requires
 merge-chains-requires c κs = search needs
 
--- src/placing.rt:96:9
 same-length : tie.Need-same-length
 same-length c = search needs
 
--- src/placing.rt:96:9
 same-length-2 : tie.Need-same-length-2
 same-length-2 c = search needs
 
--- src/placing.rt:96:9
 same-length-3 : tie.Need-same-length-3
 same-length-3 c = search needs
 
--- src/placing.rt:96:9
 returns : tie.Need-returns
 returns c =
     let at-merge-chains = c .before .before .before .before .before in
     place-ring _ _ _ _ _ _ _ _ _ _ _ _ _ _ (at-merge-chains .merge-chains .ensures) (c .if1 .taken)
 
--- src/placing.rt:98:5
 raise-both-requires : tie.Need-raise-both-requires
 raise-both-requires c κs = search needs
 
--- src/placing.rt:80:1
 same-length-4 : tie.Need-same-length-4
 same-length-4 c = search needs
 
--- src/placing.rt:80:1
 same-length-5 : tie.Need-same-length-5
 same-length-5 c = search needs
 
--- src/placing.rt:80:1
 same-length-6 : tie.Need-same-length-6
 same-length-6 c = search needs
 
--- src/placing.rt:80:1
 returns-2 : tie.Need-returns-2
 returns-2 c =
     let at-if1 = c .before .before .before .before in
     let at-merge-chains = at-if1 .before .before .before .before .before in
-    place-merged _ _ _ _ _ _ _ _ _ _ _ _ _ _ (at-merge-chains .merge-chains .ensures) _ (at-if1 .if1 .left) (c .before .before .raise-both .ensures)
+    place-merged _ _ _ _ _ _ _ _ _ _ _ _ _ _ (at-merge-chains .merge-chains .ensures) _ (at-if1 .if1 .left)
+    (c .before .before .raise-both .ensures)
 
 pub place-merge-spec : {M : Type 1} → statement M
 place-merge-spec =

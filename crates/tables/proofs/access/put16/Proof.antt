@@ -1,28 +1,21 @@
-use lib.Seq.{set-out}
 use mathlib.Core.Path.{sym}
 use borrow.Author.Needs.{needs}
+use lib.Seq.{set-out}
 use Rattle.tables.proofs.access.put16.Statement.{statement}
 use Rattle.tables.proofs.access.put16.Tie as tie
-use Rattle.tables.proofs.access.put16.Reads as reads
-use Rattle.tables.proofs.access.put16.Lts as lts
 
--- src/access.rt:38:9
 mul-xs : tie.Need-mul-xs
 mul-xs c = search needs
 
--- src/access.rt:38:9
 slice-write-xs : tie.Need-slice-write-xs
 slice-write-xs c = search needs
 
--- src/access.rt:34:1
 same-length : tie.Need-same-length
 same-length c = search needs
 
--- src/access.rt:34:1
 returns : tie.Need-returns
 returns c = search needs
 
--- src/access.rt:34:1
 returns-2 : tie.Need-returns-2
 returns-2 c = sym (set-out _ _ _ (c .if1 .left))
 

@@ -1,34 +1,25 @@
-use Rattle.tables.specs.Steps.{turnIn}
 use borrow.Author.Tests.{eq-eqb, ne-eqb}
 use borrow.Author.Needs.{needs}
+use Rattle.tables.specs.Steps.{turnIn}
 use Rattle.tables.proofs.steps.turn_at.Statement.{statement}
 use Rattle.tables.proofs.steps.turn_at.Tie as tie
-use Rattle.tables.proofs.steps.turn_at.Reads as reads
-use Rattle.tables.proofs.steps.turn_at.Lts as lts
-use Rattle.tables.proofs.access.at16.Reads as at16-reads
 
--- src/steps.rt:22:13
 mul-i : tie.Need-mul-i
 mul-i c = search needs
 
--- src/steps.rt:23:9
 at16-requires : tie.Need-at16-requires
 at16-requires c κs = search needs
 
--- src/steps.rt:24:31
 add-at16 : tie.Need-add-at16
 add-at16 c = search needs
 
--- src/steps.rt:24:19
 at16-requires-2 : tie.Need-at16-requires-2
 at16-requires-2 c κs = search needs
 
--- src/steps.rt:19:1
 returns : tie.Need-returns
 unfolding turnIn
 returns c = rw (← c .before .before .at16 .ensures, eq-eqb _ _ (c .before .if1 .taken)) (c .at162 .ensures)
 
--- src/steps.rt:19:1
 returns-2 : tie.Need-returns-2
 unfolding turnIn
 returns-2 c = rw (← c .before .at16 .ensures, ne-eqb _ _ (c .if1 .left))

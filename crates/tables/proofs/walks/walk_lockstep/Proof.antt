@@ -1,56 +1,45 @@
-use Rattle.tables.proofs.Lockstep.{lockstep-none, lockstep-first, lockstep-second, lockstep-step, ahead-none}
-use Rattle.tables.specs.Walks.{lockstepIn, ahead}
-use borrow.Author.Needs.{needs}
-use native.Mathlib.Omega.{arith}
-use Prim.Native.Nat.{_+_, _≤_}
 use mathlib.Core.Path.{_≡_, sym, _∙_}
+use Prim.Native.Nat.{_+_, _≤_}
+use native.Mathlib.Omega.{arith}
+use borrow.Author.Needs.{needs}
+use Rattle.tables.specs.Walks.{lockstepIn, ahead}
+use Rattle.tables.proofs.Lockstep.{lockstep-none, lockstep-first, lockstep-second, lockstep-step, ahead-none}
 use Rattle.tables.proofs.walks.walk_lockstep.Statement.{statement}
 use Rattle.tables.proofs.walks.walk_lockstep.Tie as tie
-use Rattle.tables.proofs.walks.walk_lockstep.Reads as reads
-use Rattle.tables.proofs.walks.walk_lockstep.Lts as lts
-use Rattle.tables.proofs.access.of16.Reads as of16-reads
-use Rattle.tables.proofs.walks.step_over.Reads as step-over-reads
 
+-- the walks from here on, with the steps so far in front, are the whole walks
 abbrev Inv-loop : tie.InvT-loop
 Inv-loop degrees sides ends fuel v₀ w₀ steps₀ left₀ v w steps left =
-    (steps + left ≤ fuel) × (ahead steps (lockstepIn degrees sides ends left (v .edge) (v .at) (w .edge) (w .at)) ≡ lockstepIn degrees sides ends fuel (v₀ .edge) (v₀ .at) (w₀ .edge) (w₀ .at))
+    (steps + left ≤ fuel) × (ahead steps (lockstepIn degrees sides ends left (v .edge) (v .at) (w .edge) (w .at)) ≡ lockstepIn
+    degrees sides ends fuel (v₀ .edge) (v₀ .at) (w₀ .edge) (w₀ .at))
 
 abbrev μ-loop : tie.MeasureT-loop
 μ-loop degrees sides ends fuel v₀ w₀ steps₀ left₀ v w steps left = left
 
--- src/walks.rt:50:5
 loop-holds : tie.Need-loop-holds Inv-loop μ-loop
 loop-holds c = (omega arith, sym (ahead-none _))
 
--- src/walks.rt:51:12
 of16-requires : tie.Need-of16-requires Inv-loop μ-loop
 of16-requires c κs = search needs
 
--- src/walks.rt:54:12
 of16-requires-2 : tie.Need-of16-requires-2 Inv-loop μ-loop
 of16-requires-2 c κs = search needs
 
--- src/walks.rt:57:9
 step-over-requires : tie.Need-step-over-requires Inv-loop μ-loop
 step-over-requires c κs = search needs
 
--- src/walks.rt:58:9
 step-over-requires-2 : tie.Need-step-over-requires-2 Inv-loop μ-loop
 step-over-requires-2 c κs = search needs
 
--- src/walks.rt:59:9
 add-steps : tie.Need-add-steps Inv-loop μ-loop
 add-steps c = omega arith
 
--- src/walks.rt:60:9
 sub-left : tie.Need-sub-left Inv-loop μ-loop
 sub-left c = omega arith
 
--- src/walks.rt:50:5
 loop-less : tie.Need-loop-less Inv-loop μ-loop
 loop-less c = omega arith
 
--- src/walks.rt:50:5
 loop-again : tie.Need-loop-again Inv-loop μ-loop
 loop-again c =
     let at-if1 = c .before .before .before .before in
@@ -58,22 +47,25 @@ loop-again c =
     let at-loop-test = at-of16 .before in
     let at-loop = at-loop-test .before in
     let h = sym (at-of16 .of16 .ensures) ∙ at-if1 .if1 .left in
-    let g = sym (c .before .before .before .of162 .ensures) ∙ c .before .before .if2 .left in
-    (omega arith, sym (lockstep-step _ _ _ _ _ _ _ _ _ _ _ _ _ (at-loop-test .loop-test .taken) h g (c .before .step-over .ensures .0) (c .before .step-over .ensures .1) (c .step-over2 .ensures .0) (c .step-over2 .ensures .1)) ∙ at-loop .loop .inv .1)
+    let g = sym (c .before .before .before .of162 .ensures) ∙ c .before .before .if2 .left in (
+      omega arith,
+      sym (lockstep-step _ _ _ _ _ _ _ _ _ _ _ _ _ (at-loop-test .loop-test .taken) h g
+          (c .before .step-over .ensures .0) (c .before .step-over .ensures .1) (c .step-over2 .ensures .0) (c .step-over2 .ensures .1))
+          ∙ at-loop .loop .inv .1,
+    )
 
--- src/walks.rt:35:1
 returns : tie.Need-returns Inv-loop μ-loop
 returns c = lockstep-none _ _ _ _ _ _ _ _ _ (c .loop-test .left) ∙ c .before .loop .inv .1
 
--- src/walks.rt:35:1
 returns-2 : tie.Need-returns-2 Inv-loop μ-loop
-returns-2 c = lockstep-first _ _ _ _ _ _ _ _ _ (λ e. c .if1 .taken (c .before .of16 .ensures ∙ e)) ∙ c .before .before .before .loop .inv .1
+returns-2 c =
+    lockstep-first _ _ _ _ _ _ _ _ _ (λ e. c .if1 .taken (c .before .of16 .ensures ∙ e)) ∙ c .before .before .before .loop .inv .1
 
--- src/walks.rt:35:1
 returns-3 : tie.Need-returns-3 Inv-loop μ-loop
 returns-3 c =
     let at-loop = c .before .before .before .before .before in
-    lockstep-second _ _ _ _ _ _ _ _ _ (sym (c .before .before .before .of16 .ensures) ∙ c .before .before .if1 .left) (λ e. c .if2 .taken (c .before .of162 .ensures ∙ e)) ∙ at-loop .loop .inv .1
+    lockstep-second _ _ _ _ _ _ _ _ _ (sym (c .before .before .before .of16 .ensures) ∙ c .before .before .if1 .left)
+    (λ e. c .if2 .taken (c .before .of162 .ensures ∙ e)) ∙ at-loop .loop .inv .1
 
 pub walk-lockstep-spec : {M : Type 1} → statement M
 walk-lockstep-spec =

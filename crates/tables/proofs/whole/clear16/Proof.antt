@@ -1,53 +1,45 @@
-use Rattle.tables.proofs.Lists.{clear-more, clear-all}
-use lib.ListN.{length, replicate, drop, length-set}
-use borrow.Author.Needs.{needs}
-use borrow.Author.Fill.{fill-none}
-use native.Mathlib.Omega.{arith}
-use Prim.Native.Nat.{_-_, _≤_}
 use mathlib.Core.List.{_++_}
 use mathlib.Core.Path.{_≡_, refl}
+use Prim.Native.Nat.{_-_, _≤_}
+use native.Mathlib.Omega.{arith}
+use borrow.Author.Needs.{needs}
+use borrow.Author.Fill.{fill-none}
+use lib.ListN.{length, replicate, drop, length-set}
+use Rattle.tables.proofs.Lists.{clear-more, clear-all}
 use Rattle.tables.proofs.whole.clear16.Statement.{statement}
 use Rattle.tables.proofs.whole.clear16.Tie as tie
-use Rattle.tables.proofs.whole.clear16.Reads as reads
-use Rattle.tables.proofs.whole.clear16.Lts as lts
 
+-- the first i elements are 0, the others as they came
 abbrev Inv-loop : tie.InvT-loop
-Inv-loop xs₀ i₀ xs i = (i ≤ length xs₀) × ((length xs ≡ length xs₀) × (xs ≡ replicate i 0 ++ drop i xs₀))
+Inv-loop narrow₀ i₀ narrow i =
+    (i ≤ length narrow₀) × ((length narrow ≡ length narrow₀) × (narrow ≡ replicate i 0 ++ drop i narrow₀))
 
 abbrev μ-loop : tie.MeasureT-loop
-μ-loop xs₀ i₀ xs i = length xs₀ - i
+μ-loop narrow₀ i₀ narrow i = length narrow₀ - i
 
--- src/whole.rt:11:5
 loop-holds : tie.Need-loop-holds Inv-loop μ-loop
 loop-holds c = (omega arith, (refl, fill-none _ 0))
 
--- src/whole.rt:12:9
-mul-xs : tie.Need-mul-xs Inv-loop μ-loop
-mul-xs c = search needs
+mul-narrow : tie.Need-mul-narrow Inv-loop μ-loop
+mul-narrow c = search needs
 
--- src/whole.rt:12:9
-slice-write-xs : tie.Need-slice-write-xs Inv-loop μ-loop
-slice-write-xs c = omega arith
+slice-write-narrow : tie.Need-slice-write-narrow Inv-loop μ-loop
+slice-write-narrow c = omega arith
 
--- src/whole.rt:13:9
 add-i : tie.Need-add-i Inv-loop μ-loop
 add-i c = omega arith
 
--- src/whole.rt:11:5
 loop-less : tie.Need-loop-less Inv-loop μ-loop
 loop-less c = omega arith
 
--- src/whole.rt:11:5
 loop-again : tie.Need-loop-again Inv-loop μ-loop
 loop-again c =
     let inv = c .before .loop .inv in
     (omega arith, (rw length-set (inv .1 .0), clear-more _ _ _ (omega arith) (inv .1 .1)))
 
--- src/whole.rt:7:1
 same-length : tie.Need-same-length Inv-loop μ-loop
 same-length c = c .before .loop .inv .1 .0
 
--- src/whole.rt:7:1
 returns : tie.Need-returns Inv-loop μ-loop
 returns c = let inv = c .before .loop .inv in clear-all _ _ _ (inv .0) (omega arith) (inv .1 .1)
 
@@ -58,8 +50,8 @@ clear16-spec =
     Inv-loop
     μ-loop
     loop-holds
-    mul-xs
-    slice-write-xs
+    mul-narrow
+    slice-write-narrow
     add-i
     loop-less
     loop-again

@@ -1,54 +1,39 @@
-use Rattle.tables.proofs.Lists.{tables-same}
-use Rattle.tables.specs.Steps.{zeroed}
 use borrow.Author.Needs.{needs}
+use Rattle.tables.specs.Steps.{zeroed}
+use Rattle.tables.proofs.Lists.{tables-same}
 use Rattle.tables.proofs.whole.clear_tables.Statement.{statement}
 use Rattle.tables.proofs.whole.clear_tables.Tie as tie
-use Rattle.tables.proofs.whole.clear_tables.Reads as reads
-use Rattle.tables.proofs.whole.clear_tables.Lts as lts
-use Rattle.tables.proofs.whole.clear16.Reads as clear16-reads
-use Rattle.tables.proofs.whole.clear32.Reads as clear32-reads
 
--- src/whole.rt:37:5
 clear16-requires : tie.Need-clear16-requires
 clear16-requires c κs = search needs
 
--- src/whole.rt:38:5
 clear16-requires-2 : tie.Need-clear16-requires-2
 clear16-requires-2 c κs = search needs
 
--- src/whole.rt:39:5
 clear16-requires-3 : tie.Need-clear16-requires-3
 clear16-requires-3 c κs = search needs
 
--- src/whole.rt:40:5
 clear32-requires : tie.Need-clear32-requires
 clear32-requires c κs = search needs
 
--- src/whole.rt:41:5
 clear32-requires-2 : tie.Need-clear32-requires-2
 clear32-requires-2 c κs = search needs
 
--- src/whole.rt:27:1
 same-length : tie.Need-same-length
 same-length c = search needs
 
--- src/whole.rt:27:1
 same-length-2 : tie.Need-same-length-2
 same-length-2 c = search needs
 
--- src/whole.rt:27:1
 same-length-3 : tie.Need-same-length-3
 same-length-3 c = search needs
 
--- src/whole.rt:27:1
 same-length-4 : tie.Need-same-length-4
 same-length-4 c = search needs
 
--- src/whole.rt:27:1
 same-length-5 : tie.Need-same-length-5
 same-length-5 c = search needs
 
--- src/whole.rt:27:1
 returns : tie.Need-returns
 unfolding zeroed
 returns c =
@@ -56,7 +41,8 @@ returns c =
     let at-clear163 = at-clear32 .before .before .before .before in
     let at-clear162 = at-clear163 .before .before .before .before in
     let at-clear16 = at-clear162 .before .before .before .before in
-    tables-same (at-clear16 .clear16 .ensures) (at-clear162 .clear162 .ensures) (at-clear163 .clear163 .ensures) (at-clear32 .clear32 .ensures) (c .before .before .clear322 .ensures)
+    tables-same (at-clear16 .clear16 .ensures) (at-clear162 .clear162 .ensures) (at-clear163 .clear163 .ensures)
+    (at-clear32 .clear32 .ensures) (c .before .before .clear322 .ensures)
 
 pub clear-tables-spec : {M : Type 1} → statement M
 clear-tables-spec =

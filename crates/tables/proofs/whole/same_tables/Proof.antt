@@ -1,56 +1,41 @@
-use Rattle.tables.proofs.Lists.{tables-same, not-same, same-no}
-use Rattle.model.specs.Tables.{Tables}
-use borrow.Author.Tests.{not-false}
 use mathlib.Core.Path.{ap, refl}
+use borrow.Author.Tests.{not-false}
 use borrow.Author.Needs.{needs}
+use Rattle.model.specs.Tables.{Tables}
+use Rattle.tables.proofs.Lists.{tables-same, not-same, same-no}
 use Rattle.tables.proofs.whole.same_tables.Statement.{statement}
 use Rattle.tables.proofs.whole.same_tables.Tie as tie
-use Rattle.tables.proofs.whole.same_tables.Reads as reads
-use Rattle.tables.proofs.whole.same_tables.Lts as lts
-use Rattle.tables.proofs.whole.same16.Reads as same16-reads
-use Rattle.tables.proofs.whole.same32.Reads as same32-reads
 
--- src/whole.rt:94:9
 same16-requires : tie.Need-same16-requires
 same16-requires c κs = search needs
 
--- src/whole.rt:95:9
 returns : tie.Need-returns
 returns c = same-no _ _ (λ e. not-same _ _ (c .if1 .taken) (c .before .same16 .ensures .1) (ap (λ (t : Tables). t .degrees) e))
 
--- src/whole.rt:97:9
 same16-requires-2 : tie.Need-same16-requires-2
 same16-requires-2 c κs = search needs
 
--- src/whole.rt:98:9
 returns-2 : tie.Need-returns-2
 returns-2 c = same-no _ _ (λ e. not-same _ _ (c .if2 .taken) (c .before .same162 .ensures .1) (ap (λ (t : Tables). t .sides) e))
 
--- src/whole.rt:100:9
 same16-requires-3 : tie.Need-same16-requires-3
 same16-requires-3 c κs = search needs
 
--- src/whole.rt:101:9
 returns-3 : tie.Need-returns-3
 returns-3 c = same-no _ _ (λ e. not-same _ _ (c .if3 .taken) (c .before .same163 .ensures .1) (ap (λ (t : Tables). t .ends) e))
 
--- src/whole.rt:103:9
 same32-requires : tie.Need-same32-requires
 same32-requires c κs = search needs
 
--- src/whole.rt:104:9
 returns-4 : tie.Need-returns-4
 returns-4 c = same-no _ _ (λ e. not-same _ _ (c .if4 .taken) (c .before .same32 .ensures .1) (ap (λ (t : Tables). t .lengths) e))
 
--- src/whole.rt:106:9
 same32-requires-2 : tie.Need-same32-requires-2
 same32-requires-2 c κs = search needs
 
--- src/whole.rt:107:9
 returns-5 : tie.Need-returns-5
 returns-5 c = same-no _ _ (λ e. not-same _ _ (c .if5 .taken) (c .before .same322 .ensures .1) (ap (λ (t : Tables). t .labels) e))
 
--- src/whole.rt:77:1
 returns-6 : tie.Need-returns-6
 returns-6 c =
     let at-if3 = c .before .before .before .before in
@@ -59,7 +44,11 @@ returns-6 c =
     let at-same162 = at-if2 .before in
     let at-if1 = at-same162 .before in
     let at-same16 = at-if1 .before in (
-      λ _. tables-same (at-same16 .same16 .ensures .0 (not-false _ (at-if1 .if1 .left))) (at-same162 .same162 .ensures .0 (not-false _ (at-if2 .if2 .left))) (at-same163 .same163 .ensures .0 (not-false _ (at-if3 .if3 .left))) (c .before .before .before .same32 .ensures .0 (not-false _ (c .before .before .if4 .left))) (c .before .same322 .ensures .0 (not-false _ (c .if5 .left))),
+      λ _. tables-same (at-same16 .same16 .ensures .0 (not-false _ (at-if1 .if1 .left)))
+          (at-same162 .same162 .ensures .0 (not-false _ (at-if2 .if2 .left)))
+          (at-same163 .same163 .ensures .0 (not-false _ (at-if3 .if3 .left)))
+          (c .before .before .before .same32 .ensures .0 (not-false _ (c .before .before .if4 .left)))
+          (c .before .same322 .ensures .0 (not-false _ (c .if5 .left))),
       λ _. refl,
     )
 
