@@ -1,0 +1,61 @@
+use borrow.Author.Needs.{needs}
+use native.Mathlib.Omega.{arith}
+use lib.ListN.{length}
+use Prim.Native.Nat.{_+_, _≤_}
+use mathlib.Core.Path.{_≡_, refl}
+use Rattle.values.proofs.lists.put_chain.Statement.{statement}
+use Rattle.values.proofs.lists.put_chain.Tie as tie
+use Rattle.values.proofs.lists.put_edge.Reads as put-edge-reads
+
+abbrev Inv-loop : tie.InvT-loop
+Inv-loop out₀ at n next₀ v₀ left₀ out next v left = (length out ≡ length out₀) × (v + left ≤ 65535)
+
+abbrev μ-loop : tie.MeasureT-loop
+μ-loop out₀ at n next₀ v₀ left₀ out next v left = left
+
+loop-holds : tie.Need-loop-holds Inv-loop μ-loop
+loop-holds c = (refl, omega arith)
+
+add-put-edge : tie.Need-add-put-edge Inv-loop μ-loop
+add-put-edge c = omega (arith, c .before .before .loop .inv .1)
+
+put-edge-requires : tie.Need-put-edge-requires Inv-loop μ-loop
+put-edge-requires c κs = search needs
+
+add-v : tie.Need-add-v Inv-loop μ-loop
+add-v c =
+    let at-loop = c .before .before .before .before .before in
+    omega (arith, at-loop .loop .inv .1)
+
+sub-left : tie.Need-sub-left Inv-loop μ-loop
+sub-left c = omega arith
+
+loop-less : tie.Need-loop-less Inv-loop μ-loop
+loop-less c = omega arith
+
+loop-again : tie.Need-loop-again Inv-loop μ-loop
+loop-again c =
+    let at-loop = c .before .before .before .before .before in
+    (omega (arith, at-loop .loop .inv .0), omega (arith, at-loop .loop .inv .1))
+
+same-length : tie.Need-same-length Inv-loop μ-loop
+same-length c = c .before .loop .inv .0
+
+returns : tie.Need-returns Inv-loop μ-loop
+returns c = search needs
+
+pub put-chain-spec : {M : Type 1} → statement M
+put-chain-spec =
+    tie.close
+    (tie.spec
+    Inv-loop
+    μ-loop
+    loop-holds
+    add-put-edge
+    put-edge-requires
+    add-v
+    sub-left
+    loop-less
+    loop-again
+    same-length
+    returns)

@@ -1,0 +1,98 @@
+// Runs the values of document 01 that are not proved as theorems, and the full-size ones. Each line of the output is: fittings,
+// pipes, and where the list stopped (record and refusal, or 0 0).
+mod lists;
+
+use counters::answers::ListAnswer;
+use counters::counts::Counts;
+use counters::refusals::Refusal;
+use lists::put_chain;
+use lists::put_edge;
+use lists::put_start;
+use register::records::land_list;
+use text::lines::put_line4;
+use text::put_byte;
+
+fn record_of(answer: ListAnswer) -> u64 {
+    match answer {
+        ListAnswer::Whole => 0,
+        ListAnswer::Stopped(record, refusal) => record as u64,
+        ListAnswer::Refused(refusal) => 0,
+    }
+}
+
+fn refusal_of(answer: ListAnswer) -> u64 {
+    match answer {
+        ListAnswer::Whole => 0,
+        ListAnswer::Stopped(record, refusal) => refusal.number() as u64,
+        ListAnswer::Refused(refusal) => refusal.number() as u64,
+    }
+}
+
+// The line of the list that the first n bytes are.
+fn put_result(out: &mut [u8], at: usize, bytes: &[u8], n: usize) -> usize {
+    if bytes.len() < n {
+        return at;
+    }
+    let mut degrees = [0u16; 4096];
+    let mut sides = [0u16; 8192];
+    let mut ends = [0u16; 8192];
+    let mut lengths = [0u32; 4096];
+    let mut labels = [0u32; 4096];
+    let landing = land_list(
+        &mut degrees,
+        &mut sides,
+        &mut ends,
+        &mut lengths,
+        &mut labels,
+        Counts::none(),
+        &bytes[..n],
+    );
+    let counts = landing.counts;
+    let answer = landing.answer;
+    let vertices = counts.vertices;
+    let edges = counts.edges;
+    put_line4(
+        out,
+        at,
+        vertices as u64,
+        edges as u64,
+        record_of(answer),
+        refusal_of(answer),
+    )
+}
+
+fn show(text: &[u8], n: usize) {
+    if n <= text.len() {
+        io::write_all(1, &text[..n]);
+    }
+}
+
+fn main() {
+    let mut out = [0u8; 1024];
+    let mut list = [0u8; 65536];
+
+    // 4,096 fittings land, and a 4,097th is refusal 22.
+    let full = put_start(&mut list, 4096);
+    let mut at = put_result(&mut out, 0, &list, full);
+    let over = put_byte(&mut list, full, 0x46);
+    at = put_result(&mut out, at, &list, over);
+
+    // 4,096 pipes land: a line over most fittings, and four pipes between the last three.
+    let line = put_chain(&mut list, full, 4093);
+    let first = put_edge(&mut list, line, 4093, 4094, 1);
+    let second = put_edge(&mut list, first, 4094, 4095, 1);
+    let third = put_edge(&mut list, second, 4093, 4094, 1);
+    let pipes = put_edge(&mut list, third, 4094, 4095, 1);
+    at = put_result(&mut out, at, &list, pipes);
+
+    // Full and ring together: 23. One more pipe of any kind: 23.
+    let ring = put_edge(&mut list, pipes, 0, 4092, 1);
+    at = put_result(&mut out, at, &list, ring);
+    let more = put_edge(&mut list, pipes, 0, 4094, 1);
+    at = put_result(&mut out, at, &list, more);
+
+    // A last record of the one byte 0x00: 4.
+    let zero = put_byte(&mut list, full, 0);
+    at = put_result(&mut out, at, &list, zero);
+    show(&out, at);
+}
