@@ -9,7 +9,7 @@ use Rattle.model.specs.Register.{Register, empty}
 use Rattle.model.specs.Format.{Read, growList, landList}
 use Rattle.model.specs.Queries.{read, refuses}
 use Rattle.model.specs.Tables.{Tables, cleared, countsOf, fits, held, noCounts, rightSizes, sizes, storedOf, tablesOf}
-use Rattle.model.specs.Calls.{Call, Lent, Outcome, allFit, bars, effect, gate, grows, lands, readEffect, registerFor, scratchAfter, sliceOf, step}
+use Rattle.model.specs.Calls.{Call, Lent, Outcome, allFit, bars, effect, gate, grows, lands, readEffect, registerFor, scratchAfter, lentSlice, step}
 use Rattle.model.specs.Computing.{computing}
 use Rattle.tables.specs.Steps.{tables, zeroed}
 use Rattle.insertion.specs.Insertion.{done, landingIn}
@@ -31,7 +31,7 @@ readOutcome d = record { lent = record { stored = stored (d .tables) (d .counts)
 
 -- a refusal behind the sizes: scratch is cleared
 abbrev pub refusedOutcome : Call → Lent → ℕ → Outcome
-refusedOutcome c l x = record { lent = record { stored = l .stored; scratch = cleared }; slice = sliceOf c; reply = refuses x }
+refusedOutcome c l x = record { lent = record { stored = l .stored; scratch = cleared }; slice = lentSlice c; reply = refuses x }
 
 -- the replay of what is lent leaves just that
 abbrev pub Replays : Lent → Type 0
@@ -55,7 +55,7 @@ zeroed-cleared t h =
 
 -- ---- 25
 
-pub sizes-refused : (c : Call) (l : Lent) → allFit l ≡ false → record { lent = l; slice = sliceOf c; reply = refuses 25 } ≡ step c l
+pub sizes-refused : (c : Call) (l : Lent) → allFit l ≡ false → record { lent = l; slice = lentSlice c; reply = refuses 25 } ≡ step c l
 sizes-refused c l a = sym (step-refused c l a)
 
 -- ---- 21

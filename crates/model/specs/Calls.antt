@@ -58,13 +58,13 @@ effect (reaches v) r = answers r (reach r v)
 effect (measures v w) r = answers r (measure r v w)
 effect (sheets slice) r = sheetEffect r slice
 
-unfoldable pub sliceOf : Call → List ℕ
-sliceOf (grows bs) = []
-sliceOf (lands bs) = []
-sliceOf (finds label) = []
-sliceOf (reaches v) = []
-sliceOf (measures v w) = []
-sliceOf (sheets slice) = slice
+unfoldable pub lentSlice : Call → List ℕ
+lentSlice (grows bs) = []
+lentSlice (lands bs) = []
+lentSlice (finds label) = []
+lentSlice (reaches v) = []
+lentSlice (measures v w) = []
+lentSlice (sheets slice) = slice
 
 -- the register that a call finds: "never 21 for grow, which clears first"
 unfoldable pub registerFor : Call → Lent → Option Register
@@ -106,7 +106,7 @@ step c l =
       | bars n ↦
           record {
             lent = record { stored = l .stored; scratch = scratchAfter l };
-            slice = sliceOf c;
+            slice = lentSlice c;
             reply = refuses n;
           }
     ]

@@ -5,7 +5,7 @@ use mathlib.Core.Bool.{Bool, true, false, _&&_}
 use mathlib.Core.List.{List, []}
 use Rattle.model.specs.Queries.{Reply, refuses}
 use Rattle.model.specs.Tables.{Tables, Counts, fits, cleared, noCounts}
-use Rattle.model.specs.Calls.{Call, Lent, Outcome, grows, lands, allFit, sliceOf, step}
+use Rattle.model.specs.Calls.{Call, Lent, Outcome, grows, lands, allFit, lentSlice, step}
 use Rattle.tables.specs.Steps.{zeroed}
 use Rattle.insertion.specs.Insertion.{done, landingIn}
 use Rattle.agreement.specs.Listing as whole
@@ -37,11 +37,11 @@ module _ (t : Tables) (c : Counts) (s : Tables) (bs : List ℕ) where
   fit-not h = h
 
   pub grow-sizes : (fits t && fits s) ≡ false → outcomeOf t c (refuses 25) s ≡ step (grows bs) (lent t c s)
-  unfolding sliceOf
+  unfolding lentSlice
   grow-sizes h = sizes-refused (grows bs) (lent t c s) (fit-not h)
 
   pub land-sizes : (fits t && fits s) ≡ false → outcomeOf t c (refuses 25) s ≡ step (lands bs) (lent t c s)
-  unfolding sliceOf
+  unfolding lentSlice
   land-sizes h = sizes-refused (lands bs) (lent t c s) (fit-not h)
 
   -- zeros of the scratch's sizes
@@ -66,7 +66,7 @@ module _ (t : Tables) (c : Counts) (s : Tables) (bs : List ℕ) where
 
   pub land-not-grown : (s′ : Tables) (r : Bool) → (fits t && fits s) ≡ true → s′ ≡ zeroed s → Regrows r t c (zeroed s) → r ≡ false
       → outcomeOf t c (refuses 21) s′ ≡ step (lands bs) (lent t c s)
-  unfolding sliceOf
+  unfolding lentSlice
   land-not-grown s′ r h b g e =
       rw (scratch-is h s′ b) (land-refused bs (lent t c s) (fit-all h) (λ q. false-true (sym e ∙ (replays r h g) .1 q)))
 

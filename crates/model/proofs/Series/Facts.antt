@@ -12,7 +12,7 @@ use Rattle.model.specs.Register.{Register, empty}
 use Rattle.model.specs.Format.{growList}
 use Rattle.model.specs.Queries.{refuses}
 use Rattle.model.specs.Tables.{cleared, edgeLengths, endsOf, fits, held, padded, rightSizes, sidesOf, sizes, storedOf, tablesOf}
-use Rattle.model.specs.Calls.{Call, Lent, Outcome, admits, allFit, answers, bars, effect, finds, gate, grows, lands, measures, reaches, readEffect, registerFor, scratchAfter, sheets, sliceOf, step}
+use Rattle.model.specs.Calls.{Call, Lent, Outcome, admits, allFit, answers, bars, effect, finds, gate, grows, lands, measures, reaches, readEffect, registerFor, scratchAfter, sheets, lentSlice, step}
 use Rattle.model.specs.Series.{Made, after, afterCall, ask, start}
 use Rattle.model.specs.Computing.{computing}
 use Rattle.model.proofs.Basics.Lists.{length-upTo}
@@ -163,7 +163,7 @@ step-fits (reaches v) l r a h = step-admits (reaches v) l r a h
 step-fits (measures v w) l r a h = step-admits (measures v w) l r a h
 step-fits (sheets slice) l r a h = step-admits (sheets slice) l r a h
 
-pub step-refused : (c : Call) (l : Lent) → allFit l ≡ false → step c l ≡ record { lent = l; slice = sliceOf c; reply = refuses 25 }
+pub step-refused : (c : Call) (l : Lent) → allFit l ≡ false → step c l ≡ record { lent = l; slice = lentSlice c; reply = refuses 25 }
 unfolding step
 step-refused c l a = rw (gate-bars c l a, step) (rw (scratch-kept l a))
 

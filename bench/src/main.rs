@@ -1,0 +1,115 @@
+//! Growing lists of 512 to 4,096 pipes: the proved register, called as from C, against the same algorithm in plain Rust, in one run.
+//! Each figure is the least of many rounds, in microseconds; the ratio is proved / plain.
+
+mod plain;
+
+use std::hint::black_box;
+use std::time::Instant;
+
+extern "C" {
+    fn pnl_find(list: *const u8, list_len: usize, tag: u32, answer: *mut u8, answer_len: usize) -> i32;
+}
+
+/// Grows the list and looks for tag 0, which no coupling wears: refusal 8, or the list's own refusal.
+fn proved(list: &[u8]) -> i32 {
+    let mut answer = [0u8; 4];
+    unsafe { pnl_find(list.as_ptr(), list.len(), 0, answer.as_mut_ptr(), answer.len()) }
+}
+
+fn plain(list: &[u8]) -> i32 {
+    let (register, refusal) = plain::Register::grow(list);
+    black_box(register.relabellings);
+    if refusal == 0 {
+        -8
+    } else {
+        -(refusal as i32)
+    }
+}
+
+struct Random(u64);
+
+impl Random {
+    fn below(&mut self, n: usize) -> usize {
+        self.0 ^= self.0 << 13;
+        self.0 ^= self.0 >> 7;
+        self.0 ^= self.0 << 17;
+        (self.0 % n as u64) as usize
+    }
+}
+
+fn list(vertices: usize, edges: &[(usize, usize)]) -> Vec<u8> {
+    let mut bytes = b"PNL\x01\x00".to_vec();
+    bytes.resize(5 + vertices, 0x46);
+    for &(a, b) in edges {
+        bytes.push(0x50);
+        bytes.extend((a as u16).to_le_bytes());
+        bytes.extend((b as u16).to_le_bytes());
+        bytes.extend(1000u32.to_le_bytes());
+    }
+    bytes
+}
+
+fn line(n: usize) -> Vec<(usize, usize)> {
+    (1..n).map(|v| (v - 1, v)).collect()
+}
+
+fn shuffled(mut edges: Vec<(usize, usize)>, random: &mut Random) -> Vec<(usize, usize)> {
+    for i in (1..edges.len()).rev() {
+        edges.swap(i, random.below(i + 1));
+    }
+    edges
+}
+
+/// A line whose pieces are always joined to pieces of their own size.
+fn balanced(n: usize) -> Vec<(usize, usize)> {
+    let mut edges = Vec::new();
+    let mut piece = 1;
+    while piece < n {
+        edges.extend((piece..n).step_by(2 * piece).map(|v| (v - 1, v)));
+        piece *= 2;
+    }
+    edges
+}
+
+fn tree(n: usize, random: &mut Random) -> Vec<(usize, usize)> {
+    (1..n).map(|v| (random.below(v), v)).collect()
+}
+
+fn comb(n: usize) -> Vec<(usize, usize)> {
+    let spine = n / 2;
+    let mut edges = line(spine);
+    edges.extend((0..n - spine).map(|i| (i, spine + i)));
+    edges
+}
+
+/// The least time of many rounds, in microseconds.
+fn least(rounds: usize, mut run: impl FnMut() -> i32) -> f64 {
+    let mut best = f64::MAX;
+    for _ in 0..rounds {
+        let start = Instant::now();
+        black_box(run());
+        best = best.min(start.elapsed().as_secs_f64());
+    }
+    best * 1e6
+}
+
+fn main() {
+    let mut random = Random(0x9E37_79B9_7F4A_7C15);
+    println!("{:<28} {:>6} {:>9} {:>9} {:>6}", "shape", "pipes", "proved", "plain", "ratio");
+    for n in [512, 1024, 2048, 4096] {
+        let shapes = [
+            ("line in order", line(n)),
+            ("line in random order", shuffled(line(n), &mut random)),
+            ("balanced merges", balanced(n)),
+            ("random tree", tree(n, &mut random)),
+            ("comb", comb(n)),
+        ];
+        for (name, edges) in shapes {
+            let bytes = list(n, &edges);
+            assert_eq!(proved(&bytes), plain(&bytes), "{name}");
+            let proved = least(400, || proved(black_box(&bytes)));
+            let plain = least(400, || plain(black_box(&bytes)));
+            println!("{name:<28} {:>6} {proved:>9.1} {plain:>9.1} {:>6.2}", edges.len(), proved / plain);
+        }
+    }
+}
