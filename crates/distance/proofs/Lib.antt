@@ -1,0 +1,8 @@
+pub mod Edges
+pub mod Counting
+pub mod Settled
+pub mod Relaxing
+pub mod Rounds
+pub mod Answers
+pub mod Registers
+pub mod Measuring

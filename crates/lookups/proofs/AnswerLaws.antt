@@ -1,0 +1,63 @@
+-- What the three queries compute over the tables of a register is what they are defined to answer.
+use mathlib.Core.Path.{_≡_, refl, sym, ap, _∙_}
+use Prim.Native.Nat.{ℕ, _*_}
+use mathlib.Core.Bool.{Bool, true, false}
+use mathlib.Core.List.{List, []}
+use lib.ListN.{length, take}
+use lib.Seq.{take-length}
+use lib.Dec.{ltb}
+use Rattle.model.specs.Register.{Register}
+use Rattle.model.specs.Queries.{Reply, concat, find, reach, sheet, sheetNumbers}
+use Rattle.model.specs.Tables.{Tables, Counts, tablesOf}
+use Rattle.model.specs.Calls.{finds, reaches, sheets, answers, effect, sheetEffect}
+use Rattle.model.proofs.Chains.Sheet.{sheet-length}
+use Rattle.tables.specs.Steps.{tables}
+use Rattle.queries.specs.Chains.{findIn, reachIn, sheetIn}
+use Rattle.queries.specs.Answers.{inFront}
+use Rattle.agreement.proofs.Growing.{Grown, labels-long}
+use Rattle.agreement.proofs.Finding.{find-agrees, reach-agrees}
+use Rattle.agreement.proofs.Sheeting.{sheet-agrees}
+use Rattle.lookups.specs.Answering.{Sheeted, sheeted, sheetedIn}
+use Rattle.lookups.proofs.QueryLaws.{Answers}
+
+-- the table of labels has 4,096 elements, so all are looked at
+labels-whole : (r : Register) → Grown r → (labels : List ℕ) → (tablesOf r) .labels ≡ labels → take 4096 labels ≡ labels
+unfolding tablesOf
+labels-whole r g labels e =
+    let n : 4096 ≡ length labels = sym (labels-long r g) ∙ ap (λ (xs : List ℕ). length xs) e in
+    rw n (take-length labels)
+
+pub find-answers : (d s e l labels : List ℕ) (c : Counts) (label : ℕ) (a : Reply)
+    → a ≡ findIn (tables d s e l (take 4096 labels)) c label → Answers (finds label) (tables d s e l labels) c [] a
+unfolding effect answers
+find-answers d s e l labels c label a h r g i j =
+    let w : take 4096 labels ≡ labels = labels-whole r g labels (ap (λ (t : Tables). t .labels) i) in
+    let f : findIn (tables d s e l labels) c label ≡ find r label = rw (i, j) at (find-agrees r g label) in
+    rw (h, w, f)
+
+pub reach-answers : (t : Tables) (c : Counts) (v : ℕ) (a : Reply) → a ≡ reachIn t c v → Answers (reaches v) t c [] a
+unfolding effect answers
+reach-answers t c v a h r g i j =
+    let f : reachIn t c v ≡ reach r v = rw (i, j) at (reach-agrees r g v) in
+    rw (h, f)
+
+numbers-are : (r : Register) → concat (sheet r) ≡ sheetNumbers r
+unfolding sheetNumbers
+numbers-are r = refl
+
+pub sheet-answers : (t : Tables) (c : Counts) (xs ys : List ℕ) (a : Reply) → sheeted ys a ≡ sheetedIn t c xs
+    → Answers (sheets xs) t c ys a
+unfolding effect sheetEffect sheetedIn inFront
+sheet-answers t c xs ys a h r g i j = go (ltb (length xs) (5 * length (sheet r))) refl
+  where
+    rows-are : sheetIn t c ≡ sheet r
+    rows-are = rw (i, j) at (sheet-agrees r g)
+
+    go : (b : Bool) → ltb (length xs) (5 * length (sheet r)) ≡ b
+        → effect (sheets xs) r ≡ record { leaves = r; slice = ys; reply = a }
+    go true e =
+        let k = rw (rows-are, e) at h in
+        rw (sheet-length r, e, ap (λ (x : Sheeted). x .slice) k, ap (λ (x : Sheeted). x .reply) k)
+    go false e =
+        let k = rw (rows-are, numbers-are r, sheet-length r, e) at h in
+        rw (sheet-length r, e, ap (λ (x : Sheeted). x .slice) k, ap (λ (x : Sheeted). x .reply) k)

@@ -1,0 +1,4 @@
+pub mod GateLaws
+pub mod QueryLaws
+pub mod AnswerLaws
+pub mod TableLaws

@@ -1,0 +1,97 @@
+// Find: a label (document 01: tag) gives the name of its chain (run), or 8.
+use crate::gate::Gate;
+use crate::gate::pass_gate;
+use counters::counts::Counts;
+use counters::numbers::Label;
+use counters::refusals::Refusal;
+use queries::lookup::Found as Wearer;
+use queries::lookup::find_wearer;
+use queries::lookup::name_of;
+use tables::steps::low_edge;
+ghost use mathlib.Core.Path.{_≡_};
+ghost use mathlib.Core.List.{List, []};
+ghost use Prim.Native.Nat.{ℕ};
+ghost use lib.ListN.{take};
+ghost use Rattle.model.specs.Calls.{finds, step};
+ghost use Rattle.counters.specs.Answers.{countsIn};
+ghost use Rattle.tables.specs.Steps.{tables};
+ghost use Rattle.queries.specs.Chains.{findIn};
+ghost use Rattle.register.specs.Meaning.{lent};
+ghost use Rattle.lookups.specs.Meaning.{answered, foundReply};
+
+// The name of a chain, which is the lowest number of an edge there.
+pub enum Found {
+    Chain(u16),
+    Refused(Refusal),
+}
+
+// Label 0 stands at every vertex that has none, so it is not looked for.
+fn find_in(
+    degrees: &[u16],
+    sides: &[u16],
+    ends: &[u16],
+    labels: &[u32],
+    counts: Counts,
+    label: Label,
+) -> Found
+    ensures { λ r. ⌜ ((lengths : List ℕ) → foundReply r
+        ≡ findIn (tables (now (degrees .entry)) (now (sides .entry)) (now (ends .entry)) lengths (take 4096 (now (labels .entry))))
+        (countsIn counts) (label .0)) ⌝ }
+{
+    let x = label.0;
+    if x == 0 {
+        return Found::Refused(Refusal::NotRegular);
+    }
+    let wearer = find_wearer(labels, x);
+    match wearer {
+        Wearer::At(v) => {
+            let edge = low_edge(sides, v);
+            let name = name_of(degrees, sides, ends, edge, counts.edges);
+            Found::Chain(name)
+        }
+        Wearer::Nothing => Found::Refused(Refusal::NotRegular),
+    }
+}
+
+pub fn find(
+    degrees: &[u16],
+    sides: &[u16],
+    ends: &[u16],
+    lengths: &[u32],
+    labels: &[u32],
+    counts: Counts,
+    sdegrees: &mut [u16],
+    ssides: &mut [u16],
+    sends: &mut [u16],
+    slengths: &mut [u32],
+    slabels: &mut [u32],
+    label: Label,
+) -> Found
+    ensures { λ r. ⌜ answered
+        (tables (now (degrees .entry)) (now (sides .entry)) (now (ends .entry)) (now (lengths .entry)) (now (labels .entry)))
+        (countsIn counts)
+        (tables (now (sdegrees .exit)) (now (ssides .exit)) (now (sends .exit)) (now (slengths .exit)) (now (slabels .exit)))
+        [] (foundReply r)
+        ≡ step (finds (label .0))
+        (lent (tables (now (degrees .entry)) (now (sides .entry)) (now (ends .entry)) (now (lengths .entry)) (now (labels .entry)))
+        (countsIn counts)
+        (tables (now (sdegrees .entry)) (now (ssides .entry)) (now (sends .entry)) (now (slengths .entry)) (now (slabels .entry)))) ⌝ }
+{
+    let passed = pass_gate(
+        degrees,
+        sides,
+        ends,
+        lengths,
+        labels,
+        counts,
+        sdegrees,
+        ssides,
+        sends,
+        slengths,
+        slabels,
+    );
+    match passed {
+        Gate::Open => find_in(degrees, sides, ends, labels, counts, label),
+        Gate::Refused(refusal) => Found::Refused(refusal),
+    }
+}

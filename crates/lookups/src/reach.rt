@@ -1,0 +1,122 @@
+// Reach: a regular vertex (document 01: coupling) gives the lengths to the two ends of its chain (run); 5, then 8.
+use crate::gate::Gate;
+use crate::gate::pass_gate;
+use counters::counts::Counts;
+use counters::numbers::Vertex;
+use counters::refusals::Refusal;
+use queries::walks::walk_chain;
+use tables::access::add32;
+use tables::access::at16;
+use tables::access::of16;
+use tables::access::of32;
+use tables::steps::far_end;
+ghost use mathlib.Core.Path.{_≡_};
+ghost use mathlib.Core.List.{List, []};
+ghost use Prim.Native.Nat.{ℕ};
+ghost use Rattle.model.specs.Calls.{reaches, step};
+ghost use Rattle.counters.specs.Answers.{countsIn};
+ghost use Rattle.tables.specs.Steps.{tables};
+ghost use Rattle.queries.specs.Chains.{lengthToIn, reachIn};
+ghost use Rattle.register.specs.Meaning.{lent};
+ghost use Rattle.lookups.specs.Meaning.{answered, reachedReply};
+
+// The lengths in millimetres: to the low end first, then to the high end.
+pub enum Reached {
+    Lengths(u32, u32),
+    Refused(Refusal),
+}
+
+// From vertex v along its edge to the chain's end.
+fn length_to(
+    degrees: &[u16],
+    sides: &[u16],
+    ends: &[u16],
+    lengths: &[u32],
+    edge: u16,
+    v: u16,
+    fuel: u16,
+) -> u32
+    ensures { λ r. ⌜ ((labels : List ℕ) → r
+        ≡ lengthToIn (tables (now (degrees .entry)) (now (sides .entry)) (now (ends .entry)) (now (lengths .entry)) labels)
+        fuel edge v) ⌝ }
+{
+    let onwards = walk_chain(
+        degrees,
+        sides,
+        ends,
+        lengths,
+        edge,
+        far_end(ends, edge, v),
+        fuel,
+    );
+    add32(of32(lengths, edge), onwards.length)
+}
+
+fn reach_in(
+    degrees: &[u16],
+    sides: &[u16],
+    ends: &[u16],
+    lengths: &[u32],
+    counts: Counts,
+    vertex: Vertex,
+) -> Reached
+    ensures { λ r. ⌜ ((labels : List ℕ) → reachedReply r
+        ≡ reachIn (tables (now (degrees .entry)) (now (sides .entry)) (now (ends .entry)) (now (lengths .entry)) labels)
+        (countsIn counts) (vertex .0)) ⌝ }
+{
+    let v = vertex.0;
+    if counts.vertices <= v {
+        return Reached::Refused(Refusal::NotLanded);
+    }
+    if of16(degrees, v) != 2 {
+        return Reached::Refused(Refusal::NotRegular);
+    }
+    let i = 2 * (v as usize);
+    let edges = counts.edges;
+    let low = length_to(degrees, sides, ends, lengths, at16(sides, i), v, edges);
+    let high = length_to(degrees, sides, ends, lengths, at16(sides, i + 1), v, edges);
+    Reached::Lengths(low, high)
+}
+
+pub fn reach(
+    degrees: &[u16],
+    sides: &[u16],
+    ends: &[u16],
+    lengths: &[u32],
+    labels: &[u32],
+    counts: Counts,
+    sdegrees: &mut [u16],
+    ssides: &mut [u16],
+    sends: &mut [u16],
+    slengths: &mut [u32],
+    slabels: &mut [u32],
+    vertex: Vertex,
+) -> Reached
+    ensures { λ r. ⌜ answered
+        (tables (now (degrees .entry)) (now (sides .entry)) (now (ends .entry)) (now (lengths .entry)) (now (labels .entry)))
+        (countsIn counts)
+        (tables (now (sdegrees .exit)) (now (ssides .exit)) (now (sends .exit)) (now (slengths .exit)) (now (slabels .exit)))
+        [] (reachedReply r)
+        ≡ step (reaches (vertex .0))
+        (lent (tables (now (degrees .entry)) (now (sides .entry)) (now (ends .entry)) (now (lengths .entry)) (now (labels .entry)))
+        (countsIn counts)
+        (tables (now (sdegrees .entry)) (now (ssides .entry)) (now (sends .entry)) (now (slengths .entry)) (now (slabels .entry)))) ⌝ }
+{
+    let passed = pass_gate(
+        degrees,
+        sides,
+        ends,
+        lengths,
+        labels,
+        counts,
+        sdegrees,
+        ssides,
+        sends,
+        slengths,
+        slabels,
+    );
+    match passed {
+        Gate::Open => reach_in(degrees, sides, ends, lengths, counts, vertex),
+        Gate::Refused(refusal) => Reached::Refused(refusal),
+    }
+}

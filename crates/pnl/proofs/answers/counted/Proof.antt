@@ -1,0 +1,13 @@
+use Rattle.pnl.proofs.Values.{count-is}
+use borrow.Author.Needs.{needs}
+use Rattle.pnl.proofs.answers.counted.Statement.{statement}
+use Rattle.pnl.proofs.answers.counted.Tie as tie
+
+cast-result : tie.Need-cast-result
+cast-result c = search needs
+
+returns : tie.Need-returns
+returns c = count-is _ (c .pre)
+
+pub counted-spec : {M : Type 1} → statement M
+counted-spec = tie.close (tie.spec cast-result returns)

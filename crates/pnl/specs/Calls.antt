@@ -1,0 +1,54 @@
+-- What the calls from C do, as functions on the tables that mirror the code.
+use Prim.Native.Nat.{ℕ}
+use mathlib.Core.List.{List}
+use lib.IntN.{ℤ}
+use Rattle.model.specs.Format.{whole, stopped}
+use Rattle.model.specs.FromC.{Returned}
+use Rattle.model.specs.Queries.{Reply, read, found, reached, measured, listed, refuses}
+use Rattle.model.specs.Tables as T
+use Rattle.counters.specs.Answers.{countsIn}
+use Rattle.counters.specs.Refusals.{numberOf}
+use Rattle.register.specs.Listing.{ReadIn}
+use Rattle.pnl.specs.declared.growing.Grown.{Grown}
+use Rattle.pnl.specs.declared.growing.Grown.the-variants.{Whole, Stopped}
+use Rattle.pnl.specs.declared.lookups.Lookup.{Lookup}
+use Rattle.pnl.specs.declared.lookups.Lookup.the-variants.{Found, Reached, Refused}
+
+-- the answer slice afterwards, and the value
+abbrev pub returned : List ℕ → ℤ → Returned
+returned slice value = record { slice = slice; value = value }
+
+-- the counts that a whole list leaves, or the refusal where it stopped
+pub data GrownIn : Type 0 where
+  wholeIn : T.Counts → GrownIn
+  stoppedIn : ℕ → GrownIn
+
+abbrev pub grownMeans : Grown → GrownIn
+grownMeans (Whole c) = wholeIn (countsIn c)
+grownMeans (Stopped x) = stoppedIn (numberOf x)
+
+abbrev pub lookupMeans : Lookup → Reply
+lookupMeans (Found name) = found name
+lookupMeans (Reached low high) = reached low high
+lookupMeans (Refused x) = refuses (numberOf x)
+
+-- landing a list answers how far it was read, and nothing else
+unfoldable pub stopIn : T.Counts → Reply → GrownIn
+stopIn c (read whole) = wholeIn c
+stopIn c (read (stopped k x)) = stoppedIn x
+stopIn c (refuses x) = stoppedIn x
+stopIn c (found name) = wholeIn c
+stopIn c (reached low high) = wholeIn c
+stopIn c (measured d) = wholeIn c
+stopIn c (listed n) = wholeIn c
+
+-- the tables behind a list, and its answer
+pub record Growth : Type 0 where
+  pub tables : T.Tables
+  pub answer : GrownIn
+
+abbrev pub growth : T.Tables → GrownIn → Growth
+growth t a = record { tables = t; answer = a }
+
+unfoldable pub growthOf : ReadIn → Growth
+growthOf d = growth (d .tables) (stopIn (d .counts) (d .reply))

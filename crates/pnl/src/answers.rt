@@ -1,0 +1,80 @@
+// What a call from C answers: 32-bit numbers in the answer slice and the count of their bytes, or a refusal's number made negative.
+use crate::lookups::Lookup;
+use counters::refusals::Refusal;
+use tables::access::at32;
+use text::put_byte;
+ghost use mathlib.Core.Path.{_≡_};
+ghost use Prim.Native.Nat.{_%_, _≤_};
+ghost use lib.IntN.{pos, negℤ};
+ghost use lib.ListN.{length};
+ghost use Rattle.model.specs.Register.{Register};
+ghost use Rattle.model.specs.FromC.{bytes4, bytesOf, returnsNumbers, returnsReply};
+ghost use Rattle.counters.specs.Refusals.{numberOf};
+ghost use Rattle.text.specs.Pages.{page, write};
+ghost use Rattle.pnl.specs.Calls.{returned, lookupMeans};
+
+pub fn refused(refusal: Refusal) -> i32
+    ensures { λ r. ⌜ r ≡ negℤ (pos (numberOf refusal)) ⌝ }
+{
+    let number = refusal.number();
+    -(number as i32)
+}
+
+// A count of bytes; a sheet of 65,535 rows has 1,310,700, and no answer has more.
+pub fn counted(n: usize) -> i32
+    requires { ⌜ n ≤ 1310700 ⌝ }
+    ensures { λ r. ⌜ r ≡ pos n ⌝ }
+{
+    n as i32
+}
+
+fn byte_of(n: u32) -> u8
+    ensures { λ r. ⌜ r ≡ n % 256 ⌝ }
+{
+    (n % 256) as u8
+}
+
+// A number, its lowest byte first.
+fn put_word(out: &mut [u8], at: usize, n: u32) -> usize
+    ensures { λ r. ⌜ page (now (out .exit)) r ≡ write (bytes4 n) (page (now (out .entry)) at) ⌝ }
+{
+    let second = put_byte(out, at, byte_of(n));
+    let third = put_byte(out, second, byte_of(n / 256));
+    let fourth = put_byte(out, third, byte_of(n / 65536));
+    put_byte(out, fourth, byte_of(n / 16777216))
+}
+
+pub fn put_words(out: &mut [u8], at: usize, numbers: &[u32]) -> usize
+    ensures { λ r. ⌜ page (now (out .exit)) r ≡ write (bytesOf (now (numbers .entry))) (page (now (out .entry)) at) ⌝ }
+{
+    let mut next = at;
+    let mut i: usize = 0;
+    while i < numbers.len() {
+        next = put_word(out, next, at32(numbers, i));
+        i += 1;
+    }
+    next
+}
+
+// A few numbers, or 9 where the slice has no room for all of them.
+pub fn answer_numbers(answer: &mut [u8], numbers: &[u32]) -> i32
+    requires { ⌜ length (now numbers) ≤ 5 ⌝ }
+    ensures { λ r. ⌜ returned (now (answer .exit)) r ≡ returnsNumbers (now (answer .entry)) (now (numbers .entry)) ⌝ }
+{
+    let size = 4 * numbers.len();
+    if answer.len() < size {
+        return refused(Refusal::ShortSlice);
+    }
+    put_words(answer, 0, numbers);
+    counted(size)
+}
+
+pub fn answer_lookup(answer: &mut [u8], lookup: Lookup) -> i32
+    ensures { λ r. ⌜ ((register : Register) → returned (now (answer .exit)) r ≡ returnsReply register (now (answer .entry)) (lookupMeans lookup)) ⌝ }
+{
+    match lookup {
+        Lookup::Found(name) => answer_numbers(answer, &[name]),
+        Lookup::Reached(low, high) => answer_numbers(answer, &[low, high]),
+        Lookup::Refused(refusal) => refused(refusal),
+    }
+}

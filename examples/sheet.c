@@ -1,0 +1,60 @@
+/* Prints the runs of a small house, the run of a tag, and how far a coupling is from the ends of its run.
+ *
+ *     ./build
+ *     cc -Iinclude examples/sheet.c target/staticlib/libpnl.a -o sheet && ./sheet
+ */
+#include <inttypes.h>
+#include <stdio.h>
+
+#include "pnl.h"
+
+/* Seven fittings, then pipes 0-1 1000, 1-2 2000, 3-4 500, 4-5 700, 2-3 300, 3-6 900. */
+static const uint8_t house[] = {
+    'P', 'N', 'L', 1, 0,
+    'F', 'F', 'F', 'F', 'F', 'F', 'F',
+    'P', 0, 0, 1, 0, 0xE8, 0x03, 0, 0,
+    'P', 1, 0, 2, 0, 0xD0, 0x07, 0, 0,
+    'P', 3, 0, 4, 0, 0xF4, 0x01, 0, 0,
+    'P', 4, 0, 5, 0, 0xBC, 0x02, 0, 0,
+    'P', 2, 0, 3, 0, 0x2C, 0x01, 0, 0,
+    'P', 3, 0, 6, 0, 0x84, 0x03, 0, 0
+};
+
+static uint32_t number(const uint8_t *bytes)
+{
+    return (uint32_t)bytes[0] | (uint32_t)bytes[1] << 8 | (uint32_t)bytes[2] << 16 | (uint32_t)bytes[3] << 24;
+}
+
+static void print_run(const uint8_t *row)
+{
+    printf("run %" PRIu32 " from %" PRIu32 " to %" PRIu32 ": %" PRIu32 " couplings, %" PRIu32 " mm\n",
+           number(row), number(row + 4), number(row + 8), number(row + 12), number(row + 16));
+}
+
+int main(void)
+{
+    static uint8_t answer[PNL_SHEET_MOST];
+    int32_t size, at;
+
+    size = pnl_sheet(house, sizeof house, answer, sizeof answer);
+    if (size < 0) {
+        fprintf(stderr, "sheet: refusal %" PRId32 "\n", -size);
+        return 1;
+    }
+    for (at = 0; at < size; at += PNL_SHEET_ROW)
+        print_run(answer + at);
+
+    size = pnl_find(house, sizeof house, 8195, answer, sizeof answer);
+    if (size < 0)
+        return 1;
+    printf("tag 8195 is on run %" PRIu32 "\n", number(answer));
+
+    size = pnl_reach(house, sizeof house, 1, answer, sizeof answer);
+    if (size < 0)
+        return 1;
+    printf("fitting 1: %" PRIu32 " mm to the low end, %" PRIu32 " mm to the high end\n", number(answer), number(answer + 4));
+
+    if (pnl_find(house, sizeof house, 8194, answer, sizeof answer) == PNL_REFUSED_NO_COUPLING)
+        printf("tag 8194 is on no coupling\n");
+    return 0;
+}
