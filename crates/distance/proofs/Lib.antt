@@ -6,3 +6,4 @@ pub mod Rounds
 pub mod Answers
 pub mod Registers
 pub mod Measuring
+pub mod CallLaws

@@ -1,0 +1,67 @@
+// What outsiders call: the distance between two vertices over lent tables. The register stays as it is; scratch ends all zero. It asks
+// nothing of its caller: 25 and 21 stand before the search, then 5.
+use crate::measure::Distance;
+use crate::measure::measure;
+use counters::counts::Counts;
+use counters::numbers::Vertex;
+use lookups::gate::Gate;
+use lookups::gate::pass_gate;
+ghost use mathlib.Core.Path.{_≡_};
+ghost use mathlib.Core.List.{[]};
+ghost use Rattle.model.specs.Calls.{measures, step};
+ghost use Rattle.counters.specs.Answers.{countsIn};
+ghost use Rattle.tables.specs.Steps.{tables};
+ghost use Rattle.register.specs.Meaning.{lent};
+ghost use Rattle.lookups.specs.Meaning.{answered};
+ghost use Rattle.distance.specs.Measure.{distanceReply};
+
+pub fn distance(
+    degrees: &[u16],
+    sides: &[u16],
+    ends: &[u16],
+    lengths: &[u32],
+    labels: &[u32],
+    counts: Counts,
+    sdegrees: &mut [u16],
+    ssides: &mut [u16],
+    sends: &mut [u16],
+    slengths: &mut [u32],
+    slabels: &mut [u32],
+    from: Vertex,
+    to: Vertex,
+) -> Distance
+    ensures { λ r. ⌜ answered (tables (now (degrees .entry)) (now (sides .entry)) (now (ends .entry)) (now (lengths .entry)) (now (labels .entry))) (countsIn counts)
+        (tables (now (sdegrees .exit)) (now (ssides .exit)) (now (sends .exit)) (now (slengths .exit)) (now (slabels .exit))) [] (distanceReply r)
+        ≡ step (measures (from .0) (to .0))
+        (lent (tables (now (degrees .entry)) (now (sides .entry)) (now (ends .entry)) (now (lengths .entry)) (now (labels .entry))) (countsIn counts)
+        (tables (now (sdegrees .entry)) (now (ssides .entry)) (now (sends .entry)) (now (slengths .entry)) (now (slabels .entry)))) ⌝ }
+{
+    let passed = pass_gate(
+        degrees,
+        sides,
+        ends,
+        lengths,
+        labels,
+        counts,
+        sdegrees,
+        ssides,
+        sends,
+        slengths,
+        slabels,
+    );
+    match passed {
+        Gate::Open => measure(
+            ends,
+            lengths,
+            counts,
+            sdegrees,
+            ssides,
+            sends,
+            slengths,
+            slabels,
+            from,
+            to,
+        ),
+        Gate::Refused(refusal) => Distance::Refused(refusal),
+    }
+}
