@@ -7,6 +7,7 @@ use std::hint::black_box;
 use std::time::Instant;
 
 extern "C" {
+    fn pnl_sheet(list: *const u8, list_len: usize, answer: *mut u8, answer_len: usize) -> i32;
     fn pnl_find(list: *const u8, list_len: usize, tag: u32, answer: *mut u8, answer_len: usize) -> i32;
 }
 
@@ -24,6 +25,24 @@ fn plain(list: &[u8]) -> i32 {
     } else {
         -(refusal as i32)
     }
+}
+
+/// The whole call: grow, and the sheet's bytes.
+fn proved_sheet(list: &[u8], answer: &mut [u8]) -> i32 {
+    unsafe { pnl_sheet(list.as_ptr(), list.len(), answer.as_mut_ptr(), answer.len()) }
+}
+
+fn plain_sheet(list: &[u8], answer: &mut [u8]) -> i32 {
+    let (register, refusal) = plain::Register::grow(list);
+    if refusal != 0 {
+        return -(refusal as i32);
+    }
+    let mut at = 0;
+    for number in register.sheet().into_iter().flatten() {
+        answer[at..at + 4].copy_from_slice(&number.to_le_bytes());
+        at += 4;
+    }
+    at as i32
 }
 
 struct Random(u64);
@@ -71,6 +90,15 @@ fn balanced(n: usize) -> Vec<(usize, usize)> {
     edges
 }
 
+/// A line whose pipes are numbered from its middle outwards, left and right in turn.
+fn inside_out(n: usize) -> Vec<(usize, usize)> {
+    let edges = line(n);
+    let middle = edges.len() / 2;
+    let mut order: Vec<usize> = (0..edges.len()).collect();
+    order.sort_by_key(|&i| i.abs_diff(middle));
+    order.into_iter().map(|i| edges[i]).collect()
+}
+
 fn tree(n: usize, random: &mut Random) -> Vec<(usize, usize)> {
     (1..n).map(|v| (random.below(v), v)).collect()
 }
@@ -93,15 +121,15 @@ fn least(rounds: usize, mut run: impl FnMut() -> i32) -> f64 {
     best * 1e6
 }
 
-fn main() {
-    let mut random = Random(0x9E37_79B9_7F4A_7C15);
+fn grow_table(random: &mut Random) {
+    println!("grow");
     println!("{:<28} {:>6} {:>9} {:>9} {:>6}", "shape", "pipes", "proved", "plain", "ratio");
     for n in [512, 1024, 2048, 4096] {
         let shapes = [
             ("line in order", line(n)),
-            ("line in random order", shuffled(line(n), &mut random)),
+            ("line in random order", shuffled(line(n), random)),
             ("balanced merges", balanced(n)),
-            ("random tree", tree(n, &mut random)),
+            ("random tree", tree(n, random)),
             ("comb", comb(n)),
         ];
         for (name, edges) in shapes {
@@ -112,4 +140,34 @@ fn main() {
             println!("{name:<28} {:>6} {proved:>9.1} {plain:>9.1} {:>6.2}", edges.len(), proved / plain);
         }
     }
+}
+
+fn sheet_table(random: &mut Random) {
+    println!("grow and sheet");
+    println!("{:<28} {:>6} {:>9} {:>9} {:>6}", "line numbered", "pipes", "proved", "plain", "ratio");
+    let (mut ours, mut theirs) = (vec![0; 81_920], vec![0; 81_920]);
+    for n in [512, 1024, 2048, 4096] {
+        let rising = line(n);
+        let falling: Vec<_> = rising.iter().rev().copied().collect();
+        let shapes = [
+            ("rising", rising.clone()),
+            ("falling", falling),
+            ("at random", shuffled(rising, random)),
+            ("inside out", inside_out(n)),
+        ];
+        for (name, edges) in shapes {
+            let bytes = list(n, &edges);
+            assert_eq!(proved_sheet(&bytes, &mut ours), plain_sheet(&bytes, &mut theirs), "{name}");
+            assert_eq!(ours, theirs, "{name}");
+            let proved = least(200, || proved_sheet(black_box(&bytes), &mut ours));
+            let plain = least(200, || plain_sheet(black_box(&bytes), &mut theirs));
+            println!("{name:<28} {:>6} {proved:>9.1} {plain:>9.1} {:>6.2}", edges.len(), proved / plain);
+        }
+    }
+}
+
+fn main() {
+    let mut random = Random(0x9E37_79B9_7F4A_7C15);
+    grow_table(&mut random);
+    sheet_table(&mut random);
 }

@@ -44,6 +44,36 @@ impl Register {
         (register, refusal)
     }
 
+    /// The sheet's numbers, five a run, by rising name: each run is walked once, from its first pipe in rising order.
+    pub fn sheet(&self) -> Vec<[u32; 5]> {
+        let mut seen = vec![false; self.edges];
+        let mut rows = Vec::new();
+        for e in 0..self.edges {
+            if !seen[e] {
+                rows.push(self.row(e as u16, &mut seen));
+            }
+        }
+        rows
+    }
+
+    fn row(&self, name: u16, seen: &mut [bool]) -> [u32; 5] {
+        let [first, second] = self.ends[usize::from(name)];
+        seen[usize::from(name)] = true;
+        let mut inner = 0;
+        let mut length = self.lengths[usize::from(name)];
+        let ends = [first, second].map(|v| {
+            let mut w = Walker { edge: name, at: v };
+            while self.is_regular(w.at) {
+                w = self.step(w);
+                seen[usize::from(w.edge)] = true;
+                inner += 1;
+                length += self.lengths[usize::from(w.edge)];
+            }
+            u32::from(w.at)
+        });
+        [u32::from(name), ends[0].min(ends[1]), ends[0].max(ends[1]), inner, length]
+    }
+
     fn land(&mut self, list: &[u8]) -> u32 {
         if list.len() < 5 || &list[..5] != b"PNL\x01\x00" {
             return 1;
