@@ -49,8 +49,12 @@ enum pnl_size {
     PNL_SHEET_ROW = 20,                 /* one run of the sheet */
     PNL_SHEET_MOST = 81920,             /* the largest sheet, 4,096 runs: always enough for pnl_sheet */
     PNL_FIND_SIZE = 4,                  /* the answer of pnl_find */
-    PNL_REACH_SIZE = 8                  /* the answer of pnl_reach */
+    PNL_REACH_SIZE = 8,                 /* the answer of pnl_reach */
+    PNL_DISTANCE_SIZE = 4               /* the answer of pnl_distance */
 };
+
+/* What pnl_distance answers for two fittings that no way joins. A distance is at most 409,600,000. */
+#define PNL_NOT_JOINED 4294967295u
 
 /* The runs by rising name, PNL_SHEET_ROW bytes each, five numbers: name; the end with the lower fitting number; the other end; how
  * many couplings; length in mm. Returns PNL_SHEET_ROW times the number of runs, which is at most the number of pipes.
@@ -68,6 +72,12 @@ int32_t pnl_find(const uint8_t *list, size_t list_len, uint32_t tag, uint8_t *an
  * Refusals: those of the list; PNL_REFUSED_NOT_LANDED if there is no such fitting, whatever the number;
  * PNL_REFUSED_NO_COUPLING if it is a junction; PNL_REFUSED_SHORT_ANSWER. */
 int32_t pnl_reach(const uint8_t *list, size_t list_len, uint32_t fitting, uint8_t *answer, size_t answer_len);
+
+/* The length in mm of the shortest way over pipes between two fittings, 0 from a fitting to itself, or PNL_NOT_JOINED: one number.
+ * Returns PNL_DISTANCE_SIZE.
+ *
+ * Refusals: those of the list; PNL_REFUSED_NOT_LANDED if there is no such fitting, whatever the number; PNL_REFUSED_SHORT_ANSWER. */
+int32_t pnl_distance(const uint8_t *list, size_t list_len, uint32_t from, uint32_t to, uint8_t *answer, size_t answer_len);
 
 #ifdef __cplusplus
 }

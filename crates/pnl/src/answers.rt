@@ -1,6 +1,7 @@
 // What a call from C answers: 32-bit numbers in the answer slice and the count of their bytes, or a refusal's number made negative.
 use crate::lookups::Lookup;
 use counters::refusals::Refusal;
+use distance::measure::Distance;
 use tables::access::at32;
 use text::put_byte;
 ghost use mathlib.Core.Path.{_≡_};
@@ -10,6 +11,7 @@ ghost use lib.ListN.{length};
 ghost use Rattle.model.specs.Register.{Register};
 ghost use Rattle.model.specs.FromC.{bytes4, bytesOf, returnsNumbers, returnsReply};
 ghost use Rattle.counters.specs.Refusals.{numberOf};
+ghost use Rattle.distance.specs.Measure.{distanceReply};
 ghost use Rattle.text.specs.Pages.{page, write};
 ghost use Rattle.pnl.specs.Calls.{returned, lookupMeans};
 
@@ -76,5 +78,18 @@ pub fn answer_lookup(answer: &mut [u8], lookup: Lookup) -> i32
         Lookup::Found(name) => answer_numbers(answer, &[name]),
         Lookup::Reached(low, high) => answer_numbers(answer, &[low, high]),
         Lookup::Refused(refusal) => refused(refusal),
+    }
+}
+
+// What stands for a distance where there is no way.
+pub const NOT_JOINED: u32 = 4294967295;
+
+pub fn answer_distance(answer: &mut [u8], distance: Distance) -> i32
+    ensures { λ r. ⌜ ((register : Register) → returned (now (answer .exit)) r ≡ returnsReply register (now (answer .entry)) (distanceReply distance)) ⌝ }
+{
+    match distance {
+        Distance::Joined(millimetres) => answer_numbers(answer, &[millimetres]),
+        Distance::NotJoined => answer_numbers(answer, &[NOT_JOINED]),
+        Distance::Refused(refusal) => refused(refusal),
     }
 }
