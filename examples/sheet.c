@@ -1,4 +1,5 @@
-/* Prints the runs of a small house, the run of a tag, and how far a coupling is from the ends of its run.
+/* All four calls: the runs of a small house, the run of a tag, how far a coupling is from the ends of its run, and how far two
+ * fittings are from each other.
  *
  *     ./build
  *     cc -Iinclude examples/sheet.c target/staticlib/libpnl.a -o sheet && ./sheet
@@ -20,6 +21,9 @@ static const uint8_t house[] = {
     'P', 3, 0, 6, 0, 0x84, 0x03, 0, 0
 };
 
+/* Two fittings and no pipe. */
+static const uint8_t apart[] = { 'P', 'N', 'L', 1, 0, 'F', 'F' };
+
 static uint32_t number(const uint8_t *bytes)
 {
     return (uint32_t)bytes[0] | (uint32_t)bytes[1] << 8 | (uint32_t)bytes[2] << 16 | (uint32_t)bytes[3] << 24;
@@ -29,6 +33,20 @@ static void print_run(const uint8_t *row)
 {
     printf("run %" PRIu32 " from %" PRIu32 " to %" PRIu32 ": %" PRIu32 " couplings, %" PRIu32 " mm\n",
            number(row), number(row + 4), number(row + 8), number(row + 12), number(row + 16));
+}
+
+static void print_distance(const uint8_t *list, size_t list_len, uint32_t from, uint32_t to)
+{
+    uint8_t answer[PNL_DISTANCE_SIZE];
+    int32_t size = pnl_distance(list, list_len, from, to, answer, sizeof answer);
+
+    printf("fittings %" PRIu32 " and %" PRIu32 ": ", from, to);
+    if (size < 0)
+        printf("refusal %" PRId32 "\n", -size);
+    else if (number(answer) == PNL_NOT_JOINED)
+        printf("not joined\n");
+    else
+        printf("%" PRIu32 " mm\n", number(answer));
 }
 
 int main(void)
@@ -56,5 +74,9 @@ int main(void)
 
     if (pnl_find(house, sizeof house, 8194, answer, sizeof answer) == PNL_REFUSED_NO_COUPLING)
         printf("tag 8194 is on no coupling\n");
+
+    print_distance(house, sizeof house, 0, 6);
+    print_distance(house, sizeof house, 0, 7);
+    print_distance(apart, sizeof apart, 0, 1);
     return 0;
 }
