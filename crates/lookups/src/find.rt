@@ -26,7 +26,7 @@ pub enum Found {
 }
 
 // Label 0 stands at every vertex that has none, so it is not looked for.
-fn find_in(
+pub fn find_in(
     degrees: &[u16],
     sides: &[u16],
     ends: &[u16],

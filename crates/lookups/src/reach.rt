@@ -52,7 +52,7 @@ fn length_to(
     add32(of32(lengths, edge), onwards.length)
 }
 
-fn reach_in(
+pub fn reach_in(
     degrees: &[u16],
     sides: &[u16],
     ends: &[u16],

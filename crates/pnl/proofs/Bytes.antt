@@ -9,7 +9,7 @@ use lib.ListN.{length, getD, set, drop, length-set, drop-of-length-le}
 use lib.Seq.{sets, sets-eq, drop-cons}
 use lib.IntN.{ℤ, pos, negℤ}
 use borrow.Author.Tests.{lt-ltb, le-ltb}
-use Rattle.model.specs.FromC.{bytes4, bytesOf, returnsNumbers, returnsRefusal}
+use Rattle.model.specs.FromC.{Returned, bytes4, bytesOf, returnsNumbers, returnsRefusal}
 use Rattle.text.specs.Pages.{Page, page, put, write}
 use Rattle.text.proofs.Writing.{write-append}
 use Rattle.pnl.specs.Calls.{returned}
@@ -72,3 +72,7 @@ module _ (slice ns : List ℕ) (k : ℕ) (n : k ≡ 4 * length ns) where
       let l : length (bytesOf ns) ≤ length slice = omega arith in
       let b : q .bytes ≡ bytesOf ns ++ drop (length (bytesOf ns)) slice = rw e (write-front (bytesOf ns) slice l) in
       rw (le-ltb (length slice) (length (bytesOf ns)) l, b, f, m)
+
+-- one number, by another name
+pub one-number : (slice : List ℕ) (m n : ℕ) (z : Returned) → m ≡ n → z ≡ returnsNumbers slice (m ∷ []) → z ≡ returnsNumbers slice (n ∷ [])
+one-number slice m n z e q = rw (← e) q

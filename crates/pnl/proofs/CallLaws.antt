@@ -1,29 +1,31 @@
 -- A call whole: a list that stops, and the answer of a query on the tables that a list leaves.
 use mathlib.Core.Path.{_≡_, refl, sym, ap, subst, _∙_}
-use Prim.Native.Nat.{ℕ, _≤_}
+use Prim.Native.Nat.{ℕ, _≤_, min}
 use native.Mathlib.Omega.{arith}
 use mathlib.Core.List.{List}
 use lib.ListN.{length, take}
-use lib.Seq.{take-all}
 use lib.IntN.{ℤ, pos, negℤ}
 use Rattle.model.specs.Basics.{upTo, maxVertices}
 use Rattle.model.specs.Register.{Register}
 use Rattle.model.specs.Format.{Stop, whole, stopped, growList}
-use Rattle.model.specs.FromC.{Returned, fromC, returnsNumbers, returnsRefusal, returnsReply, cSheet, cFind, cReach, cDistance}
+use Rattle.model.specs.FromC.{Returned, fromC, returnsNumbers, returnsRefusal, returnsReply}
 use Rattle.model.specs.Queries.{Reply, read, listed, find, reach, measure, sheet, sheetNumbers, concat}
+use Rattle.model.specs.Calls.{Effect, answers, effect}
 use Rattle.model.specs.Tables.{Tables, Counts, tablesOf, countsOf, cleared, noCounts}
 use Rattle.tables.specs.Steps.{tables}
 use Rattle.queries.specs.Chains.{rowsIn, sheetIn, findIn, reachIn}
-use Rattle.agreement.proofs.Growing.{Grown, few, labels-long}
+use Rattle.agreement.proofs.Growing.{Grown, few}
 use Rattle.agreement.proofs.Sheeting.{sheet-agrees}
-use Rattle.agreement.proofs.Finding.{find-agrees, reach-agrees}
+use Rattle.agreement.proofs.Finding.{reach-agrees}
 use Rattle.register.specs.Listing.{ReadIn, landListIn}
 use Rattle.register.proofs.Grown.{grownFrom, list-leaves, growList-grown}
+use Rattle.lookups.proofs.AnswerLaws.{find-answers}
 use Rattle.distance.specs.Search.{Searchable}
 use Rattle.distance.specs.Measure.{measureIn}
 use Rattle.distance.proofs.Registers.{searchable}
 use Rattle.distance.proofs.Measuring.{measure-agrees}
-use Rattle.pnl.specs.Calls.{returned, GrownIn, wholeIn, stoppedIn, stopIn, Growth, growth, growthOf}
+use Rattle.pnl.specs.Calls.{returned, GrownIn, wholeIn, stoppedIn, stopIn, Growth, growth, growthOf, Holds}
+use Rattle.pnl.proofs.Narrowing.{narrow-reach, narrow-measure}
 
 pub grow-law : (t : Tables) (c : Counts) (bs : List ℕ) (d : ReadIn) (a : GrownIn) → c ≡ noCounts → d ≡ landListIn t c bs → a ≡ stopIn (d .counts) (d .reply)
     → growth (d .tables) a ≡ growthOf (landListIn t noCounts bs)
@@ -87,10 +89,11 @@ module _ (bs : List ℕ) (t : Tables) (a : GrownIn) (e : growth t a ≡ growthOf
           absurd (subst Whole? w tt)
 
   pub call-answers : (query : Register → Reply) (slice : List ℕ) (c : Counts) (z : Returned) → a ≡ wholeIn c
-      → ((r : Register) → Grown r → t ≡ tablesOf r → c ≡ countsOf r → z ≡ returnsReply r slice (query r)) → z ≡ fromC query bs slice
+      → ((r : Register) → Holds t c r → z ≡ returnsReply r slice (query r)) → z ≡ fromC query bs slice
   unfolding fromC
   call-answers query slice c z f all =
-      rw (left-whole c f .0, fromC) (all ((growList bs) .register) (growList-grown bs) left-tables (left-whole c f .1))
+      let k : Holds t c ((growList bs) .register) = record { reachable = growList-grown bs; tables-are = sym left-tables; counts-are = sym (left-whole c f .1) } in
+      rw (left-whole c f .0, fromC) (all ((growList bs) .register) k)
 
   -- what the search for a distance asks
   pub call-searchable : (c : Counts) → a ≡ wholeIn c → Searchable (t .ends) (t .lengths) (c .edges) × (c .vertices ≤ maxVertices)
@@ -105,38 +108,32 @@ module _ (bs : List ℕ) (t : Tables) (a : GrownIn) (e : growth t a ≡ growthOf
 
 -- ---- the four queries
 
--- the labels table is no longer than what is looked at
-found-left : (r : Register) → Grown r → (d s e l lb : List ℕ) (c : Counts) (label : ℕ) → tables d s e l lb ≡ tablesOf r → c ≡ countsOf r
-    → findIn (tables d s e l (take 4096 lb)) c label ≡ find r label
-unfolding tablesOf
-found-left r w d s e l lb c label i k =
-    let n : length lb ≡ 4096 = ap (λ (t : Tables). length (t .labels)) i ∙ labels-long r w in
-    rw (take-all 4096 lb (omega arith), i, k) (find-agrees r w label)
+module _ (d s e l lb : List ℕ) (c : Counts) (r : Register) (h : Holds (tables d s e l lb) c r) (slice : List ℕ) (z : Returned) where
+  few-vertices : c .vertices ≤ maxVertices
+  unfolding countsOf
+  few-vertices = let v : r .vertices ≡ c .vertices = ap (λ (x : Counts). x .vertices) (h .counts-are) in omega (arith, few r (h .reachable))
 
-module _ (bs slice d s e l lb : List ℕ) (a : GrownIn) (g : growth (tables d s e l lb) a ≡ growthOf (landListIn cleared noCounts bs)) (c : Counts) (h : a ≡ wholeIn c) where
-  pub sheet-call : (z : Returned) → z ≡ returnsNumbers slice (concat (rowsIn (tables d s e l lb) (c .edges) (upTo (c .edges)))) → z ≡ cSheet bs slice
-  unfolding cSheet returnsReply sheetNumbers sheetIn
-  sheet-call z p =
-      call-answers bs (tables d s e l lb) a g (λ r. listed (length (sheet r))) slice c z h
-      (λ r w i k. p ∙ ap (λ (rows : List (List ℕ)). returnsNumbers slice (concat rows)) (rw (i, k) (sheet-agrees r w)))
+  pub sheet-query : z ≡ returnsNumbers slice (concat (rowsIn (tables d s e l lb) (c .edges) (upTo (c .edges))))
+      → z ≡ returnsReply r slice (listed (length (sheet r)))
+  unfolding returnsReply sheetNumbers sheetIn
+  sheet-query p =
+      p ∙ ap (λ (rows : List (List ℕ)). returnsNumbers slice (concat rows)) (rw (← h .tables-are, ← h .counts-are) (sheet-agrees r (h .reachable)))
 
-  pub find-call : (label : ℕ) (reply : Reply) (z : Returned) → reply ≡ findIn (tables d s e l (take 4096 lb)) c label
-      → ((r : Register) → z ≡ returnsReply r slice reply) → z ≡ cFind bs label slice
-  unfolding cFind
-  find-call label reply z p all =
-      call-answers bs (tables d s e l lb) a g (λ r. find r label) slice c z h
-      (λ r w i k. all r ∙ ap (returnsReply r slice) (p ∙ found-left r w d s e l lb c label i k))
+  pub find-query : (label : ℕ) (a : Reply) → a ≡ findIn (tables d s e l (take 4096 lb)) c label → z ≡ returnsReply r slice a
+      → z ≡ returnsReply r slice (find r label)
+  unfolding effect answers
+  find-query label a p q =
+      let k = find-answers d s e l lb c label a p r (h .reachable) (h .tables-are) (h .counts-are) in
+      q ∙ ap (returnsReply r slice) (ap (λ (x : Effect). x .reply) (sym k))
 
-  pub reach-call : (v : ℕ) (reply : Reply) (z : Returned) → reply ≡ reachIn (tables d s e l lb) c v
-      → ((r : Register) → z ≡ returnsReply r slice reply) → z ≡ cReach bs v slice
-  unfolding cReach
-  reach-call v reply z p all =
-      call-answers bs (tables d s e l lb) a g (λ r. reach r v) slice c z h
-      (λ r w i k. all r ∙ ap (returnsReply r slice) (p ∙ rw (i, k) (reach-agrees r w v)))
+  pub reach-query : (v m : ℕ) (a : Reply) → m ≡ min v 65535 → a ≡ reachIn (tables d s e l lb) c m → z ≡ returnsReply r slice a
+      → z ≡ returnsReply r slice (reach r v)
+  reach-query v m a n p q =
+      let k : reachIn (tables d s e l lb) c v ≡ reach r v = rw (← h .tables-are, ← h .counts-are) (reach-agrees r (h .reachable) v) in
+      q ∙ ap (returnsReply r slice) (p ∙ narrow-reach (tables d s e l lb) c few-vertices v m n ∙ k)
 
-  pub distance-call : (v w : ℕ) (reply : Reply) (z : Returned) → reply ≡ measureIn (tables d s e l lb) c v w
-      → ((r : Register) → z ≡ returnsReply r slice reply) → z ≡ cDistance bs v w slice
-  unfolding cDistance
-  distance-call v w reply z p all =
-      call-answers bs (tables d s e l lb) a g (λ r. measure r v w) slice c z h
-      (λ r _ i k. all r ∙ ap (returnsReply r slice) (p ∙ rw (i, k) (measure-agrees r v w)))
+  pub distance-query : (v w m n : ℕ) (a : Reply) → m ≡ min v 65535 → n ≡ min w 65535 → a ≡ measureIn (tables d s e l lb) c m n
+      → z ≡ returnsReply r slice a → z ≡ returnsReply r slice (measure r v w)
+  distance-query v w m n a i j p q =
+      let k : measureIn (tables d s e l lb) c v w ≡ measure r v w = rw (← h .tables-are, ← h .counts-are) (measure-agrees r v w) in
+      q ∙ ap (returnsReply r slice) (p ∙ narrow-measure (tables d s e l lb) c few-vertices v w m n i j ∙ k)

@@ -1,18 +1,22 @@
 -- What the calls from C do, as functions on the tables that mirror the code.
+use mathlib.Core.Path.{_≡_}
 use Prim.Native.Nat.{ℕ}
 use mathlib.Core.List.{List}
 use lib.IntN.{ℤ}
+use lib.ListN.{length}
 use Rattle.model.specs.Format.{whole, stopped}
 use Rattle.model.specs.FromC.{Returned}
-use Rattle.model.specs.Queries.{Reply, read, found, reached, measured, listed, refuses}
+use Rattle.model.specs.Notions.{Reachable}
+use Rattle.model.specs.Register.{Register}
+use Rattle.model.specs.Queries.{Reply, read, found, reached, measured, listed, refuses, find, reach, measure, sheet}
 use Rattle.model.specs.Tables as T
 use Rattle.counters.specs.Answers.{countsIn}
 use Rattle.counters.specs.Refusals.{numberOf}
 use Rattle.register.specs.Listing.{ReadIn}
 use Rattle.pnl.specs.declared.growing.Grown.{Grown}
 use Rattle.pnl.specs.declared.growing.Grown.the-variants.{Whole, Stopped}
-use Rattle.pnl.specs.declared.lookups.Lookup.{Lookup}
-use Rattle.pnl.specs.declared.lookups.Lookup.the-variants.{Found, Reached, Refused}
+use Rattle.pnl.specs.declared.query.Query.{Query}
+use Rattle.pnl.specs.declared.query.Query.the-variants.{Sheet, Find, Reach, Distance}
 
 -- the answer slice afterwards, and the value
 abbrev pub returned : List ℕ → ℤ → Returned
@@ -26,11 +30,6 @@ pub data GrownIn : Type 0 where
 abbrev pub grownMeans : Grown → GrownIn
 grownMeans (Whole c) = wholeIn (countsIn c)
 grownMeans (Stopped x) = stoppedIn (numberOf x)
-
-abbrev pub lookupMeans : Lookup → Reply
-lookupMeans (Found name) = found name
-lookupMeans (Reached low high) = reached low high
-lookupMeans (Refused x) = refuses (numberOf x)
 
 -- landing a list answers how far it was read, and nothing else
 unfoldable pub stopIn : T.Counts → Reply → GrownIn
@@ -52,3 +51,15 @@ growth t a = record { tables = t; answer = a }
 
 unfoldable pub growthOf : ReadIn → Growth
 growthOf d = growth (d .tables) (stopIn (d .counts) (d .reply))
+
+-- tables and counts hold a register that landing leaves
+pub record Holds (t : T.Tables) (c : T.Counts) (r : Register) : Type 0 where
+  pub reachable : Reachable r
+  pub tables-are : T.tablesOf r ≡ t
+  pub counts-are : T.countsOf r ≡ c
+
+abbrev pub queryMeans : Query → Register → Reply
+queryMeans Sheet = λ r. listed (length (sheet r))
+queryMeans (Find label) = λ r. find r label
+queryMeans (Reach v) = λ r. reach r v
+queryMeans (Distance v w) = λ r. measure r v w

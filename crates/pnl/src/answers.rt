@@ -1,7 +1,9 @@
 // What a call from C answers: 32-bit numbers in the answer slice and the count of their bytes, or a refusal's number made negative.
-use crate::lookups::Lookup;
 use counters::refusals::Refusal;
 use distance::measure::Distance;
+use lookups::find::Found;
+use lookups::reach::Reached;
+use queries::numbers::wide;
 use tables::access::at32;
 use text::put_byte;
 ghost use mathlib.Core.Path.{_≡_};
@@ -11,9 +13,10 @@ ghost use lib.ListN.{length};
 ghost use Rattle.model.specs.Register.{Register};
 ghost use Rattle.model.specs.FromC.{bytes4, bytesOf, returnsNumbers, returnsReply};
 ghost use Rattle.counters.specs.Refusals.{numberOf};
+ghost use Rattle.lookups.specs.Meaning.{foundReply, reachedReply};
 ghost use Rattle.distance.specs.Measure.{distanceReply};
 ghost use Rattle.text.specs.Pages.{page, write};
-ghost use Rattle.pnl.specs.Calls.{returned, lookupMeans};
+ghost use Rattle.pnl.specs.Calls.{returned};
 
 pub fn refused(refusal: Refusal) -> i32
     ensures { λ r. ⌜ r ≡ negℤ (pos (numberOf refusal)) ⌝ }
@@ -71,13 +74,21 @@ pub fn answer_numbers(answer: &mut [u8], numbers: &[u32]) -> i32
     counted(size)
 }
 
-pub fn answer_lookup(answer: &mut [u8], lookup: Lookup) -> i32
-    ensures { λ r. ⌜ ((register : Register) → returned (now (answer .exit)) r ≡ returnsReply register (now (answer .entry)) (lookupMeans lookup)) ⌝ }
+pub fn answer_found(answer: &mut [u8], found: Found) -> i32
+    ensures { λ r. ⌜ ((register : Register) → returned (now (answer .exit)) r ≡ returnsReply register (now (answer .entry)) (foundReply found)) ⌝ }
 {
-    match lookup {
-        Lookup::Found(name) => answer_numbers(answer, &[name]),
-        Lookup::Reached(low, high) => answer_numbers(answer, &[low, high]),
-        Lookup::Refused(refusal) => refused(refusal),
+    match found {
+        Found::Chain(name) => answer_numbers(answer, &[wide(name)]),
+        Found::Refused(refusal) => refused(refusal),
+    }
+}
+
+pub fn answer_reached(answer: &mut [u8], reached: Reached) -> i32
+    ensures { λ r. ⌜ ((register : Register) → returned (now (answer .exit)) r ≡ returnsReply register (now (answer .entry)) (reachedReply reached)) ⌝ }
+{
+    match reached {
+        Reached::Lengths(low, high) => answer_numbers(answer, &[low, high]),
+        Reached::Refused(refusal) => refused(refusal),
     }
 }
 

@@ -5,32 +5,29 @@ use distance::measure::Distance;
 use distance::measure::measure;
 ghost use mathlib.Core.Path.{_≡_};
 ghost use mathlib.Core.List.{List};
-ghost use Prim.Native.Nat.{ℕ, _≤_, min};
+ghost use Prim.Native.Nat.{ℕ, _≤_};
 ghost use Rattle.model.specs.Basics.{maxVertices};
 ghost use Rattle.counters.specs.Answers.{countsIn};
 ghost use Rattle.tables.specs.Steps.{tables};
 ghost use Rattle.distance.specs.Search.{Searchable};
 ghost use Rattle.distance.specs.Measure.{distanceReply, measureIn};
 
-// No register has a vertex 65,535, so it stands for every number from there on.
-pub fn narrow(n: u32) -> u16
-    ensures { λ r. ⌜ r ≡ min n 65535 ⌝ }
-{
-    if n < 65535 { n as u16 } else { 65535 }
-}
-
-pub fn distance_in(ends: &[u16], lengths: &[u32], counts: Counts, from: u32, to: u32) -> Distance
+pub fn distance_in(
+    ends: &[u16],
+    lengths: &[u32],
+    counts: Counts,
+    from: Vertex,
+    to: Vertex,
+) -> Distance
     requires { ⌜ Searchable (now ends) (now lengths) (counts .edges) × (counts .vertices ≤ maxVertices) ⌝ }
     ensures { λ r. ⌜ ((degrees sides labels : List ℕ) → distanceReply r
-        ≡ measureIn (tables degrees sides (now (ends .entry)) (now (lengths .entry)) labels) (countsIn counts) from to) ⌝ }
+        ≡ measureIn (tables degrees sides (now (ends .entry)) (now (lengths .entry)) labels) (countsIn counts) (from .0) (to .0)) ⌝ }
 {
     let mut heads = [0u16; 4096];
     let mut heap = [0u16; 8192];
     let mut next = [0u16; 8192];
     let mut distances = [0u32; 4096];
     let mut keys = [0u32; 4096];
-    let v = narrow(from);
-    let w = narrow(to);
     measure(
         ends,
         lengths,
@@ -40,7 +37,7 @@ pub fn distance_in(ends: &[u16], lengths: &[u32], counts: Counts, from: u32, to:
         &mut next,
         &mut distances,
         &mut keys,
-        Vertex(v),
-        Vertex(w),
+        from,
+        to,
     )
 }

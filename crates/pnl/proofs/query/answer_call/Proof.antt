@@ -1,0 +1,99 @@
+use mathlib.Core.Path.{ap, _∙_}
+use Rattle.pnl.proofs.Values.{value-kept, handed}
+use Rattle.model.specs.Tables.{cleared}
+use Rattle.pnl.specs.Calls.{grownMeans}
+use Rattle.pnl.proofs.CallLaws.{call-stops, call-answers, call-searchable}
+use borrow.Author.Needs.{needs}
+use Rattle.pnl.proofs.query.answer_call.Statement.{statement}
+use Rattle.pnl.proofs.query.answer_call.Tie as tie
+use Rattle.pnl.proofs.answers.refused.Reads as refused-reads
+use Rattle.pnl.proofs.growing.grow_tables.Reads as grow-tables-reads
+use Rattle.pnl.proofs.query.answer_query.Reads as answer-query-reads
+
+slice-aggregate-grow-tables : tie.Need-slice-aggregate-grow-tables
+slice-aggregate-grow-tables c = search needs
+
+slice-aggregate-grow-tables-2 : tie.Need-slice-aggregate-grow-tables-2
+slice-aggregate-grow-tables-2 c = search needs
+
+slice-aggregate-grow-tables-3 : tie.Need-slice-aggregate-grow-tables-3
+slice-aggregate-grow-tables-3 c = search needs
+
+slice-aggregate-grow-tables-4 : tie.Need-slice-aggregate-grow-tables-4
+slice-aggregate-grow-tables-4 c = search needs
+
+slice-aggregate-grow-tables-5 : tie.Need-slice-aggregate-grow-tables-5
+slice-aggregate-grow-tables-5 c = search needs
+
+grow-tables-requires : tie.Need-grow-tables-requires
+grow-tables-requires c κs = search needs
+
+enum-known-grown : tie.Need-enum-known-grown
+enum-known-grown c = search needs
+
+slice-aggregate-answer-query : tie.Need-slice-aggregate-answer-query
+slice-aggregate-answer-query c = search needs
+
+slice-aggregate-answer-query-2 : tie.Need-slice-aggregate-answer-query-2
+slice-aggregate-answer-query-2 c = search needs
+
+slice-aggregate-answer-query-3 : tie.Need-slice-aggregate-answer-query-3
+slice-aggregate-answer-query-3 c = search needs
+
+slice-aggregate-answer-query-4 : tie.Need-slice-aggregate-answer-query-4
+slice-aggregate-answer-query-4 c = search needs
+
+slice-aggregate-answer-query-5 : tie.Need-slice-aggregate-answer-query-5
+slice-aggregate-answer-query-5 c = search needs
+
+answer-query-requires : tie.Need-answer-query-requires
+unfolding cleared
+answer-query-requires c κs =
+    let at-grown = c .before .before .before .before .before .before .before in
+    let at-grow-tables = at-grown .before .before .before .before .before .before .before in
+    call-searchable _ _ _ (at-grow-tables .grow-tables .ensures) _ (ap grownMeans (at-grown .grown .given .1))
+
+enum-known-grown-2 : tie.Need-enum-known-grown-2
+enum-known-grown-2 c = search needs
+
+refused-requires : tie.Need-refused-requires
+refused-requires c κs = search needs
+
+same-length : tie.Need-same-length
+same-length c = search needs
+
+returns : tie.Need-returns
+unfolding cleared
+returns c =
+    let at-grown = c .before .before .before .before .before .before .before .before .before .before in
+    let at-grow-tables = at-grown .before .before .before .before .before .before .before in
+    call-answers _ _ _ (at-grow-tables .grow-tables .ensures) _ _ _ _ (ap grownMeans (at-grown .grown .given .1)) (λ r h. handed (c .before .before .answer-query .ok) (c .before .before .answer-query .ensures r h))
+
+returns-2 : tie.Need-returns-2
+unfolding cleared
+returns-2 c =
+    let at-grow-tables = c .before .before .before .before .before .before .before .before .before in
+    call-stops _ _ _ (at-grow-tables .grow-tables .ensures) _ _ _ _ (ap grownMeans (c .before .before .grown2 .given .1)) (value-kept (c .refused .ok) ∙ c .refused .ensures)
+
+pub answer-call-spec : {M : Type 1} → statement M
+answer-call-spec =
+    tie.close
+    (tie.spec
+    slice-aggregate-grow-tables
+    slice-aggregate-grow-tables-2
+    slice-aggregate-grow-tables-3
+    slice-aggregate-grow-tables-4
+    slice-aggregate-grow-tables-5
+    grow-tables-requires
+    enum-known-grown
+    slice-aggregate-answer-query
+    slice-aggregate-answer-query-2
+    slice-aggregate-answer-query-3
+    slice-aggregate-answer-query-4
+    slice-aggregate-answer-query-5
+    answer-query-requires
+    enum-known-grown-2
+    refused-requires
+    same-length
+    returns
+    returns-2)
