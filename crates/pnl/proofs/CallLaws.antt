@@ -14,7 +14,7 @@ use Rattle.model.specs.Calls.{Effect, answers, effect}
 use Rattle.model.specs.Tables.{Tables, Counts, tablesOf, countsOf, cleared, noCounts}
 use Rattle.tables.specs.Steps.{tables}
 use Rattle.queries.specs.Chains.{rowsIn, sheetIn, findIn, reachIn}
-use Rattle.agreement.proofs.Growing.{Grown, few}
+use Rattle.agreement.proofs.Growing.{few}
 use Rattle.agreement.proofs.Sheeting.{sheet-agrees}
 use Rattle.agreement.proofs.Finding.{reach-agrees}
 use Rattle.register.specs.Listing.{ReadIn, landListIn}
@@ -31,6 +31,19 @@ pub grow-law : (t : Tables) (c : Counts) (bs : List ℕ) (d : ReadIn) (a : Grown
     → growth (d .tables) a ≡ growthOf (landListIn t noCounts bs)
 unfolding growthOf
 grow-law t c bs d a n e f = rw (← n, ← e, f)
+
+-- ---- what the search for a distance asks
+
+module _ (t : Tables) (c : Counts) (r : Register) (h : Holds t c r) where
+  few-vertices : c .vertices ≤ maxVertices
+  unfolding countsOf
+  few-vertices = let n : r .vertices ≡ c .vertices = ap (λ (x : Counts). x .vertices) (h .counts-are) in omega (arith, few r (h .reachable))
+
+  held-searchable : Searchable (t .ends) (t .lengths) (c .edges) × (c .vertices ≤ maxVertices)
+  unfolding countsOf
+  held-searchable =
+      let n : length (r .edges) ≡ c .edges = ap (λ (x : Counts). x .edges) (h .counts-are) in
+      (searchable r (h .reachable) t (c .edges) (h .tables-are) n, few-vertices)
 
 -- ---- what the answer of a list says of it
 
@@ -72,47 +85,33 @@ module _ (bs : List ℕ) (t : Tables) (a : GrownIn) (e : growth t a ≡ growthOf
           let w : x ≡ y = ap stopNumber u in
           rw (q, fromC) (rw (← w, g))
 
-  -- a whole list: the counts are its register's
-  left-whole : (c : Counts) → a ≡ wholeIn c → ((growList bs) .stop ≡ whole) × (c ≡ countsOf ((growList bs) .register))
+  -- a whole list leaves tables and counts of its register
+  left-whole : (c : Counts) → a ≡ wholeIn c → ((growList bs) .stop ≡ whole) × Holds t c ((growList bs) .register)
   unfolding stopIn
   left-whole c f = go ((growList bs) .stop) refl
     where
       r : Register
       r = (growList bs) .register
 
-      go : (s : Stop) → (growList bs) .stop ≡ s → ((growList bs) .stop ≡ whole) × (c ≡ countsOf r)
+      go : (s : Stop) → (growList bs) .stop ≡ s → ((growList bs) .stop ≡ whole) × Holds t c r
       go whole q =
           let w : wholeIn c ≡ stopIn (countsOf r) (read whole) = sym f ∙ left-answer ∙ rw q in
-          (q, ap (countsOr c) w)
+          (q, record { reachable = growList-grown bs; tables-are = sym left-tables; counts-are = sym (ap (countsOr c) w) })
       go (stopped k y) q =
           let w : wholeIn c ≡ stopIn (countsOf r) (read (stopped k y)) = sym f ∙ left-answer ∙ rw q in
           absurd (subst Whole? w tt)
 
+  pub call-searchable : (c : Counts) → a ≡ wholeIn c → Searchable (t .ends) (t .lengths) (c .edges) × (c .vertices ≤ maxVertices)
+  call-searchable c f = held-searchable t c ((growList bs) .register) (left-whole c f .1)
+
   pub call-answers : (query : Register → Reply) (slice : List ℕ) (c : Counts) (z : Returned) → a ≡ wholeIn c
       → ((r : Register) → Holds t c r → z ≡ returnsReply r slice (query r)) → z ≡ fromC query bs slice
   unfolding fromC
-  call-answers query slice c z f all =
-      let k : Holds t c ((growList bs) .register) = record { reachable = growList-grown bs; tables-are = sym left-tables; counts-are = sym (left-whole c f .1) } in
-      rw (left-whole c f .0, fromC) (all ((growList bs) .register) k)
-
-  -- what the search for a distance asks
-  pub call-searchable : (c : Counts) → a ≡ wholeIn c → Searchable (t .ends) (t .lengths) (c .edges) × (c .vertices ≤ maxVertices)
-  unfolding countsOf
-  call-searchable c f =
-      let r : Register = (growList bs) .register in
-      let g : Grown r = growList-grown bs in
-      let k : countsOf r ≡ c = sym (left-whole c f .1) in
-      let n : length (r .edges) ≡ c .edges = ap (λ (x : Counts). x .edges) k in
-      let v : r .vertices ≡ c .vertices = ap (λ (x : Counts). x .vertices) k in
-      (searchable r g t (c .edges) (sym left-tables) n, omega (arith, few r g))
+  call-answers query slice c z f all = rw (left-whole c f .0, fromC) (all ((growList bs) .register) (left-whole c f .1))
 
 -- ---- the four queries
 
 module _ (d s e l lb : List ℕ) (c : Counts) (r : Register) (h : Holds (tables d s e l lb) c r) (slice : List ℕ) (z : Returned) where
-  few-vertices : c .vertices ≤ maxVertices
-  unfolding countsOf
-  few-vertices = let v : r .vertices ≡ c .vertices = ap (λ (x : Counts). x .vertices) (h .counts-are) in omega (arith, few r (h .reachable))
-
   pub sheet-query : z ≡ returnsNumbers slice (concat (rowsIn (tables d s e l lb) (c .edges) (upTo (c .edges))))
       → z ≡ returnsReply r slice (listed (length (sheet r)))
   unfolding returnsReply sheetNumbers sheetIn
@@ -130,10 +129,10 @@ module _ (d s e l lb : List ℕ) (c : Counts) (r : Register) (h : Holds (tables 
       → z ≡ returnsReply r slice (reach r v)
   reach-query v m a n p q =
       let k : reachIn (tables d s e l lb) c v ≡ reach r v = rw (← h .tables-are, ← h .counts-are) (reach-agrees r (h .reachable) v) in
-      q ∙ ap (returnsReply r slice) (p ∙ narrow-reach (tables d s e l lb) c few-vertices v m n ∙ k)
+      q ∙ ap (returnsReply r slice) (p ∙ narrow-reach (tables d s e l lb) c (few-vertices (tables d s e l lb) c r h) v m n ∙ k)
 
   pub distance-query : (v w m n : ℕ) (a : Reply) → m ≡ min v 65535 → n ≡ min w 65535 → a ≡ measureIn (tables d s e l lb) c m n
       → z ≡ returnsReply r slice a → z ≡ returnsReply r slice (measure r v w)
   distance-query v w m n a i j p q =
       let k : measureIn (tables d s e l lb) c v w ≡ measure r v w = rw (← h .tables-are, ← h .counts-are) (measure-agrees r v w) in
-      q ∙ ap (returnsReply r slice) (p ∙ narrow-measure (tables d s e l lb) c few-vertices v w m n i j ∙ k)
+      q ∙ ap (returnsReply r slice) (p ∙ narrow-measure (tables d s e l lb) c (few-vertices (tables d s e l lb) c r h) v w m n i j ∙ k)
