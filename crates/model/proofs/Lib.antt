@@ -1,3 +1,5 @@
+pub mod Accepted
+pub mod Applied
 pub mod Basics
 pub mod Walks
 pub mod Chains

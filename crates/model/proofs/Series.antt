@@ -5,7 +5,6 @@ pub mod Told
 pub mod Facts
 pub mod Whole
 pub mod Clearing
-pub mod Values
 pub mod Commute
 pub mod Reachable
 pub mod OnlyHeld

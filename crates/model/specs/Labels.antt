@@ -61,6 +61,10 @@ extend es new blocks x m =
 unfoldable pub inwards : List Edge → ℕ → List Pass
 inwards es x = let d = onlyEdge es x in onwards es d (far es d x)
 
+-- the number of regular vertices of a leaf's chain
+abbrev pub innerCount : List Edge → ℕ → ℕ
+innerCount es x = length (inwards es x)
+
 -- "From its joined end outwards the next tags go to its joining fitting, the other joining fitting, then the other run's couplings
 -- in path order": the leaf x of the chain that keeps its labels, the other leaf y, and y's chain.
 unfoldable pub joinPath : List Edge → ℕ → ℕ → List Pass
@@ -73,7 +77,7 @@ joinPath es x y =
 -- it a birth: the first named gets the base, the second base + 1.
 unfoldable pub merge : List Edge → ℕ → ℕ → ℕ → Marks → Labelling
 merge es blocks a b m =
-    if leb (length (inwards es b)) (length (inwards es a))
+    if leb (innerCount es b) (innerCount es a)
     then attach blocks (onlyEdge es a) (inwards es a) (joinPath es a b) m
     else attach blocks (onlyEdge es b) (inwards es b) (joinPath es b a) m
 

@@ -49,9 +49,7 @@ chain-at es d v pr a = go (ends-of es d v pr a)
     to : (x y : ℕ) → x ≡ y → passed es (onwards es d x) ≡ passed es (onwards es d y)
     to x y e = ap (λ (z : ℕ). passed es (onwards es d z)) e
 
-    go : Ends es d v
-        → sum (lengthsOf es (reverse (map afterOf (onwards es d first)) ++ (d ∷ map afterOf (onwards es d second))))
-        ≡ lengthAt es d + passed es (onwards es d (far es d v)) + passed es (onwards es d v)
+    go : Ends es d v → chainLength es d ≡ lengthTo es d v + passed es (onwards es d v)
     go (first-end s f) = omega (arith, whole, to first v s, to second (far es d v) f)
     go (second-end s f) = omega (arith, whole, to second v s, to first (far es d v) f)
 

@@ -161,12 +161,16 @@ module _ (es : List Edge) (pr : Proper es) (rf : RingFree es) where
       let o : On es pr rf k = on es pr rf k h in
       below-mem (length es) (lineEdges (o .line)) (line-below es pr rf (o .line)) (nameOf es k) (name-mem es pr rf (o .line) k (o .mem))
 
+  -- a chain is as long as its edges, each as often as it stands on the chain
+  pub length-occurs : (p : ℕ) → p < length es → chainLength es p ≡ total (length es) (λ k. occurs k ((chainOf es p) .edges) * lengthAt es k)
+  unfolding chainLength
+  length-occurs p h = omega (arith, sum-occurs es (length es) ((chainOf es p) .edges) ((once p h) .below))
+
   expand : (p : ℕ) → p < length es
       → named es p * chainLength es p ≡ total (length es) (λ k. (named es p * occurs k ((chainOf es p) .edges)) * lengthAt es k)
-  unfolding chainLength
   expand p h =
       let n = length es in
-      ap (λ (s : ℕ). named es p * s) (sum-occurs es n ((chainOf es p) .edges) ((once p h) .below))
+      ap (λ (s : ℕ). named es p * s) (length-occurs p h)
       ∙ sym (total-scale n (named es p) (λ k. occurs k ((chainOf es p) .edges) * lengthAt es k))
       ∙ total-same n _ _ (λ k l. omega arith)
 

@@ -44,9 +44,9 @@ shorter-attained W (joined d) (joined e) x y = go (decLe d e)
 shorter-attained W (joined d) notJoined x y = x
 shorter-attained W notJoined e x y = y
 
-over-attained : (U W X : ℕ → Type 0) (a b : Distance) (l : ℕ) → ((d e : ℕ) → U d → W e → X (d + l + e)) → Attained U a → Attained W b → Attained X (over a l b)
+over-attained : (U W X : ℕ → Type 0) (a b : Distance) (l : ℕ) → ((d e n : ℕ) → n ≡ d + l + e → U d → W e → X n) → Attained U a → Attained W b → Attained X (over a l b)
 unfolding over
-over-attained U W X (joined d) (joined e) l f x y = f d e x y
+over-attained U W X (joined d) (joined e) l f x y = f d e _ (omega arith) x y
 over-attained U W X (joined d) notJoined l f x y = tt
 over-attained U W X notJoined e l f x y = tt
 
@@ -59,8 +59,8 @@ attained [] f g = go (ℕ-discrete f g)
     go (no n) = rw (ne-eqb f g n) tt
 attained (p ∷ es) f g =
     shorter-attained W _ _ (more (distance es f g) (attained es f g)) (shorter-attained W _ _
-    (over-attained _ _ W _ _ (p .len) (λ d e v w. via (forth refl refl) v w) (attained es f (p .first)) (attained es (p .second) g))
-    (over-attained _ _ W _ _ (p .len) (λ d e v w. via (back refl refl) v w) (attained es f (p .second)) (attained es (p .first) g)))
+    (over-attained _ _ W _ _ (p .len) (λ d e n q v w. via q (forth refl refl) v w) (attained es f (p .first)) (attained es (p .second) g))
+    (over-attained _ _ W _ _ (p .len) (λ d e n q v w. via q (back refl refl) v w) (attained es f (p .second)) (attained es (p .first) g)))
   where
     W : ℕ → Type 0
     W n = Way (p ∷ es) f g n
@@ -69,8 +69,8 @@ attained (p ∷ es) f g =
     more (joined d) w = way-more p w
     more notJoined w = tt
 
-    via : {x y d e : ℕ} → Joins p x y → Way es f x d → Way es y g e → Way (p ∷ es) f g (d + p .len + e)
-    via {d = d} {e = e} j v w = way-same (let z : d + (p .len + e) ≡ d + p .len + e = omega arith in z) (way-append (way-more p v) (along 0 (omega arith) j (way-more p w)))
+    via : {x y d e n : ℕ} → n ≡ d + p .len + e → Joins p x y → Way es f x d → Way es y g e → Way (p ∷ es) f g n
+    via {d = d} {e = e} {n = n} q j v w = way-same (let z : d + (p .len + e) ≡ n = omega arith in z) (way-append (way-more p v) (along 0 (omega arith) j (way-more p w)))
 
 -- ---- a distance of at most k
 abbrev AtMost : Distance → ℕ → Type 0

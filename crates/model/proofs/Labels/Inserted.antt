@@ -12,7 +12,7 @@ use borrow.Author.Tests.{eq-eqb, ne-eqb, leb-true, leb-false}
 use Rattle.model.specs.Basics.{if_then_else_}
 use Rattle.model.specs.Graph.{Edge, Pass, degree, endsAt, far, isLeaf, isRegular, onlyEdge, onwards}
 use Rattle.model.specs.Cases.{closesRing}
-use Rattle.model.specs.Labels.{Marks, attach, extend, inwards, joinPath, labelEdge, merge}
+use Rattle.model.specs.Labels.{Marks, attach, extend, innerCount, inwards, joinPath, labelEdge, merge}
 use Rattle.model.proofs.Walks.Degree.{Proper, degree-snoc, endsAt-le, zero-or-one, is-two, not-two, proper-snoc, end-first, end-second, two-ends}
 use Rattle.model.proofs.Walks.Turn.{At}
 use Rattle.model.proofs.Walks.Trail.{Trail, done, pass, Across, across}
@@ -241,14 +241,15 @@ module _ (es : List Edge) (p : Edge) (pr : Proper es) (d : p .first ≢ p .secon
       b : ℕ
       b = p .second
 
-      by-length : degree es a ≡ 1 → degree es b ≡ 1 → (t : Bool) → leb (length (inwards es b)) (length (inwards es a)) ≡ t
+      by-length : degree es a ≡ 1 → degree es b ≡ 1 → (t : Bool) → leb (innerCount es b) (innerCount es a) ≡ t
           → Inserted es p blocks m (if t then attach blocks (onlyEdge es a) (inwards es a) (joinPath es a b) m else attach blocks (onlyEdge es b) (inwards es b) (joinPath es b a) m)
-      by-length ca cb true q = laid-merge a b (end-first p d) (end-second p d) d ca cb (leb-true _ _ q)
+      by-length ca cb true q =
+          laid-merge a b (end-first p d) (end-second p d) d ca cb (let l = leb-true (innerCount es b) (innerCount es a) q in omega (arith, l))
       by-length ca cb false q =
-          laid-merge b a (end-second p d) (end-first p d) (λ z. d (sym z)) cb ca (let l = leb-false (length (inwards es b)) (length (inwards es a)) q in omega (arith, l))
+          laid-merge b a (end-second p d) (end-first p d) (λ z. d (sym z)) cb ca (let l = leb-false (innerCount es b) (innerCount es a) q in omega (arith, l))
 
       go : Dec (degree es a ≡ 1) → Dec (degree es b ≡ 1) → Inserted es p blocks m (compact (isLeaf es a) (isLeaf es b) (isRegular es a) (isRegular es b) es p blocks m)
-      go (yes ca) (yes cb) = rw (eq-eqb (degree es a) 1 ca, eq-eqb (degree es b) 1 cb) (by-length ca cb (leb (length (inwards es b)) (length (inwards es a))) refl)
+      go (yes ca) (yes cb) = rw (eq-eqb (degree es a) 1 ca, eq-eqb (degree es b) 1 cb) (by-length ca cb (leb (innerCount es b) (innerCount es a)) refl)
       go (yes ca) (no cb) = rw (eq-eqb (degree es a) 1 ca, ne-eqb (degree es b) 1 cb) (laid-extend a b _ (end-first p d) (end-second p d) d ca cb (splits es p m d))
       go (no ca) (yes cb) = rw (ne-eqb (degree es a) 1 ca, eq-eqb (degree es b) 1 cb) (laid-extend b a _ (end-second p d) (end-first p d) (λ z. d (sym z)) cb ca (splits es p m d))
       go (no ca) (no cb) = rw (ne-eqb (degree es a) 1 ca, ne-eqb (degree es b) 1 cb) (fresh ca cb refl (splits es p m d))

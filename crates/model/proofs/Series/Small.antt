@@ -11,7 +11,7 @@ use lib.Dec.{eqb, leb}
 use Rattle.model.specs.Basics.{floorLog, if_then_else_, maxEdges, maxLength, sum}
 use Rattle.model.specs.Graph.{Edge, Pass, afterOf, chainLength, chainOf, edgeAt, far, lengthAt, lengthsOf, onwards}
 use Rattle.model.specs.Cases.{Case, caseAt, extends, merges, newChain, splitBoth, splitExtends, splitNew}
-use Rattle.model.specs.Labels.{Labelling, Marks, attach, extend, inwards, labelCase, labelEdge, merge}
+use Rattle.model.specs.Labels.{Labelling, Marks, attach, extend, innerCount, labelCase, labelEdge, merge}
 use Rattle.model.specs.Register.{Register, empty, marksOf, withEdge, withVertex}
 use Rattle.model.specs.Distance.{distance, joined, lengthVia}
 use Rattle.model.specs.Queries.{lengthTo}
@@ -23,7 +23,7 @@ use Rattle.model.proofs.Walks.Degree.{Proper}
 use Rattle.model.proofs.Walks.Keeps.{Accepted, Added}
 use Rattle.model.proofs.Walks.NewEdge.{length-new}
 use Rattle.model.proofs.Walks.RingFree.{RingFree}
-use Rattle.model.proofs.Chains.Sums.{total, sum-occurs, once}
+use Rattle.model.proofs.Chains.Sums.{total, length-occurs, once}
 use Rattle.model.proofs.Groups.FloorLog.{floorLog-mono}
 use Rattle.model.proofs.Distances.Nearer.{distance-most}
 use Rattle.model.proofs.Series.Labelled.{Labelled, label-small, labelled-bound}
@@ -45,13 +45,13 @@ once-most c l a b = let z : c * l ≤ 1 * l = mul-le-mul-right l a in omega arit
 
 chain-most : (es : List Edge) (n : ℕ) → Proper es → RingFree es → AllLawful n es → (d : ℕ) → d < length es
     → chainLength es d ≤ maxLength * length es
-unfolding chainLength lengthAt
+unfolding lengthAt
 chain-most es n pr rf f d h =
     let ds = (chainOf es d) .edges in
     let o = once es pr rf d h in
     omega (
       arith,
-      sum-occurs es (length es) ds (o .below),
+      length-occurs es pr rf d h,
       total-most (length es) (λ c. occurs c ds * lengthAt es c)
           (λ c l. once-most (occurs c ds) (lengthAt es c) (o .distinct c) (f c l .most-length)),
     )
@@ -104,7 +104,7 @@ unfolding labelCase merge extend
 case-blocks newChain es e blocks m = omega arith
 case-blocks (extends x) es e blocks m = attach-blocks blocks _ _ _ m
 case-blocks merges es e blocks m =
-    either (leb (length (inwards es (e .second))) (length (inwards es (e .first)))) _ _ (blocks + 1)
+    either (leb (innerCount es (e .second)) (innerCount es (e .first))) _ _ (blocks + 1)
     (attach-blocks blocks _ _ _ m) (attach-blocks blocks _ _ _ m)
 case-blocks (splitExtends x) es e blocks m = attach-blocks blocks _ _ _ _
 case-blocks (splitNew x) es e blocks m = omega arith

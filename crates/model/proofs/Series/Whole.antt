@@ -1,6 +1,7 @@
 -- Demand 3, whole: for every series of calls.
 use mathlib.Core.Path.{_≡_, refl, sym, ap, _∙_, subst}
 use Prim.Native.Nat.{ℕ, _*_, _≤_, _<_}
+use native.Mathlib.Omega.{arith}
 use mathlib.Core.Bool.{Bool, true, false}
 use mathlib.Core.List.{List, [], _∷_, _++_}
 use lib.ListN.{length, getD, take, drop}
@@ -125,6 +126,7 @@ module _ (r : Register) (k : Kept r) where
   unfolding storedOf countsOf
   facts ls t =
       let n : length (r .edges) ≡ length ls = ap length (sym (t .edges-are)) ∙ edges-count ls in
+      let few = subst (λ (m : ℕ). r .relabellings ≤ m * floorLog m) n (labelled-bound r (k .labelled)) in
       record {
         holds = kept-held r k;
         answers = λ m. (step-does m r k) .1;
@@ -132,7 +134,7 @@ module _ (r : Register) (k : Kept r) where
         contents = refl;
         accepted = t .edges-are;
         total = t .total-is;
-        bound = λ l. subst (λ (m : ℕ). r .relabellings ≤ m * floorLog m) n (labelled-bound r (k .labelled));
+        bound = λ l. omega (arith, few);
         lengths = λ slice h. sheet-answer slice (lengthsSum ls) (rw (← t .edges-are) (lengths-are ls)) h;
         finds-own = find-answer;
         distances = distance-answer;

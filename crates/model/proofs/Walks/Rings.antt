@@ -1,7 +1,7 @@
 -- The ring test of a landing is what `ring-free` asks for, so no grown register has a ring.
 use mathlib.Core.Path.{_≡_, refl, sym, ap, _∙_}
 use mathlib.Core.Logic.{_≢_, _⊎_, inl, inr}
-use Prim.Native.Nat.{ℕ}
+use Prim.Native.Nat.{ℕ, _≤_}
 use native.Mathlib.Omega.{arith}
 use native.Mathlib.Nat.{not-suc-le-zero}
 use mathlib.Core.Bool.{true, false}
@@ -24,6 +24,10 @@ unfolding endOf
 trail-endOf done = refl
 trail-endOf (pass t c e u) = trail-endOf u
 
+-- a walk of enough steps along a trail to a singular vertex ends there
+walk-ends : {es : List Edge} {p f q g : ℕ} {ss : List Pass} (n : ℕ) → Trail es p f ss q g → isRegular es g ≡ false → length ss ≤ n → endOf es f (walk n es p f) ≡ g
+walk-ends n u j h = rw (trail-walk n u j h) (trail-endOf u)
+
 pub leaf-singular : (es : List Edge) (f : ℕ) → degree es f ≡ 1 → isRegular es f ≡ false
 unfolding isRegular
 leaf-singular es f h = ne-eqb (degree es f) 2 (λ e. omega arith)
@@ -39,10 +43,8 @@ module _ (es : List Edge) (pr : Proper es) where
   ring-found a b e q ss ha hb at u =
       let x = across es e a pr at in
       let j = leaf-singular es b hb in
-      let w : walk (length es) es e (far es e a) ≡ ss = trail-walk (length es) u j (omega (arith, trail-short es pr (x .at) u j)) in
-      let z : endOf es (far es e a) (walk (length es) es e (far es e a)) ≡ b = rw w (trail-endOf u) in
       and-intro (and-intro (eq-eqb (degree es a) 1 ha) (eq-eqb (degree es b) 1 hb))
-      (rw (onlyEdge-is es a e pr ha at) (eq-eqb (endOf es (far es e a) (walk (length es) es e (far es e a))) b z))
+      (rw (onlyEdge-is es a e pr ha at) (eq-eqb _ b (walk-ends _ u j (omega (arith, trail-short es pr (x .at) u j)))))
 
 pub no-ring : (es : List Edge) (n : Edge) → Proper es → closesRing es (n .first) (n .second) ≡ false
     → (x y e q : ℕ) (ss : List Pass) → endsAt x n ≡ 1 → endsAt y n ≡ 1 → degree es x ≡ 1 → degree es y ≡ 1

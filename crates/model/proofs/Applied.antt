@@ -1,0 +1,70 @@
+-- Demand 3 of two series: what its claim comes to where lists stop, calls are refused and the register is cleared in between; and
+-- that its bound needs both factors.
+use mathlib.Core.Path.{_≡_, refl, ap, _∙_, subst}
+use Prim.Native.Nat.{ℕ, _*_, _≤_}
+use native.Mathlib.Omega.{arith}
+use mathlib.Core.Bool.{Bool, true}
+use mathlib.Core.List.{List, []}
+use mathlib.Core.Option.{some}
+use lib.ListN.{length, take}
+use Rattle.model.specs.Basics.{floorLog, if_then_else_, sum}
+use Rattle.model.specs.Register.{empty}
+use Rattle.model.specs.Distance.{joined}
+use Rattle.model.specs.Queries.{found, measured, reached, refuses}
+use Rattle.model.specs.Tables.{cleared, fits, held}
+use Rattle.model.specs.Calls.{Call, effect, finds, measures, reaches, sheets}
+use Rattle.model.specs.Series.{AtEnd, Demand3, Made, after, ask, lengthColumn, series, since, start}
+use Rattle.model.specs.Computing.{computing}
+use Rattle.model.proofs.Accepted.{calls, pairs, pairwise, settled}
+use Rattle.model.proofs.Series.Whole.{demand3}
+
+-- ---- lists that stop, refused calls, clearings in between
+
+pub at-end : AtEnd (series calls start) (after calls empty) (since calls empty [])
+unfolding Demand3
+at-end = demand3 calls
+
+-- scratch of the right sizes
+cleared-fits : fits cleared ≡ true
+unfolding computing
+cleared-fits = refl
+
+asked : (c : Call) → (ask c (series calls start)) .reply ≡ (effect c (after calls empty)) .reply
+unfolding ask
+asked c =
+    at-end .answers (record { call = c; scratch = cleared })
+    ∙ ap (λ (b : Bool). if b then (effect c (after calls empty)) .reply else refuses 25) cleared-fits
+
+pub record Shown : Type 0 where
+  pub never-21 : held (series calls start) ≡ some (after calls empty)
+  pub total : (series calls start) .counts .relabellings ≡ 1
+  pub bound : (series calls start) .counts .relabellings ≤ 7 * floorLog 7
+  pub lengths : (slice : List ℕ) → 10 ≤ length slice → sum (lengthColumn (take 10 ((ask (sheets slice) (series calls start)) .slice))) ≡ 5500
+  pub find-8195 : (ask (finds 8195) (series calls start)) .reply ≡ found 2
+  pub reach-4 : (ask (reaches 4) (series calls start)) .reply ≡ reached 500 1700
+  pub distance : (ask (measures 0 6) (series calls start)) .reply ≡ measured (joined 4200)
+
+pub shown : Shown
+shown =
+    record {
+      never-21 = at-end .holds;
+      total = at-end .total ∙ settled .relabelled;
+      bound = subst (λ (n : ℕ). (series calls start) .counts .relabellings ≤ n * floorLog n) (settled .accepted)
+          (at-end .bound (omega (arith, settled .accepted)));
+      lengths = λ slice h.
+          subst (λ (n : ℕ). sum (lengthColumn (take (5 * n) ((ask (sheets slice) (series calls start)) .slice))) ≡ 5500) (settled .chains)
+          ((at-end .lengths slice (omega (arith, settled .chains))) .adds-up ∙ settled .lengths);
+      find-8195 = asked (finds 8195) ∙ settled .find-8195;
+      reach-4 = asked (reaches 4) ∙ settled .reach-4;
+      distance = asked (measures 0 6) ∙ settled .distance;
+    }
+
+-- ---- neither factor of the bound can be left out
+
+pub needs-logarithm : ((ms : List Made) → (series ms start) .counts .relabellings ≤ length (since ms empty [])) → ⊥
+unfolding Demand3
+needs-logarithm few = omega (arith, few pairwise, (demand3 pairwise) .total, pairs .relabelled, pairs .accepted)
+
+pub needs-edges : ((ms : List Made) → (series ms start) .counts .relabellings ≤ floorLog (length (since ms empty []))) → ⊥
+unfolding Demand3
+needs-edges few = omega (arith, few pairwise, (demand3 pairwise) .total, pairs .relabelled, pairs .logarithm)
