@@ -7,3 +7,4 @@ pub mod Answers
 pub mod Registers
 pub mod Measuring
 pub mod CallLaws
+pub mod CallSteps
