@@ -28,22 +28,29 @@ use Rattle.lookups.proofs.sheet.sheet as sheet
 use Rattle.distance.specs.Measure.{distanceReply}
 use Rattle.distance.proofs.calls.distance as distance
 
--- ---- the parameters of a query: five tables, the counts, five scratch tables, and its own
+-- ---- the parameters of a query
 
+-- five lent slices, then others
 abbrev Five : Type 0 → Type 0
 Five R = RefT (List ℕ) × (RefT (List ℕ) × (RefT (List ℕ) × (RefT (List ℕ) × (RefT (List ℕ) × R))))
 
+-- the tables, the counts, the scratch tables, then the query's own
 abbrev Query : Type 0 → Type 0
 Query R = Five (Counts × Five R)
 
+-- what five slices hold
 abbrev tablesIn : {R : Type 0} → Five R → Tables
 tablesIn a = tables (now (a .0)) (now (a .1 .0)) (now (a .1 .1 .0)) (now (a .1 .1 .1 .0)) (now (a .1 .1 .1 .1 .0))
 
+-- what stands behind them
 abbrev past : {R : Type 0} → Five R → R
 past a = a .1 .1 .1 .1 .1
 
+-- a query's own parameters
 abbrev own : {R : Type 0} → Query R → R
 own a = past (past a .1)
+
+-- ---- the contracts
 
 module _ {M : Type 1} (𝓤 : URA M) (H : Heap 𝓤) (A : Atoms 𝓤) (mem : Memory → SProp 𝓤) (run : Routine → Fun 𝓤) where
   -- a contract without `requires`

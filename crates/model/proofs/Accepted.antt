@@ -11,7 +11,7 @@ use Rattle.model.specs.Distance.{joined}
 use Rattle.model.specs.Queries.{found, measured, reached, read, sheet}
 use Rattle.model.specs.Tables.{Tables, cleared}
 use Rattle.model.specs.Calls.{effect, finds, grows, lands, measures, reaches}
-use Rattle.model.specs.Series.{Made, after, lengthsSum, relabelledBy, since}
+use Rattle.model.specs.Series.{Made, after, landedBy, lengthsSum, relabelledBy, since}
 use Rattle.model.specs.Values.{edge, house, listOf, lists, loop, ring}
 use Rattle.model.specs.Computing.{computing}
 
@@ -38,6 +38,7 @@ calls =
     record { call = lands (listOf 0 (edge 0 6 100 ∷ [])); scratch = none } ∷ []
 
 pub record Settled : Type 0 where
+  pub before-stop : length (landedBy empty ring) ≡ 1
   pub grow-stops : (effect (grows ring) empty) .reply ≡ read (stopped 3 24)
   pub land-stops : (effect (lands stops) ((effect (grows house) empty) .leaves)) .reply ≡ read (stopped 1 6)
   pub accepted : length (since calls empty []) ≡ 7
@@ -79,6 +80,7 @@ pub settled : Settled
 unfolding computing lists made
 settled =
     record {
+      before-stop = refl;
       grow-stops = refl;
       land-stops = refl;
       accepted = refl;
