@@ -1,6 +1,6 @@
 -- What trying one edge does to the distances.
-use mathlib.Core.Path.{_≡_, sym, _∙_}
-use Prim.Native.Nat.{ℕ, _+_, _*_, _≤_, _<_, min, max}
+use mathlib.Core.Path.{_≡_, sym, ap, _∙_}
+use Prim.Native.Nat.{ℕ, _+_, _*_, _-_, _/_, _≤_, _<_, min, max}
 use native.Mathlib.Decide.{ℕ-discrete}
 use native.Mathlib.Omega.{arith}
 use mathlib.Core.List.{List}
@@ -10,6 +10,10 @@ use Rattle.model.specs.Basics.{maxVertices}
 use Rattle.model.specs.Distance.{Joins, forth, back}
 use Rattle.model.specs.Tables.{edgeIn}
 use Rattle.distance.specs.Search.{edge, unreached, Searchable, Reason, is-goal, over, Grounded, Still, Within, Relaxed, rests, lowers}
+
+-- an edge as long as the bound lowers nothing below it
+pub still-long : (ends lens dists : List ℕ) (d e len : ℕ) → len ≡ getD lens e 0 → d ≤ len → Still ends lens dists d e
+still-long ends lens dists d e len p q = record { first = omega arith; second = omega arith }
 
 -- the ways out of a step
 module _ (ends lens dists : List ℕ) (d e a b len da db s : ℕ) (p : a ≡ getD ends (2 * e) 0) (q : b ≡ getD ends (2 * e + 1) 0) (r : len ≡ getD lens e 0)
@@ -49,6 +53,10 @@ module _ (ends lens : List ℕ) (m goal : ℕ) (h : Searchable ends lens m) wher
 
   pub within : (dists : List ℕ) (e : ℕ) → Grounded ends lens m goal dists → e < m → Within ends lens dists e
   within dists e g l = record {
+    ends-room = omega (arith, h .ends-room);
+    lens-room = omega (arith, h .lens-room);
+    first-room = omega (arith, h .firsts e l, g .room);
+    second-room = omega (arith, h .seconds e l, g .room);
     first-distance = g .top (getD ends (2 * e) 0) (h .firsts e l);
     short = h .short e l;
   }
@@ -91,3 +99,42 @@ module _ (ends lens : List ℕ) (m goal : ℕ) (h : Searchable ends lens m) wher
       → Grounded ends lens m goal dists′
   relaxed-grounded dists dists′ d e r l g (rests p q s) = rw q g
   relaxed-grounded dists dists′ d e r l g (lowers u j b q) = rw q (grounded-set dists e r u g l j b)
+
+-- The two ends of one edge: entry j of a list stands for end j - 2, and half of it is the edge's number plus 1.
+module _ (ends lens : List ℕ) (m goal : ℕ) (h : Searchable ends lens m) where
+  end-below : (e k : ℕ) → e < m → Dec (k ≡ 2 * e) → k ≤ 2 * e + 1 → 2 * e ≤ k → getD ends k 0 < maxVertices
+  end-below e k l (yes p) a b = rw p (h .firsts e l)
+  end-below e k l (no p) a b = let q : k ≡ 2 * e + 1 = omega arith in rw q (h .seconds e l)
+
+  pub near-room : (dists : List ℕ) (j half : ℕ) → Grounded ends lens m goal dists → half ≡ j / 2 → 1 ≤ half → half ≤ m
+      → getD ends (j - 2) 0 < maxVertices
+  near-room dists j half g p a b = end-below (half - 1) (j - 2) (omega arith) (ℕ-discrete _ _) (omega arith) (omega arith)
+
+  pub far-room : (dists : List ℕ) (j half : ℕ) → Grounded ends lens m goal dists → half ≡ j / 2 → 1 ≤ half → half ≤ m
+      → getD ends (4 * half - 1 - j) 0 < maxVertices
+  far-room dists j half g p a b = end-below (half - 1) (4 * half - 1 - j) (omega arith) (ℕ-discrete _ _) (omega arith) (omega arith)
+
+  pub joins-far : (j half : ℕ) → half ≡ j / 2 → 1 ≤ half → Joins (edge ends lens (half - 1)) (getD ends (4 * half - 1 - j) 0) (getD ends (j - 2) 0)
+  unfolding edgeIn
+  joins-far j half p a = go (ℕ-discrete j (2 * half))
+    where
+      go : Dec (j ≡ 2 * half) → Joins (edge ends lens (half - 1)) (getD ends (4 * half - 1 - j) 0) (getD ends (j - 2) 0)
+      go (yes q) =
+          let near : 2 * (half - 1) ≡ j - 2 = omega arith in
+          let far : 2 * (half - 1) + 1 ≡ 4 * half - 1 - j = omega arith in
+          back (ap (λ (k : ℕ). getD ends k 0) far) (ap (λ (k : ℕ). getD ends k 0) near)
+      go (no q) =
+          let near : 2 * (half - 1) + 1 ≡ j - 2 = omega arith in
+          let far : 2 * (half - 1) ≡ 4 * half - 1 - j = omega arith in
+          forth (ap (λ (k : ℕ). getD ends k 0) far) (ap (λ (k : ℕ). getD ends k 0) near)
+
+  -- the step from the near end to the far one
+  pub far-grounded : (dists dists′ : List ℕ) (j half near far dn df len s : ℕ) → Grounded ends lens m goal dists → half ≡ j / 2 → 1 ≤ half → half ≤ m
+      → near ≡ getD ends (j - 2) 0 → far ≡ getD ends (4 * half - 1 - j) 0 → dn ≡ getD dists near 0 → df ≡ getD dists far 0 → len ≡ getD lens (half - 1) 0
+      → s ≡ dn + len → s < df → dists′ ≡ set dists far s → Grounded ends lens m goal dists′
+  far-grounded dists dists′ j half near far dn df len s g p a b x y t u r w c o =
+      let l : half - 1 < m = omega arith in
+      let i : Joins (edge ends lens (half - 1)) far near = rw (x, y) (joins-far j half p a) in
+      let z : getD lens (half - 1) 0 + getD dists near 0 ≡ s = omega arith in
+      let q : getD lens (half - 1) 0 + getD dists near 0 < getD dists far 0 = omega arith in
+      rw (o, ← z) (grounded-set ends lens m goal h dists (half - 1) far near g l i q)

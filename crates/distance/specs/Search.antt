@@ -59,8 +59,12 @@ pub record Still (ends lens dists : List ℕ) (d e : ℕ) : Type 0 where
 abbrev pub none : ℕ
 none = 65535
 
--- the distance over edge e fits 32 bits
+-- edge e stands within the tables, its ends are vertices with a distance, and the distance over it fits 32 bits
 pub record Within (ends lens dists : List ℕ) (e : ℕ) : Type 0 where
+  pub ends-room : 2 * e + 1 < length ends
+  pub lens-room : e < length lens
+  pub first-room : getD ends (2 * e) 0 < length dists
+  pub second-room : getD ends (2 * e + 1) 0 < length dists
   pub first-distance : getD dists (getD ends (2 * e) 0) 0 ≤ unreached
   pub short : getD lens e 0 ≤ maxLength
 

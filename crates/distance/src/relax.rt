@@ -1,7 +1,8 @@
 // Edges that lower tentative distances, and rounds over all edges until none does.
-use tables::access::at16;
+use crate::access::get16;
+use crate::access::get32;
+use crate::access::set32;
 use tables::access::of32;
-use tables::access::put32;
 ghost use mathlib.Core.Path.{_≡_};
 ghost use Prim.Native.Nat.{_<_, min, max};
 ghost use Rattle.distance.specs.Search.{Searchable, Within, Grounded, Relaxed, Round, Settled, Counted};
@@ -22,26 +23,30 @@ fn greatest(a: u32, b: u32) -> u32
 }
 
 // Tries edge e: one of its ends may get a lesser distance from the other, where that is below best. The answer is the vertex whose
-// distance is less now. One test decides it, which a confirming round never mispredicts.
+// distance is less now. An edge as long as best lowers nothing below it; for the others one test decides, which a confirming round
+// never mispredicts.
 pub fn relax(ends: &[u16], lengths: &[u32], distances: &mut [u32], e: u16, best: u32) -> u16
     requires { ⌜ Within (now ends) (now lengths) (now distances) e ⌝ }
     ensures { λ r. ⌜ Relaxed (now (ends .entry)) (now (lengths .entry)) (now (distances .entry)) (now (distances .exit)) best e r ⌝ }
 {
+    let len = get32(lengths, e);
+    if best <= len {
+        return NONE;
+    }
     let i = 2 * (e as usize);
-    let a = at16(ends, i);
-    let b = at16(ends, i + 1);
-    let len = of32(lengths, e);
-    let da = of32(distances, a);
-    let db = of32(distances, b);
+    let a = get16(ends, i);
+    let b = get16(ends, i + 1);
+    let da = get32(distances, a);
+    let db = get32(distances, b);
     let sum = least(da, db) + len;
     if least(best, greatest(da, db)) <= sum {
         return NONE;
     }
     if da < db {
-        put32(distances, b as usize, sum);
+        set32(distances, b, sum);
         return b;
     }
-    put32(distances, a as usize, sum);
+    set32(distances, a, sum);
     a
 }
 

@@ -1,0 +1,25 @@
+// Reads and writes by an index that the caller shows to be within the table, for the loops that try every edge: they test nothing.
+ghost use mathlib.Core.Path.{_≡_};
+ghost use Prim.Native.Nat.{_<_};
+ghost use lib.ListN.{length, getD, set};
+
+pub fn get16(xs: &[u16], i: usize) -> u16
+    requires { ⌜ i < length (now xs) ⌝ }
+    ensures { λ r. ⌜ r ≡ getD (now (xs .entry)) i 0 ⌝ }
+{
+    xs[i]
+}
+
+pub fn get32(xs: &[u32], i: u16) -> u32
+    requires { ⌜ i < length (now xs) ⌝ }
+    ensures { λ r. ⌜ r ≡ getD (now (xs .entry)) i 0 ⌝ }
+{
+    xs[i as usize]
+}
+
+pub fn set32(xs: &mut [u32], i: u16, x: u32)
+    requires { ⌜ i < length (now xs) ⌝ }
+    ensures { λ _. ⌜ now (xs .exit) ≡ set (now (xs .entry)) i x ⌝ }
+{
+    xs[i as usize] = x;
+}

@@ -1,0 +1,110 @@
+// The lists of edge ends, and the walk along a chain that lowers distances. Edge end k is 2 e or 2 e + 1; a list holds k + 2, so that
+// half of it is e + 1, and 0 is its end. The lists are a hint: what they hold is tested, and nothing is proved of it.
+use crate::access::get16;
+use crate::access::get32;
+use crate::access::set32;
+use crate::relax::NONE;
+use tables::access::at16;
+use tables::access::of16;
+use tables::access::of32;
+use tables::access::put16;
+ghost use Prim.Native.Nat.{_≤_, _<_, _*_};
+ghost use lib.ListN.{length};
+ghost use Rattle.model.specs.Basics.{maxEdges};
+ghost use Rattle.distance.specs.Search.{Searchable, Grounded};
+
+// Edge end k comes to the front of the list of its vertex.
+fn link(ends: &[u16], heads: &mut [u16], next: &mut [u16], k: u16)
+    requires { ⌜ (k < length (now ends)) × (k < 2 * maxEdges) ⌝ }
+{
+    let i = k as usize;
+    let v = get16(ends, i) as usize;
+    put16(next, i + 2, at16(heads, v));
+    put16(heads, v, k + 2);
+}
+
+// From the last end down: the two that find no room in next are the last of their lists, and the 0 that is read there is their end.
+pub fn link_all(ends: &[u16], heads: &mut [u16], next: &mut [u16], edges: u16)
+    requires { ⌜ (edges ≤ maxEdges) × (2 * edges ≤ length (now ends)) ⌝ }
+{
+    let mut k = 2 * edges;
+    while 0 < k {
+        k -= 1;
+        link(ends, heads, next, k);
+    }
+}
+
+// Tries the edge of end j - 2 from that end's vertex on: the far vertex may get a lesser distance, where that is below best. The answer
+// is the far vertex where it does.
+fn relax_end(
+    ends: &[u16],
+    lengths: &[u32],
+    edges: u16,
+    distances: &mut [u32],
+    goal: u16,
+    j: u16,
+    best: u32,
+) -> u16
+    requires { ⌜ Searchable (now ends) (now lengths) edges × Grounded (now ends) (now lengths) edges goal (now distances) ⌝ }
+    ensures { λ _. ⌜ Grounded (now (ends .entry)) (now (lengths .entry)) edges goal (now (distances .exit)) ⌝ }
+{
+    let half = j / 2;
+    if half == 0 {
+        return NONE;
+    }
+    if edges < half {
+        return NONE;
+    }
+    let i = j as usize;
+    let near = get16(ends, i - 2);
+    let sum = get32(distances, near) + get32(lengths, half - 1);
+    if best <= sum {
+        return NONE;
+    }
+    let far = get16(ends, 4 * (half as usize) - 1 - i);
+    if get32(distances, far) <= sum {
+        return NONE;
+    }
+    set32(distances, far, sum);
+    far
+}
+
+// Of two list entries, the one that is not of the same edge as j.
+fn other_end(one: u16, two: u16, j: u16) -> u16 {
+    if one / 2 == j / 2 { two } else { one }
+}
+
+// Follows a chain from end j - 2 on while it lowers distances. The answer is the vertex that is to be queued: one that the chain ends at
+// and that is no leaf. At a leaf the other end is none, which stops the walk.
+pub fn follow(
+    ends: &[u16],
+    lengths: &[u32],
+    edges: u16,
+    heads: &[u16],
+    next: &[u16],
+    distances: &mut [u32],
+    goal: u16,
+    from: u16,
+    end: u16,
+) -> u16
+    requires { ⌜ Searchable (now ends) (now lengths) edges × Grounded (now ends) (now lengths) edges goal (now distances) ⌝ }
+    ensures { λ _. ⌜ Grounded (now (ends .entry)) (now (lengths .entry)) edges goal (now (distances .exit)) ⌝ }
+{
+    let mut j = end;
+    let mut left: u16 = 4096;
+    while 0 < left {
+        let best = of32(distances, from);
+        let v = relax_end(ends, lengths, edges, distances, goal, j, best);
+        if v == NONE {
+            break;
+        }
+        let one = of16(heads, v);
+        let two = of16(next, one);
+        if of16(next, two) != 0 {
+            return v;
+        }
+        j = other_end(one, two, j);
+        left -= 1;
+    }
+    NONE
+}
