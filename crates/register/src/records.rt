@@ -4,10 +4,10 @@ use counters::counts::Counts;
 use counters::refusals::Refusal;
 use insertion::landing::Inserted;
 use insertion::landing::land_edge;
+use list::reader::record_at;
 use list::records::Cursor;
 use list::records::Header;
 use list::records::Record;
-use list::records::next_record;
 use list::records::read_header;
 use tables::access::one_more16;
 ghost use mathlib.Core.Path.{_≡_};
@@ -70,7 +70,7 @@ pub fn land_record(
         ≡ landRecordIn (tables (now (degrees .entry)) (now (sides .entry)) (now (ends .entry)) (now (lengths .entry)) (now (labels .entry)))
         (countsIn counts) (recordAt (now (list .entry)) (at .at)) ⌝ }
 {
-    let found = next_record(list, at);
+    let found = record_at(list, at);
     match found {
         Record::End => Step::End,
         Record::Vertex(next) => step_of(land_vertex(counts), next),

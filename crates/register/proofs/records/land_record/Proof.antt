@@ -5,12 +5,12 @@ use borrow.Author.Needs.{needs}
 use Rattle.register.proofs.records.land_record.Statement.{statement}
 use Rattle.register.proofs.records.land_record.Tie as tie
 use Rattle.insertion.proofs.landing.land_edge.Reads as land-edge-reads
-use Rattle.list.proofs.records.next_record.Reads as next-record-reads
+use Rattle.list.proofs.reader.record_at.Reads as record-at-reads
 use Rattle.register.proofs.records.land_vertex.Reads as land-vertex-reads
 use Rattle.register.proofs.records.step_of.Reads as step-of-reads
 
-next-record-requires : tie.Need-next-record-requires
-next-record-requires c κs = search needs
+record-at-requires : tie.Need-record-at-requires
+record-at-requires c κs = search needs
 
 enum-told : tie.Need-enum-told
 enum-told c = search needs
@@ -37,12 +37,12 @@ enum-known-found-3 : tie.Need-enum-known-found-3
 enum-known-found-3 c = search needs
 
 returns : tie.Need-returns
-returns c = record-ends _ _ _ (ap recordIn (sym (c .enum-told .given .1)) ∙ c .before .before .next-record .ensures)
+returns c = record-ends _ _ _ (ap recordIn (sym (c .enum-told .given .1)) ∙ c .before .before .record-at .ensures)
 
 returns-2 : tie.Need-returns-2
 returns-2 c =
-    let at-next-record = c .before .before .before .before .before in
-    record-vertex _ _ _ _ _ _ (ap recordIn (sym (c .before .before .before .found .given .1)) ∙ at-next-record .next-record .ensures) (c .before .land-vertex .ensures) (c .step-of .ensures)
+    let at-record-at = c .before .before .before .before .before in
+    record-vertex _ _ _ _ _ _ (ap recordIn (sym (c .before .before .before .found .given .1)) ∙ at-record-at .record-at .ensures) (c .before .land-vertex .ensures) (c .step-of .ensures)
 
 same-length : tie.Need-same-length
 same-length c = search needs
@@ -63,17 +63,17 @@ returns-3 : tie.Need-returns-3
 returns-3 c =
     let at-land-edge = c .before .before .before .before .before .before .before .before .before .before .before in
     let at-found2 = at-land-edge .before .before .before .before .before .before .before in
-    let at-next-record = at-found2 .before .before in
-    record-edge _ _ _ _ _ _ _ _ (ap recordIn (sym (at-found2 .found2 .given .1)) ∙ at-next-record .next-record .ensures) (at-land-edge .land-edge .ensures) (c .step-of2 .ensures)
+    let at-record-at = at-found2 .before .before in
+    record-edge _ _ _ _ _ _ _ _ (ap recordIn (sym (at-found2 .found2 .given .1)) ∙ at-record-at .record-at .ensures) (at-land-edge .land-edge .ensures) (c .step-of2 .ensures)
 
 returns-4 : tie.Need-returns-4
-returns-4 c = record-bad _ _ _ _ (ap recordIn (sym (c .before .found3 .given .1)) ∙ c .before .before .before .next-record .ensures)
+returns-4 c = record-bad _ _ _ _ (ap recordIn (sym (c .before .found3 .given .1)) ∙ c .before .before .before .record-at .ensures)
 
 pub land-record-spec : {M : Type 1} → statement M
 land-record-spec =
     tie.close
     (tie.spec
-    next-record-requires
+    record-at-requires
     enum-told
     enum-known-found
     land-vertex-requires
