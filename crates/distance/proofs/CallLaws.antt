@@ -17,7 +17,7 @@ use Rattle.model.proofs.Series.Reachable.{full}
 use Rattle.tables.specs.Steps.{tables, zeroed}
 use Rattle.register.specs.Meaning.{lent}
 use Rattle.lookups.specs.Meaning.{answered}
-use Rattle.lookups.specs.Answering.{barred}
+use Rattle.admission.specs.Gate.{barred}
 use Rattle.lookups.proofs.QueryLaws.{Answers, query-answered, query-refused}
 use Rattle.distance.specs.Search.{Searchable}
 use Rattle.distance.specs.Measure.{measureIn}

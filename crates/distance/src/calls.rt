@@ -2,10 +2,10 @@
 // nothing of its caller: 25 and 21 stand before the search, then 5.
 use crate::measure::Distance;
 use crate::measure::measure;
+use admission::gate::Gate;
+use admission::gate::pass_gate;
 use counters::counts::Counts;
 use counters::numbers::Vertex;
-use lookups::gate::Gate;
-use lookups::gate::pass_gate;
 ghost use mathlib.Core.Path.{_≡_};
 ghost use mathlib.Core.List.{[]};
 ghost use Rattle.model.specs.Calls.{measures, step};

@@ -1,4 +1,3 @@
-pub mod GateLaws
 pub mod QueryLaws
 pub mod AnswerLaws
 pub mod TableLaws

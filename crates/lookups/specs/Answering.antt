@@ -1,20 +1,13 @@
--- The refusal before every query, and the sheet written to a slice, as functions that mirror the code.
+-- The sheet written to a slice, as functions that mirror the code.
 use Prim.Native.Nat.{ℕ, _*_}
-use mathlib.Core.Bool.{not}
 use mathlib.Core.List.{List}
-use mathlib.Core.Option.{Option, none, some}
 use lib.ListN.{length}
 use lib.Dec.{ltb}
 use Rattle.model.specs.Basics.{if_then_else_}
 use Rattle.model.specs.Queries.{Reply, concat, listed, refuses}
-use Rattle.model.specs.Tables.{Tables, Counts, held}
-use Rattle.model.specs.Calls.{Lent, allFit}
+use Rattle.model.specs.Tables.{Tables, Counts}
 use Rattle.queries.specs.Chains.{sheetIn}
 use Rattle.queries.specs.Answers.{inFront}
-
--- 25, then 21
-unfoldable pub barred : Lent → Option ℕ
-barred l = if not (allFit l) then some 25 else elim (held (l .stored)) [ some r ↦ none | none ↦ some 21 ]
 
 -- a slice, and the answer
 pub record Sheeted : Type 0 where

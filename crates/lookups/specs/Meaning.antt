@@ -1,14 +1,11 @@
 -- Document 01's values of the answers to find, reach and sheet, and the outcome of a query.
 use Prim.Native.Nat.{ℕ}
 use mathlib.Core.List.{List}
-use mathlib.Core.Option.{Option, none, some}
 use Rattle.model.specs.Queries.{Reply, found, reached, listed, refuses}
 use Rattle.model.specs.Tables.{Tables, Counts}
 use Rattle.model.specs.Calls.{Outcome}
 use Rattle.counters.specs.Refusals.{numberOf}
 use Rattle.register.specs.Meaning.{lent}
-use Rattle.lookups.specs.declared.gate.Gate.{Gate}
-use Rattle.lookups.specs.declared.gate.Gate.the-variants as gate
 use Rattle.lookups.specs.declared.find.Found.{Found}
 use Rattle.lookups.specs.declared.find.Found.the-variants as find
 use Rattle.lookups.specs.declared.reach.Reached.{Reached}
@@ -30,11 +27,6 @@ reachedReply (reach.Refused x) = refuses (numberOf x)
 abbrev pub listedReply : Listed → Reply
 listedReply (sheet.Chains n) = listed n
 listedReply (sheet.Refused x) = refuses (numberOf x)
-
--- the refusal before every query, if there is one
-abbrev pub gateRefusal : Gate → Option ℕ
-gateRefusal gate.Open = none
-gateRefusal (gate.Refused x) = some (numberOf x)
 
 -- what a query leaves and answers: tables, counts, scratch, the lent slice, the answer
 abbrev pub answered : Tables → Counts → Tables → List ℕ → Reply → Outcome

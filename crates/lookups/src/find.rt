@@ -1,6 +1,6 @@
 // Find: a label (document 01: tag) gives the name of its chain (run), or 8.
-use crate::gate::Gate;
-use crate::gate::pass_gate;
+use admission::gate::Gate;
+use admission::gate::pass_gate;
 use counters::counts::Counts;
 use counters::numbers::Label;
 use counters::refusals::Refusal;

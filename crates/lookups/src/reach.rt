@@ -1,6 +1,6 @@
 // Reach: a regular vertex (document 01: coupling) gives the lengths to the two ends of its chain (run); 5, then 8.
-use crate::gate::Gate;
-use crate::gate::pass_gate;
+use admission::gate::Gate;
+use admission::gate::pass_gate;
 use counters::counts::Counts;
 use counters::numbers::Vertex;
 use counters::refusals::Refusal;

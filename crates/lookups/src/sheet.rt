@@ -1,6 +1,6 @@
 // Sheet: five numbers a chain (document 01: run) to the front of a lent slice, or 9.
-use crate::gate::Gate;
-use crate::gate::pass_gate;
+use admission::gate::Gate;
+use admission::gate::pass_gate;
 use counters::counts::Counts;
 use counters::refusals::Refusal;
 use queries::rows::count_rows;

@@ -1,13 +1,12 @@
--- What a list leaves that is landed on cleared tables: the tables, the counts and the answer of the register grown from it.
-use mathlib.Core.Path.{_≡_, refl, sym, ap, _∙_}
+-- What a list leaves that is landed on a register, or on cleared tables: the tables, the counts and the answer that model defines.
+use mathlib.Core.Path.{_≡_, refl, ap, _∙_}
 use Prim.Native.Nat.{ℕ}
 use mathlib.Core.List.{List}
 use Rattle.model.specs.Register.{Register, empty}
 use Rattle.model.specs.Format.{Read, growList, landList}
 use Rattle.model.specs.Queries.{read}
-use Rattle.model.specs.Tables.{Tables, Counts, tablesOf, countsOf, cleared, noCounts}
+use Rattle.model.specs.Tables.{tablesOf, countsOf, cleared, noCounts}
 use Rattle.model.specs.Computing.{computing}
-use Rattle.agreement.specs.Listing as whole
 use Rattle.agreement.proofs.Growing.{Grown, empty-grown, list-grown}
 use Rattle.agreement.proofs.Listing.{list-agrees, readIn}
 use Rattle.register.specs.Listing.{ReadIn, landListIn}
@@ -28,11 +27,12 @@ shown : (d : Read) → replied (readIn d) ≡ grownFrom d
 unfolding replied readIn
 shown d = refl
 
+pub list-lands : (r : Register) (bs : List ℕ) → Grown r → landListIn (tablesOf r) (countsOf r) bs ≡ grownFrom (landList r bs)
+list-lands r bs g = list-is (tablesOf r) (countsOf r) bs ∙ ap replied (list-agrees r bs g) ∙ shown (landList r bs)
+
 pub list-leaves : (bs : List ℕ) → landListIn cleared noCounts bs ≡ grownFrom (growList bs)
 unfolding growList
-list-leaves bs =
-    let i : whole.landListIn cleared noCounts bs ≡ readIn (landList empty bs) = rw (empty-tables, empty-counts) at (list-agrees empty bs empty-grown) in
-    list-is cleared noCounts bs ∙ ap replied i ∙ shown (landList empty bs)
+list-leaves bs = rw (empty-tables, empty-counts) at (list-lands empty bs empty-grown)
 
 pub growList-grown : (bs : List ℕ) → Grown ((growList bs) .register)
 unfolding growList

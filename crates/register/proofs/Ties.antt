@@ -1,54 +1,23 @@
--- The functions of this crate, which read by index, are those of lists of edges and of bytes for which agreement has its theorems.
+-- A list read by index is the list of bytes for which agreement has its theorems.
 use mathlib.Core.Path.{_≡_, refl, sym, _∙_}
 use Prim.Native.Nat.{ℕ, zero, suc, _+_, _-_}
 use native.Mathlib.Omega.{arith}
 use mathlib.Core.Bool.{Bool, true, false, not}
-use mathlib.Core.List.{List, [], _∷_, map}
+use mathlib.Core.List.{List, [], _∷_}
 use mathlib.Core.Option.{Option, none, some}
 use lib.ListN.{length, drop}
 use lib.Seq.{drop-nil}
 use lib.Dec.{eqb, ltb}
-use Rattle.model.specs.Basics.{countFrom, if_then_else_, upTo}
+use Rattle.model.specs.Basics.{if_then_else_}
 use Rattle.model.specs.Graph.{Edge}
 use Rattle.model.specs.Format.{Record, bad, edge, firstRecord, headerRefusal, u16At, u32At, vertex}
 use Rattle.model.specs.Queries.{read}
-use Rattle.model.specs.Tables.{Counts, Tables, cleared, edgeIn, edgesIn}
+use Rattle.model.specs.Tables.{Counts, Tables}
 use Rattle.insertion.specs.Insertion.{AnswerIn, LandingIn, counts, done, landIn, landingIn, refusedIn}
-use Rattle.agreement.specs.Replay.{growIn, landAllIn}
 use Rattle.agreement.specs.Listing as whole
 use Rattle.list.specs.Reading.{badRecord, edgeTo, ends, headerAt, recordAt, recordOf, vertexTo}
 use Rattle.register.specs.Listing.{ReadIn, landListIn, landRecordIn, landRecordsIn, landVertexIn, steppedIn, stoppedIn, wentOn}
 use Rattle.register.proofs.ListingLaws.{record-bad, record-edge, record-ends, record-vertex, records-end, records-none, records-on, records-stop}
-use Rattle.register.specs.Replay.{ownEdge, regrowIn, replayIn}
-
--- ---- replay
-
-own-edge : (t : Tables) (e : ℕ) → ownEdge (t .ends) (t .lengths) e ≡ edgeIn t e
-unfolding ownEdge edgeIn
-own-edge t e = refl
-
-replay-is : (own : Tables) (n e : ℕ) (t : Tables) (c : Counts) → replayIn (own .ends) (own .lengths) n e t c ≡ landAllIn (map (edgeIn own) (countFrom e n)) t c
-unfolding replayIn landAllIn countFrom
-replay-is own zero e t c = refl
-replay-is own (suc n) e t c = go ((landIn t c (edgeIn own e)) .answer) refl (λ k. replay-is own n (e + 1) ((landIn t c (edgeIn own e)) .tables) k)
-  where
-    l : LandingIn
-    l = landIn t c (edgeIn own e)
-
-    next : e + 1 ≡ suc e
-    next = omega arith
-
-    go : (a : AnswerIn) → (landIn t c (edgeIn own e)) .answer ≡ a
-        → ((k : Counts) → replayIn (own .ends) (own .lengths) n (e + 1) (l .tables) k ≡ landAllIn (map (edgeIn own) (countFrom (e + 1) n)) (l .tables) k)
-        → replayIn (own .ends) (own .lengths) (suc n) e t c ≡ landAllIn (map (edgeIn own) (countFrom e (suc n))) t c
-    go (done k) q ih = rw (own-edge own e, q, replayIn, landAllIn, next, own-edge own e) (rw next at (ih k))
-    go (refusedIn x) q ih = rw (own-edge own e, q, replayIn, landAllIn, own-edge own e)
-
-pub regrow-is : (own : Tables) (c : Counts) → regrowIn (own .ends) (own .lengths) c cleared ≡ growIn own c
-unfolding regrowIn growIn edgesIn upTo
-regrow-is own c = rw (replay-is own (c .edges) 0 cleared (counts (c .vertices) 0 0 0))
-
--- ---- a list
 
 -- what a list leaves, with its answer
 unfoldable pub replied : whole.ReadIn → ReadIn

@@ -1,7 +1,6 @@
 -- What the enums and structs of this crate mean.
-use mathlib.Core.List.{[]}
 use Rattle.model.specs.Tables.{Tables, Counts}
-use Rattle.model.specs.Calls.{Lent, Outcome}
+use Rattle.model.specs.Calls.{Lent}
 use Rattle.counters.specs.Refusals.{numberOf}
 use Rattle.counters.specs.Answers.{countsIn, listReply}
 use Rattle.register.specs.Listing.{StepIn, ended, wentOn, stoppedIn, ReadIn}
@@ -20,7 +19,3 @@ landingMeans t l = record { tables = t; counts = countsIn (l .counts); reply = l
 -- what a call is lent: tables, counts, scratch
 abbrev pub lent : Tables → Counts → Tables → Lent
 lent t c s = record { stored = record { tables = t; counts = c }; scratch = s }
-
--- what it leaves and answers
-abbrev pub outcome : Tables → Landing → Tables → Outcome
-outcome t l s = record { lent = lent t (countsIn (l .counts)) s; slice = []; reply = listReply (l .answer) }

@@ -1,6 +1,2 @@
-// Grow and land over lent tables: a register is five tables and its counts, scratch is five tables more.
-// records: a list, record by record; replay: refusal 21; calls: what outsiders call.
-pub mod calls;
+// A list landed on lent tables, record by record.
 pub mod records;
-pub mod replay;
-pub mod sizes;

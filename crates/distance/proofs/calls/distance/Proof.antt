@@ -1,13 +1,13 @@
 use Rattle.distance.proofs.CallLaws.{open-searchable, open-answers}
 use Rattle.lookups.proofs.QueryLaws.{query-refused}
-use Rattle.lookups.specs.Meaning.{gateRefusal}
+use Rattle.admission.specs.Gate.{gateRefusal}
 use Rattle.model.specs.Calls.{measures, registerFor, lentSlice}
 use mathlib.Core.Path.{refl, sym, ap, _∙_}
 use borrow.Author.Needs.{needs}
 use Rattle.distance.proofs.calls.distance.Statement.{statement}
 use Rattle.distance.proofs.calls.distance.Tie as tie
 use Rattle.distance.proofs.measure.measure.Reads as measure-reads
-use Rattle.lookups.proofs.gate.pass_gate.Reads as pass-gate-reads
+use Rattle.admission.proofs.gate.pass_gate.Reads as pass-gate-reads
 
 pass-gate-requires : tie.Need-pass-gate-requires
 pass-gate-requires c κs = search needs

@@ -1,13 +1,13 @@
 use mathlib.Core.Path.{refl, sym, ap, _∙_}
 use Rattle.model.specs.Calls.{finds, registerFor, lentSlice}
-use Rattle.lookups.specs.Meaning.{gateRefusal}
+use Rattle.admission.specs.Gate.{gateRefusal}
 use Rattle.lookups.proofs.AnswerLaws.{find-answers}
 use Rattle.lookups.proofs.QueryLaws.{query-refused, query-answered}
 use borrow.Author.Needs.{needs}
 use Rattle.lookups.proofs.find.find.Statement.{statement}
 use Rattle.lookups.proofs.find.find.Tie as tie
 use Rattle.lookups.proofs.find.find_in.Reads as find-in-reads
-use Rattle.lookups.proofs.gate.pass_gate.Reads as pass-gate-reads
+use Rattle.admission.proofs.gate.pass_gate.Reads as pass-gate-reads
 
 pass-gate-requires : tie.Need-pass-gate-requires
 pass-gate-requires c κs = search needs

@@ -1,0 +1,91 @@
+-- The ways out of the gate: from the test of sizes and the replay to the refusal before a call and the scratch that is left; and what the
+-- gate tells of the call.
+use mathlib.Core.Path.{_≡_, refl, sym, ap, _∙_}
+use Prim.Native.Nat.{ℕ}
+use native.Mathlib.Omega.{arith}
+use mathlib.Core.Bool.{Bool, true, false, _&&_}
+use mathlib.Core.Option.{Option, none, some}
+use Rattle.model.specs.Register.{Register}
+use Rattle.model.specs.Tables.{Tables, Counts, fits, cleared, held}
+use Rattle.model.specs.Calls.{Call, Lent, admits, allFit, bars, gate, registerFor, scratchAfter}
+use Rattle.tables.specs.Steps.{zeroed}
+use Rattle.insertion.specs.Insertion.{done, landingIn}
+use Rattle.agreement.specs.Replay.{growIn}
+use Rattle.agreement.proofs.Calls.{zeroed-cleared}
+use Rattle.agreement.proofs.Replay.{replay-held, replay-none, stored}
+use Rattle.admission.specs.Replay.{regrowIn, Regrows}
+use Rattle.register.specs.Meaning.{lent}
+use Rattle.admission.proofs.ReplayLaws.{false-true}
+use Rattle.admission.proofs.Ties.{regrow-is}
+use Rattle.admission.specs.Gate.{barred}
+
+module _ (t : Tables) (c : Counts) (s : Tables) where
+  sizes-refused : (fits t && fits s) ≡ false → (some 25 ≡ barred (lent t c s)) × (s ≡ scratchAfter (lent t c s))
+  unfolding barred scratchAfter allFit
+  sizes-refused h = (rw (h, barred), rw h)
+
+  pub gate-tables : fits t ≡ false → (some 25 ≡ barred (lent t c s)) × (s ≡ scratchAfter (lent t c s))
+  gate-tables h = sizes-refused (rw h)
+
+  pub gate-scratch : fits t ≡ true → fits s ≡ false → (some 25 ≡ barred (lent t c s)) × (s ≡ scratchAfter (lent t c s))
+  gate-scratch h k = sizes-refused (rw (h, k))
+
+  module _ (h : fits t ≡ true) (k : fits s ≡ true) where
+    -- zeros of the scratch's sizes
+    zeros-are : zeroed s ≡ cleared
+    zeros-are = zeroed-cleared s k
+
+    scratch-is : (s′ : Tables) → s′ ≡ zeroed s → s′ ≡ scratchAfter (lent t c s)
+    unfolding scratchAfter allFit
+    scratch-is s′ e = rw (h, k) (e ∙ zeros-are)
+
+    -- the replay in cleared scratch is the one that decides refusal 21
+    regrown-is : regrowIn (t .ends) (t .lengths) c (zeroed s) ≡ growIn t c
+    regrown-is = rw zeros-are (regrow-is t c)
+
+    held-none : held (stored t c) ≡ none → some 21 ≡ barred (lent t c s)
+    unfolding barred allFit
+    held-none n = rw (h, k, barred) (rw n)
+
+    held-some : (r : Register) → held (stored t c) ≡ some r → none ≡ barred (lent t c s)
+    unfolding barred allFit
+    held-some r e = rw (h, k, barred) (rw e)
+
+    pub gate-not-grown : (s′ : Tables) (r : Bool) → s′ ≡ zeroed s → Regrows r t c (zeroed s) → r ≡ false
+        → (some 21 ≡ barred (lent t c s)) × (s′ ≡ scratchAfter (lent t c s))
+    gate-not-grown s′ r b g e =
+        let n : growIn t c ≡ landingIn t (done c) → ⊥ = λ q. false-true (sym e ∙ g .true-if (regrown-is ∙ q)) in
+        (held-none (replay-none t c n), scratch-is s′ b)
+
+    pub gate-open : (s′ : Tables) (r : Bool) → s′ ≡ zeroed s → Regrows r t c (zeroed s) → r ≡ true
+        → (none ≡ barred (lent t c s)) × (s′ ≡ scratchAfter (lent t c s))
+    gate-open s′ r b g e =
+        let o = replay-held t c (sym regrown-is ∙ g .if-true e) in
+        (held-some (o .0) (o .1 .held-is), scratch-is s′ b)
+
+some-is : (m n : ℕ) → some m ≡ some n → m ≡ n
+some-is m n e = cc
+
+some-none : (n : ℕ) → some n ≡ none → ⊥
+some-none n e = let z : _≡_ {A = ℕ} 0 1 = cc in omega arith
+
+-- of every call but grow
+module _ (c : Call) (l : Lent) (q : registerFor c l ≡ held (l .stored)) where
+  pub gate-bars : (x : ℕ) → some x ≡ barred l → gate c l ≡ bars x
+  unfolding barred gate
+  gate-bars x h = go (allFit l) refl (held (l .stored)) refl
+    where
+      go : (b : Bool) → allFit l ≡ b → (o : Option Register) → held (l .stored) ≡ o → gate c l ≡ bars x
+      go false e o f = rw (e, gate) (ap bars (sym (some-is x 25 (rw (e, barred) at h))))
+      go true e none f = rw (e, gate, q, f) (ap bars (sym (some-is x 21 (rw (e, barred, f) at h))))
+      go true e (some r) f = absurd (some-none x (rw (e, barred, f) at h))
+
+  pub gate-admits : none ≡ barred l → (r : Register) × (held (l .stored) ≡ some r) × (gate c l ≡ admits r)
+  unfolding barred gate
+  gate-admits h = go (allFit l) refl (held (l .stored)) refl
+    where
+      go : (b : Bool) → allFit l ≡ b → (o : Option Register) → held (l .stored) ≡ o
+          → (r : Register) × (held (l .stored) ≡ some r) × (gate c l ≡ admits r)
+      go false e o f = absurd (some-none 25 (sym (rw (e, barred) at h)))
+      go true e none f = absurd (some-none 21 (sym (rw (e, barred, f) at h)))
+      go true e (some r) f = (r, f, rw (e, gate, q, f))

@@ -1,0 +1,4 @@
+pub mod SizeLaws
+pub mod ReplayLaws
+pub mod Ties
+pub mod GateLaws

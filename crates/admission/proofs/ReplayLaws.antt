@@ -1,0 +1,131 @@
+-- The ways out of a replay, and a turn of its loop.
+use mathlib.Core.Path.{_≡_, refl, sym, ap, _∙_, subst}
+use Prim.Native.Nat.{ℕ, zero, suc, _+_, _*_, _-_, _≤_, _<_}
+use native.Mathlib.Nat.{not-suc-le-zero}
+use native.Mathlib.Numerals.{sub-one}
+use mathlib.Core.List.{List}
+use native.Mathlib.Omega.{arith}
+use mathlib.Core.Bool.{Bool, true, false}
+use lib.ListN.{getD}
+use lib.Dec.{T, eqb}
+use borrow.Author.Tests.{le-leb, lt-leb, eqb-true, eq-eqb}
+use Rattle.model.specs.Tables.{Tables, Counts}
+use Rattle.tables.specs.Steps.{tables, zeroed}
+use Rattle.insertion.specs.Insertion.{AnswerIn, done, refusedIn, LandingIn, landingIn, counts, landIn}
+use Rattle.register.proofs.Same.{Same}
+use Rattle.admission.specs.Replay.{ownEdge, replayIn, regrowIn, Regrows}
+
+module _ (es ls : List ℕ) where
+  pub replay-full : (c : Counts) (t : Tables) → 4096 < c .vertices → landingIn t (refusedIn 22) ≡ regrowIn es ls c t
+  unfolding regrowIn
+  replay-full c t h = rw (lt-leb (c .vertices) 4096 h)
+
+  pub replay-all : (c : Counts) (t : Tables) (l : LandingIn) → c .vertices ≤ 4096
+      → l ≡ replayIn es ls (c .edges) 0 t (counts (c .vertices) 0 0 0) → l ≡ regrowIn es ls c t
+  unfolding regrowIn
+  replay-all c t l h e = rw (le-leb (c .vertices) 4096 h) e
+
+  pub replay-none : (n e : ℕ) (t : Tables) (c : Counts) → n ≤ 0 → landingIn t (done c) ≡ replayIn es ls n e t c
+  unfolding replayIn
+  replay-none zero e t c h = refl
+  replay-none (suc n) e t c h = absurd (not-suc-le-zero h)
+
+tables-of : {x y : LandingIn} → x ≡ y → x .tables ≡ y .tables
+tables-of e = ap (λ (l : LandingIn). l .tables) e
+
+answer-of : {x y : LandingIn} → x ≡ y → x .answer ≡ y .answer
+answer-of e = ap (λ (l : LandingIn). l .answer) e
+
+-- the edge that the code reads
+own-edge : (es ls : List ℕ) (e i a b l : ℕ) → i ≡ 2 * e → a ≡ getD es i 0 → b ≡ getD es (i + 1) 0 → l ≡ getD ls e 0
+    → record { first = a; second = b; len = l } ≡ ownEdge es ls e
+unfolding ownEdge
+own-edge es ls e i a b l p q r s = rw (q, r, s, p)
+
+step-on : (es ls : List ℕ) (n e : ℕ) (t t′ : Tables) (c c′ : Counts) → 0 < n → landingIn t′ (done c′) ≡ landIn t c (ownEdge es ls e)
+    → replayIn es ls n e t c ≡ replayIn es ls (n - 1) (e + 1) t′ c′
+unfolding replayIn
+step-on es ls zero e t t′ c c′ h q = absurd (not-suc-le-zero h)
+step-on es ls (suc n) e t t′ c c′ h q = rw (← answer-of q, sub-one, replayIn, ← tables-of q)
+
+step-refused : (es ls : List ℕ) (n e : ℕ) (t t′ : Tables) (c : Counts) (x : ℕ) → 0 < n → landingIn t′ (refusedIn x) ≡ landIn t c (ownEdge es ls e)
+    → landingIn t′ (refusedIn x) ≡ replayIn es ls n e t c
+unfolding replayIn
+step-refused es ls zero e t t′ c x h q = absurd (not-suc-le-zero h)
+step-refused es ls (suc n) e t t′ c x h q = rw (← answer-of q, replayIn) q
+
+module _ (es ls : List ℕ) (n e i a b l : ℕ) (t t′ : Tables) (c : Counts) (more : 0 < n) (at : i ≡ 2 * e)
+    (first : a ≡ getD es i 0) (second : b ≡ getD es (i + 1) 0) (long : l ≡ getD ls e 0) where
+  pub replay-on : (answer : AnswerIn) (c′ : Counts) → answer ≡ done c′ → landingIn t′ answer ≡ landIn t c (record { first = a; second = b; len = l })
+      → replayIn es ls n e t c ≡ replayIn es ls (n - 1) (e + 1) t′ c′
+  replay-on answer c′ w q =
+      step-on es ls n e t t′ c c′ more (ap (landingIn t′) (sym w) ∙ q ∙ ap (landIn t c) (own-edge es ls e i a b l at first second long))
+
+  pub replay-refused : (answer : AnswerIn) (x : ℕ) → answer ≡ refusedIn x → landingIn t′ answer ≡ landIn t c (record { first = a; second = b; len = l })
+      → landingIn t′ (refusedIn x) ≡ replayIn es ls n e t c
+  replay-refused answer x w q =
+      step-refused es ls n e t t′ c x more (ap (landingIn t′) (sym w) ∙ q ∙ ap (landIn t c) (own-edge es ls e i a b l at first second long))
+
+-- ---- the comparison
+
+pub counts-differ : (a b : Counts) → (a ≡ b → ⊥) → (false ≡ true → a ≡ b) × (a ≡ b → false ≡ true)
+counts-differ a b h = (λ e. absurd (subst T (sym e) tt), λ e. absurd (h e))
+
+pub counts-last : (a b : Counts) → a .vertices ≡ b .vertices → a .edges ≡ b .edges → a .blocks ≡ b .blocks
+    → (eqb (a .relabellings) (b .relabellings) ≡ true → a ≡ b) × (a ≡ b → eqb (a .relabellings) (b .relabellings) ≡ true)
+counts-last a b v e k = (λ h. all (eqb-true _ _ h), λ h. eq-eqb _ _ (ap (λ (c : Counts). c .relabellings) h))
+  where
+    all : a .relabellings ≡ b .relabellings → a ≡ b
+    all n = λ i. counts (v i) (e i) (k i) (n i)
+
+pub false-true : false ≡ true → ⊥
+false-true e = subst T (sym e) tt
+
+done-is : (t t′ : Tables) (c c′ : Counts) → landingIn t (done c) ≡ landingIn t′ (done c′) → (t ≡ t′) × (c ≡ c′)
+done-is t t′ c c′ e = (tables-of e, of (answer-of e))
+  where
+    of : done c ≡ done c′ → c ≡ c′
+    of e = cc
+
+refused-done : (t t′ : Tables) (x : ℕ) (c : Counts) → landingIn t (refusedIn x) ≡ landingIn t′ (done c) → ⊥
+refused-done t t′ x c e = of (answer-of e)
+  where
+    of : refusedIn x ≡ done c → ⊥
+    of e = let z : _≡_ {A = ℕ} 0 1 = cc in omega arith
+
+-- What the replay left is compared with the register `own` and its counts c: it was refused; the counts differ; or they agree and
+-- the tables decide.
+module _ (own : Tables) (c : Counts) (t t′ : Tables) (answer : AnswerIn) where
+  pub regrows-refused : (x : ℕ) → answer ≡ refusedIn x → landingIn t′ answer ≡ regrowIn (own .ends) (own .lengths) c t → Regrows false own c t
+  regrows-refused x w q =
+      record {
+        if-true = λ e. absurd (false-true e);
+        true-if = λ e. absurd (refused-done t′ own x c (ap (landingIn t′) (sym w) ∙ q ∙ e));
+      }
+
+  pub regrows-other : (c′ : Counts) → answer ≡ done c′ → landingIn t′ answer ≡ regrowIn (own .ends) (own .lengths) c t → (c′ ≡ c → ⊥)
+      → Regrows false own c t
+  regrows-other c′ w q h =
+      record {
+        if-true = λ e. absurd (false-true e);
+        true-if = λ e. absurd (h ((done-is t′ own c′ c (ap (landingIn t′) (sym w) ∙ q ∙ e)) .1));
+      }
+
+  pub regrows-same : (c′ : Counts) (r : Bool) → answer ≡ done c′ → landingIn t′ answer ≡ regrowIn (own .ends) (own .lengths) c t → c′ ≡ c
+      → (r ≡ true → own ≡ t′) × (own ≡ t′ → r ≡ true) → Regrows r own c t
+  regrows-same c′ r w q h s =
+      record {
+        if-true = λ e. sym q ∙ ap (landingIn t′) w ∙ both (s .0 e);
+        true-if = λ e. s .1 (sym ((done-is t′ own c′ c (ap (landingIn t′) (sym w) ∙ q ∙ e)) .0));
+      }
+    where
+      both : own ≡ t′ → landingIn t′ (done c′) ≡ landingIn own (done c)
+      both e = rw (h, e)
+
+pub zeroed-again : (d s e l t d′ s′ e′ l′ t′ : List ℕ) → Same d s e l t d′ s′ e′ l′ t′ → zeroed (tables d′ s′ e′ l′ t′) ≡ zeroed (tables d s e l t)
+unfolding zeroed
+zeroed-again d s e l t d′ s′ e′ l′ t′ k = rw (k .degrees, k .sides, k .ends, k .lengths, k .labels)
+
+-- the same answer, and the same tables to land on
+pub regrows-on : (r r′ : Bool) (own : Tables) (c : Counts) (t t′ : Tables) → r′ ≡ r → t ≡ t′ → Regrows r own c t → Regrows r′ own c t′
+regrows-on r r′ own c t t′ q e h = subst (λ (u : Tables). Regrows r′ own c u) e (subst (λ (b : Bool). Regrows b own c t) (sym q) h)

@@ -1,0 +1,182 @@
+use Rattle.admission.proofs.ReplayLaws.{replay-none, replay-on, replay-refused}
+use Rattle.register.proofs.Same.{Same, same-refl}
+use Rattle.admission.specs.Replay.{replayIn}
+use Rattle.insertion.specs.Meaning.{answerIn}
+use Rattle.insertion.specs.Insertion.{landingIn}
+use Rattle.tables.specs.Steps.{tables}
+use Rattle.counters.specs.Answers.{countsIn}
+use native.Mathlib.Omega.{arith}
+use Prim.Native.Nat.{_+_, _*_, _≤_}
+use mathlib.Core.Path.{_≡_, refl, ap, sym, _∙_}
+use borrow.Author.Needs.{needs}
+use Rattle.admission.proofs.replay.replay.Statement.{statement}
+use Rattle.admission.proofs.replay.replay.Tie as tie
+use Rattle.insertion.proofs.landing.land_edge.Reads as land-edge-reads
+use Rattle.tables.proofs.access.at16.Reads as at16-reads
+use Rattle.tables.proofs.access.of32.Reads as of32-reads
+
+abbrev Inv-loop : tie.InvT-loop
+Inv-loop ownends ownlengths number degrees₀ sides₀ ends₀ lengths₀ labels₀ counts₀ i₀ edge₀ left₀ degrees sides ends lengths labels counts i edge left =
+    ((edge + left ≤ 65535) × (i ≡ 2 * edge)) × (Same degrees₀ sides₀ ends₀ lengths₀ labels₀ degrees sides ends lengths labels
+    × (replayIn ownends ownlengths left edge (tables degrees sides ends lengths labels) (countsIn counts)
+    ≡ replayIn ownends ownlengths left₀ edge₀ (tables degrees₀ sides₀ ends₀ lengths₀ labels₀) (countsIn counts₀)))
+
+abbrev μ-loop : tie.MeasureT-loop
+μ-loop ownends ownlengths number degrees₀ sides₀ ends₀ lengths₀ labels₀ counts₀ i₀ edge₀ left₀ degrees sides ends lengths labels counts i edge left = left
+
+loop-holds : tie.Need-loop-holds Inv-loop μ-loop
+loop-holds c = ((omega arith, omega arith), (same-refl _ _ _ _ _, refl))
+
+at16-requires : tie.Need-at16-requires Inv-loop μ-loop
+at16-requires c κs = search needs
+
+add-at16 : tie.Need-add-at16 Inv-loop μ-loop
+add-at16 c =
+    let at-loop = c .before .before .before .before .before .before .before in
+    omega (arith, at-loop .loop .inv .0 .0, at-loop .loop .inv .0 .1)
+
+at16-requires-2 : tie.Need-at16-requires-2 Inv-loop μ-loop
+at16-requires-2 c κs = search needs
+
+of32-requires : tie.Need-of32-requires Inv-loop μ-loop
+of32-requires c κs = search needs
+
+land-edge-requires : tie.Need-land-edge-requires Inv-loop μ-loop
+land-edge-requires c κs = search needs
+
+enum-known-inserted : tie.Need-enum-known-inserted Inv-loop μ-loop
+enum-known-inserted c = search needs
+
+enum-known-inserted-2 : tie.Need-enum-known-inserted-2 Inv-loop μ-loop
+enum-known-inserted-2 c = search needs
+
+same-length : tie.Need-same-length Inv-loop μ-loop
+same-length c =
+    let at-land-edge = c .before .before .before .before .before .before .before .before .before .before .before .before .before in
+    let at-loop = at-land-edge .before .before .before .before .before .before .before .before .before .before in
+    at-land-edge .land-edge .kept .0 ∙ at-loop .loop .inv .1 .0 .degrees
+
+same-length-2 : tie.Need-same-length-2 Inv-loop μ-loop
+same-length-2 c =
+    let at-land-edge = c .before .before .before .before .before .before .before .before .before .before .before .before .before in
+    let at-loop = at-land-edge .before .before .before .before .before .before .before .before .before .before in
+    at-land-edge .land-edge .kept .1 .0 ∙ at-loop .loop .inv .1 .0 .sides
+
+same-length-3 : tie.Need-same-length-3 Inv-loop μ-loop
+same-length-3 c =
+    let at-land-edge = c .before .before .before .before .before .before .before .before .before .before .before .before .before in
+    let at-loop = at-land-edge .before .before .before .before .before .before .before .before .before .before in
+    at-land-edge .land-edge .kept .1 .1 .0 ∙ at-loop .loop .inv .1 .0 .ends
+
+same-length-4 : tie.Need-same-length-4 Inv-loop μ-loop
+same-length-4 c =
+    let at-land-edge = c .before .before .before .before .before .before .before .before .before .before .before .before .before in
+    let at-loop = at-land-edge .before .before .before .before .before .before .before .before .before .before in
+    at-land-edge .land-edge .kept .1 .1 .1 .0 ∙ at-loop .loop .inv .1 .0 .lengths
+
+same-length-5 : tie.Need-same-length-5 Inv-loop μ-loop
+same-length-5 c =
+    let at-land-edge = c .before .before .before .before .before .before .before .before .before .before .before .before .before in
+    let at-loop = at-land-edge .before .before .before .before .before .before .before .before .before .before in
+    at-land-edge .land-edge .kept .1 .1 .1 .1 .0 ∙ at-loop .loop .inv .1 .0 .labels
+
+returns : tie.Need-returns Inv-loop μ-loop
+returns c =
+    let at-land-edge = c .before .before .before .before .before .before .before .before .before .before .before .before .before in
+    let at-of32 = at-land-edge .before in
+    let at-at162 = at-of32 .before in
+    let at-at16 = at-at162 .before in
+    let at-loop-test = at-at16 .before .before .before .before .before .before in
+    let at-loop = at-loop-test .before in
+    replay-refused _ _ _ _ _ _ _ _ _ _ _ (at-loop-test .loop-test .taken) (at-loop .loop .inv .0 .1) (at-at16 .at16 .ensures) (at-at162 .at162 .ensures) (at-of32 .of32 .ensures) _ _
+    (ap answerIn (c .before .inserted2 .given .1)) (at-land-edge .land-edge .ensures) ∙ at-loop .loop .inv .1 .1
+
+add-i : tie.Need-add-i Inv-loop μ-loop
+add-i c =
+    let at-loop-test = c .before .before .before .before .before .before .before .before .before .before .before .before .before .before .before .before .before .before .before .before .before .before in
+    let at-loop = at-loop-test .before in
+    omega (arith, at-loop .loop .inv .0 .0, at-loop .loop .inv .0 .1, at-loop-test .loop-test .taken)
+
+add-edge : tie.Need-add-edge Inv-loop μ-loop
+add-edge c =
+    let at-loop-test = c .before .before .before .before .before .before .before .before .before .before .before .before .before .before .before .before .before .before .before .before .before .before in
+    let at-loop = at-loop-test .before in
+    omega (arith, at-loop .loop .inv .0 .0, at-loop-test .loop-test .taken)
+
+sub-left : tie.Need-sub-left Inv-loop μ-loop
+sub-left c =
+    let at-loop-test = c .before .before .before .before .before .before .before .before .before .before .before .before .before .before .before .before .before .before .before .before .before .before in
+    omega (arith, at-loop-test .loop-test .taken)
+
+loop-less : tie.Need-loop-less Inv-loop μ-loop
+loop-less c =
+    let at-loop-test = c .before .before .before .before .before .before .before .before .before .before .before .before .before .before .before .before .before .before .before .before .before .before in
+    omega (arith, at-loop-test .loop-test .taken)
+
+loop-again : tie.Need-loop-again Inv-loop μ-loop
+loop-again c =
+    let at-land-edge = c .before .before .before .before .before .before .before .before .before .before .before .before .before in
+    let at-of32 = at-land-edge .before in
+    let at-at162 = at-of32 .before in
+    let at-at16 = at-at162 .before in
+    let at-loop-test = at-at16 .before .before .before .before .before .before in
+    let at-loop = at-loop-test .before in
+    let k = at-land-edge .land-edge .kept in
+    let same = at-loop .loop .inv .1 .0 in (
+      (omega (arith, at-loop .loop .inv .0 .0, at-loop-test .loop-test .taken), omega (arith, at-loop .loop .inv .0 .1)),
+      (
+        record { degrees = k .0 ∙ same .degrees; sides = k .1 .0 ∙ same .sides; ends = k .1 .1 .0 ∙ same .ends; lengths = k .1 .1 .1 .0 ∙ same .lengths; labels = k .1 .1 .1 .1 .0 ∙ same .labels },
+        sym (replay-on _ _ _ _ _ _ _ _ _ _ _ (at-loop-test .loop-test .taken) (at-loop .loop .inv .0 .1) (at-at16 .at16 .ensures) (at-at162 .at162 .ensures) (at-of32 .of32 .ensures) _ _
+            (ap answerIn (c .before .inserted .given .1)) (at-land-edge .land-edge .ensures)) ∙ at-loop .loop .inv .1 .1,
+      ),
+    )
+
+same-length-6 : tie.Need-same-length-6 Inv-loop μ-loop
+same-length-6 c = c .before .loop .inv .1 .0 .degrees
+
+same-length-7 : tie.Need-same-length-7 Inv-loop μ-loop
+same-length-7 c = c .before .loop .inv .1 .0 .sides
+
+same-length-8 : tie.Need-same-length-8 Inv-loop μ-loop
+same-length-8 c = c .before .loop .inv .1 .0 .ends
+
+same-length-9 : tie.Need-same-length-9 Inv-loop μ-loop
+same-length-9 c = c .before .loop .inv .1 .0 .lengths
+
+same-length-10 : tie.Need-same-length-10 Inv-loop μ-loop
+same-length-10 c = c .before .loop .inv .1 .0 .labels
+
+returns-2 : tie.Need-returns-2 Inv-loop μ-loop
+returns-2 c = replay-none _ _ _ _ _ _ (c .loop-test .left) ∙ c .before .loop .inv .1 .1
+
+pub replay-spec : {M : Type 1} → statement M
+replay-spec =
+    tie.close
+    (tie.spec
+    Inv-loop
+    μ-loop
+    loop-holds
+    at16-requires
+    add-at16
+    at16-requires-2
+    of32-requires
+    land-edge-requires
+    enum-known-inserted
+    enum-known-inserted-2
+    same-length
+    same-length-2
+    same-length-3
+    same-length-4
+    same-length-5
+    returns
+    add-i
+    add-edge
+    sub-left
+    loop-less
+    loop-again
+    same-length-6
+    same-length-7
+    same-length-8
+    same-length-9
+    same-length-10
+    returns-2)

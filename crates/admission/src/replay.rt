@@ -1,0 +1,216 @@
+// Refusal 21: the register's own edges are landed again, from empty, in scratch, and what that leaves is compared with the register.
+use counters::counts::Counts;
+use counters::refusals::Refusal;
+use insertion::landing::Inserted;
+use insertion::landing::land_edge;
+use tables::access::at16;
+use tables::access::of32;
+use tables::whole::clear_tables;
+use tables::whole::same_tables;
+ghost use mathlib.Core.Path.{_≡_};
+ghost use mathlib.Core.Bool.{true};
+ghost use Rattle.counters.specs.Answers.{countsIn};
+ghost use Rattle.tables.specs.Steps.{tables, zeroed};
+ghost use Rattle.insertion.specs.Insertion.{landingIn, done};
+ghost use Rattle.insertion.specs.Meaning.{answerIn};
+ghost use Rattle.admission.specs.Replay.{replayIn, regrowIn, Regrows};
+
+// The first edges of the tables of ends and lengths, landed on other tables.
+fn replay(
+    ownends: &[u16],
+    ownlengths: &[u32],
+    number: u16,
+    from: Counts,
+    degrees: &mut [u16],
+    sides: &mut [u16],
+    ends: &mut [u16],
+    lengths: &mut [u32],
+    labels: &mut [u32],
+) -> Inserted
+    ensures { λ r. ⌜ landingIn (tables (now (degrees .exit)) (now (sides .exit)) (now (ends .exit)) (now (lengths .exit)) (now (labels .exit))) (answerIn r)
+        ≡ replayIn (now (ownends .entry)) (now (ownlengths .entry)) number 0
+        (tables (now (degrees .entry)) (now (sides .entry)) (now (ends .entry)) (now (lengths .entry)) (now (labels .entry))) (countsIn from) ⌝ }
+{
+    let mut counts = from;
+    let mut i: usize = 0;
+    let mut edge: u16 = 0;
+    let mut left = number;
+    while 0 < left {
+        let inserted = land_edge(
+            degrees,
+            sides,
+            ends,
+            lengths,
+            labels,
+            counts,
+            at16(ownends, i),
+            at16(ownends, i + 1),
+            of32(ownlengths, edge),
+        );
+        match inserted {
+            Inserted::Done(next) => {
+                counts = next;
+            }
+            Inserted::Refused(refusal) => {
+                return inserted;
+            }
+        }
+        i += 2;
+        edge += 1;
+        left -= 1;
+    }
+    Inserted::Done(counts)
+}
+
+// As many edges as the counts say, landed on tables that come cleared, after as many vertices.
+fn regrow(
+    ownends: &[u16],
+    ownlengths: &[u32],
+    own: Counts,
+    degrees: &mut [u16],
+    sides: &mut [u16],
+    ends: &mut [u16],
+    lengths: &mut [u32],
+    labels: &mut [u32],
+) -> Inserted
+    ensures { λ r. ⌜ landingIn (tables (now (degrees .exit)) (now (sides .exit)) (now (ends .exit)) (now (lengths .exit)) (now (labels .exit))) (answerIn r)
+        ≡ regrowIn (now (ownends .entry)) (now (ownlengths .entry)) (countsIn own)
+        (tables (now (degrees .entry)) (now (sides .entry)) (now (ends .entry)) (now (lengths .entry)) (now (labels .entry))) ⌝ }
+{
+    if 4096 < own.vertices {
+        return Inserted::Refused(Refusal::TooManyVertices);
+    }
+    let from = Counts {
+        vertices: own.vertices,
+        edges: 0,
+        blocks: 0,
+        relabellings: 0,
+    };
+    replay(
+        ownends,
+        ownlengths,
+        own.edges,
+        from,
+        degrees,
+        sides,
+        ends,
+        lengths,
+        labels,
+    )
+}
+
+fn same_counts(a: Counts, b: Counts) -> bool
+    ensures { λ r. ⌜ (r ≡ true → countsIn a ≡ countsIn b) × (countsIn a ≡ countsIn b → r ≡ true) ⌝ }
+{
+    if a.vertices != b.vertices {
+        return false;
+    }
+    if a.edges != b.edges {
+        return false;
+    }
+    if a.blocks != b.blocks {
+        return false;
+    }
+    a.relabellings == b.relabellings
+}
+
+// Whether the replay in cleared scratch leaves the register that is lent.
+fn leaves_same(
+    degrees: &[u16],
+    sides: &[u16],
+    ends: &[u16],
+    lengths: &[u32],
+    labels: &[u32],
+    own: Counts,
+    sdegrees: &mut [u16],
+    ssides: &mut [u16],
+    sends: &mut [u16],
+    slengths: &mut [u32],
+    slabels: &mut [u32],
+) -> bool
+    ensures { λ r. ⌜ Regrows r (tables (now (degrees .entry)) (now (sides .entry)) (now (ends .entry)) (now (lengths .entry)) (now (labels .entry))) (countsIn own)
+        (tables (now (sdegrees .entry)) (now (ssides .entry)) (now (sends .entry)) (now (slengths .entry)) (now (slabels .entry))) ⌝ }
+{
+    let inserted = regrow(
+        ends,
+        lengths,
+        own,
+        sdegrees,
+        ssides,
+        sends,
+        slengths,
+        slabels,
+    );
+    match inserted {
+        Inserted::Done(counts) => {
+            if !same_counts(counts, own) {
+                return false;
+            }
+            same_tables(
+                degrees,
+                sides,
+                ends,
+                lengths,
+                labels,
+                sdegrees,
+                ssides,
+                sends,
+                slengths,
+                slabels,
+            )
+        }
+        Inserted::Refused(refusal) => false,
+    }
+}
+
+// The answer stands; the tables that it was found with are cleared.
+fn clear_behind(
+    answer: bool,
+    degrees: &mut [u16],
+    sides: &mut [u16],
+    ends: &mut [u16],
+    lengths: &mut [u32],
+    labels: &mut [u32],
+) -> bool
+    ensures { λ r. ⌜ (r ≡ answer) × (tables (now (degrees .exit)) (now (sides .exit)) (now (ends .exit)) (now (lengths .exit)) (now (labels .exit))
+        ≡ zeroed (tables (now (degrees .entry)) (now (sides .entry)) (now (ends .entry)) (now (lengths .entry)) (now (labels .entry)))) ⌝ }
+{
+    clear_tables(degrees, sides, ends, lengths, labels);
+    answer
+}
+
+// Whether the register is one that growing its own vertices and edges from empty leaves. Scratch ends all zero.
+pub fn is_held(
+    degrees: &[u16],
+    sides: &[u16],
+    ends: &[u16],
+    lengths: &[u32],
+    labels: &[u32],
+    own: Counts,
+    sdegrees: &mut [u16],
+    ssides: &mut [u16],
+    sends: &mut [u16],
+    slengths: &mut [u32],
+    slabels: &mut [u32],
+) -> bool
+    ensures { λ r. ⌜ (tables (now (sdegrees .exit)) (now (ssides .exit)) (now (sends .exit)) (now (slengths .exit)) (now (slabels .exit))
+        ≡ zeroed (tables (now (sdegrees .entry)) (now (ssides .entry)) (now (sends .entry)) (now (slengths .entry)) (now (slabels .entry))))
+        × (Regrows r (tables (now (degrees .entry)) (now (sides .entry)) (now (ends .entry)) (now (lengths .entry)) (now (labels .entry))) (countsIn own)
+        (zeroed (tables (now (sdegrees .entry)) (now (ssides .entry)) (now (sends .entry)) (now (slengths .entry)) (now (slabels .entry))))) ⌝ }
+{
+    clear_tables(sdegrees, ssides, sends, slengths, slabels);
+    let same = leaves_same(
+        degrees,
+        sides,
+        ends,
+        lengths,
+        labels,
+        own,
+        sdegrees,
+        ssides,
+        sends,
+        slengths,
+        slabels,
+    );
+    clear_behind(same, sdegrees, ssides, sends, slengths, slabels)
+}

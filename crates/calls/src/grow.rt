@@ -1,0 +1,94 @@
+// Grow: a list landed on the cleared register.
+use admission::gate::clear_if_fit;
+use counters::answers::ListAnswer;
+use counters::counts::Counts;
+use counters::refusals::Refusal;
+use register::records::Landing;
+use register::records::land_list;
+ghost use mathlib.Core.Path.{_≡_};
+ghost use Rattle.model.specs.Calls.{grows, step};
+ghost use Rattle.counters.specs.Answers.{countsIn};
+ghost use Rattle.tables.specs.Steps.{tables};
+ghost use Rattle.register.specs.Meaning.{lent};
+ghost use Rattle.calls.specs.Meaning.{outcome};
+
+// The counts go in and come back by value.
+pub fn grow_with(
+    counts: Counts,
+    degrees: &mut [u16],
+    sides: &mut [u16],
+    ends: &mut [u16],
+    lengths: &mut [u32],
+    labels: &mut [u32],
+    sdegrees: &mut [u16],
+    ssides: &mut [u16],
+    sends: &mut [u16],
+    slengths: &mut [u32],
+    slabels: &mut [u32],
+    list: &[u8],
+) -> Landing
+    ensures { λ r. ⌜ outcome (tables (now (degrees .exit)) (now (sides .exit)) (now (ends .exit)) (now (lengths .exit)) (now (labels .exit))) (countsIn (r .counts))
+        (tables (now (sdegrees .exit)) (now (ssides .exit)) (now (sends .exit)) (now (slengths .exit)) (now (slabels .exit))) (r .answer)
+        ≡ step (grows (now (list .entry)))
+        (lent (tables (now (degrees .entry)) (now (sides .entry)) (now (ends .entry)) (now (lengths .entry)) (now (labels .entry))) (countsIn counts)
+        (tables (now (sdegrees .entry)) (now (ssides .entry)) (now (sends .entry)) (now (slengths .entry)) (now (slabels .entry)))) ⌝ }
+{
+    if !clear_if_fit(
+        degrees,
+        sides,
+        ends,
+        lengths,
+        labels,
+        sdegrees,
+        ssides,
+        sends,
+        slengths,
+        slabels,
+    ) {
+        return Landing {
+            counts,
+            answer: ListAnswer::Refused(Refusal::WrongSize),
+        };
+    }
+    land_list(degrees, sides, ends, lengths, labels, Counts::none(), list)
+}
+
+// What outsiders call: the head counters are updated in the caller's copy. Covered code calls `grow_with`.
+pub fn grow(
+    counts: &mut Counts,
+    degrees: &mut [u16],
+    sides: &mut [u16],
+    ends: &mut [u16],
+    lengths: &mut [u32],
+    labels: &mut [u32],
+    sdegrees: &mut [u16],
+    ssides: &mut [u16],
+    sends: &mut [u16],
+    slengths: &mut [u32],
+    slabels: &mut [u32],
+    list: &[u8],
+) -> ListAnswer
+    ensures { λ r. ⌜ outcome (tables (now (degrees .exit)) (now (sides .exit)) (now (ends .exit)) (now (lengths .exit)) (now (labels .exit))) (countsIn (now (counts .exit)))
+        (tables (now (sdegrees .exit)) (now (ssides .exit)) (now (sends .exit)) (now (slengths .exit)) (now (slabels .exit))) r
+        ≡ step (grows (now (list .entry)))
+        (lent (tables (now (degrees .entry)) (now (sides .entry)) (now (ends .entry)) (now (lengths .entry)) (now (labels .entry))) (countsIn (now (counts .entry)))
+        (tables (now (sdegrees .entry)) (now (ssides .entry)) (now (sends .entry)) (now (slengths .entry)) (now (slabels .entry)))) ⌝ }
+{
+    let c = *counts;
+    let r = grow_with(
+        c,
+        degrees,
+        sides,
+        ends,
+        lengths,
+        labels,
+        sdegrees,
+        ssides,
+        sends,
+        slengths,
+        slabels,
+        list,
+    );
+    *counts = r.counts;
+    r.answer
+}
