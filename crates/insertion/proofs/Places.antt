@@ -1,5 +1,5 @@
 -- An end opened, and an edge placed, case by case.
-use mathlib.Core.Path.{_≡_}
+use mathlib.Core.Path.{_≡_, _∙_}
 use mathlib.Core.Bool.{Bool, true, false}
 use mathlib.Core.List.{List}
 use Prim.Native.Nat.{ℕ}
@@ -7,7 +7,9 @@ use borrow.Author.Tests.{eq-eqb, ne-eqb}
 use lib.ListN.{getD, set}
 use Rattle.tables.specs.Steps.{setPair, raiseBothIn}
 use Rattle.insertion.specs.Labelling.{worn, extendIn, merged, mergeIn}
-use Rattle.insertion.specs.Insertion.{openIn, placed, openBothIn, placeExtend, placeMerge}
+use Rattle.insertion.specs.Insertion.{openIn, Placed, placed, openBothIn, placeExtend, placeMerge}
+use Rattle.insertion.specs.Meaning.{placementIn}
+use Rattle.insertion.specs.declared.placing.Placement.{Placement}
 
 module _ (degrees s l : List ℕ) (v e : ℕ) where
   pub open-isolated : (s′ : List ℕ) → getD degrees v 0 ≡ 0 → s′ ≡ setPair s v e 0 → worn s′ l 0 ≡ openIn degrees s l v e
@@ -47,3 +49,8 @@ module _ (degrees ends s l s′ l′ : List ℕ) (blocks a b e n blocks′ m : �
       → placed ring degrees′ s′ l′ blocks′ m ≡ placeMerge degrees ends s l blocks a b e n
   unfolding placeMerge
   place-merged degrees′ y i = rw (← h, y, i)
+
+-- what is placed by q is what q, once known, comes to
+pub placed-by : (degrees ends s l : List ℕ) (blocks a b e n : ℕ) (q q′ : Placement) (p t : Placed) → q ≡ q′
+    → placementIn q degrees ends s l blocks a b e n ≡ t → p ≡ placementIn q′ degrees ends s l blocks a b e n → p ≡ t
+placed-by degrees ends s l blocks a b e n q q′ p t o h g = g ∙ rw (← o) h

@@ -7,11 +7,16 @@ use tables::access::of16;
 use tables::access::of32;
 use tables::access::one_more16;
 use tables::steps::next_label;
+use tables::walks::Meeting;
 use tables::walks::leave_leaf;
 use tables::walks::walk_lockstep;
 ghost use mathlib.Core.Path.{_≡_};
 ghost use mathlib.Core.Bool.{true, false};
-ghost use Rattle.insertion.specs.Labelling.{worn, joinIn, beginIn, merged, mergeIn};
+ghost use mathlib.Core.List.{List};
+ghost use Prim.Native.Nat.{ℕ};
+ghost use Rattle.tables.specs.Walks.{met};
+ghost use Rattle.insertion.specs.Labelling.{worn, joinIn, beginIn, merged, mergeAt, mergeIn};
+ghost use Rattle.insertion.specs.Meaning.{keeperIn};
 
 // What an edge makes of the counts: the number of blocks (document 01: births), and of the vertices that it relabelled (re-hung). A
 // ring is refused.
@@ -89,8 +94,33 @@ pub fn begin_chain(
     label_vertex(sides, labels, b, low + 1, e, db, true)
 }
 
-// The chains of the leaves a and b are merged over edge e. Walking in lockstep costs what the shorter one has. It shows which has more
-// regular vertices, and keeps its labels, a's on a tie; and it shows a ring, where a's walk ends at b.
+// The leaf whose chain keeps its labels, then the other; or neither, where no chain has a regular vertex.
+pub enum Keeper {
+    Neither,
+    Chain(u16, u16),
+}
+
+// The chain with more regular vertices keeps its labels, a's on a tie: a walk that still stands at one is that of the longer chain.
+pub fn keeper_of(degrees: &[u16], meeting: Meeting, a: u16, b: u16) -> Keeper
+    ensures { λ r. ⌜ ((ends sides labels : List ℕ) (blocks e n da db : ℕ) → (meeting .first ≡ b → ⊥)
+        → keeperIn r (now (degrees .entry)) ends sides labels blocks a b e n da db
+        ≡ mergeAt (now (degrees .entry)) ends sides labels blocks a b e n da db
+        (met (meeting .first) (meeting .second) (meeting .steps))) ⌝ }
+{
+    if of16(degrees, meeting.second) == 2 {
+        return Keeper::Chain(b, a);
+    }
+    if of16(degrees, meeting.first) == 2 {
+        return Keeper::Chain(a, b);
+    }
+    if meeting.steps == 0 {
+        return Keeper::Neither;
+    }
+    Keeper::Chain(a, b)
+}
+
+// The chains of the leaves a and b are merged over edge e. Walking in lockstep costs what the shorter one has. It shows which keeps its
+// labels; and it shows a ring, where a's walk ends at b.
 pub fn merge_chains(
     degrees: &[u16],
     ends: &[u16],
@@ -111,19 +141,16 @@ pub fn merge_chains(
     if met.first == b {
         return Merging::ring(blocks);
     }
-    if of16(degrees, met.second) == 2 {
-        let n = join_chains(degrees, ends, sides, labels, b, a, e, fuel);
-        return Merging::done(blocks, n);
+    let keeper = keeper_of(degrees, met, a, b);
+    match keeper {
+        Keeper::Neither => {
+            let k = one_more16(blocks);
+            begin_chain(sides, labels, a, first.edge, b, second.edge, e, k);
+            Merging::done(k, 0)
+        }
+        Keeper::Chain(x, y) => {
+            let n = join_chains(degrees, ends, sides, labels, x, y, e, fuel);
+            Merging::done(blocks, n)
+        }
     }
-    if of16(degrees, met.first) == 2 {
-        let n = join_chains(degrees, ends, sides, labels, a, b, e, fuel);
-        return Merging::done(blocks, n);
-    }
-    if met.steps == 0 {
-        let k = one_more16(blocks);
-        begin_chain(sides, labels, a, first.edge, b, second.edge, e, k);
-        return Merging::done(k, 0);
-    }
-    let n = join_chains(degrees, ends, sides, labels, a, b, e, fuel);
-    Merging::done(blocks, n)
 }

@@ -8,11 +8,42 @@ use tables::access::put32;
 use tables::steps::put_pair;
 use tables::steps::raise_both;
 ghost use mathlib.Core.Path.{_≡_};
+ghost use mathlib.Core.List.{List};
+ghost use Prim.Native.Nat.{ℕ};
 ghost use lib.ListN.{set};
 ghost use Rattle.tables.specs.Steps.{setPair};
 ghost use Rattle.insertion.specs.Labelling.{worn};
-ghost use Rattle.insertion.specs.Insertion.{openIn, placed, openBothIn, placeExtend, placeMerge, placeIn};
-ghost use Rattle.insertion.specs.Meaning.{caseIn};
+ghost use Rattle.insertion.specs.Insertion.{openIn, placed, openBothIn, placeMerge, placeIn};
+ghost use Rattle.insertion.specs.Meaning.{caseIn, extensionIn, placementIn};
+
+// The leaf whose chain goes on over the edge, if one does.
+pub enum Extension {
+    Nothing,
+    Leaf(u16),
+}
+
+// What a case comes to: the chains of both ends are merged, or both ends are opened. A regular end is split as it is opened.
+pub enum Placement {
+    Merge,
+    Open(Extension),
+}
+
+pub fn placement_of(case: Case, a: u16, b: u16) -> Placement
+    ensures { λ r. ⌜ ((degrees ends sides labels : List ℕ) (blocks e n : ℕ) → placementIn r degrees ends sides labels blocks a b e n
+        ≡ placeIn (caseIn case) degrees ends sides labels blocks a b e n) ⌝ }
+{
+    match case {
+        Case::New => Placement::Open(Extension::Nothing),
+        Case::ExtendFirst => Placement::Open(Extension::Leaf(a)),
+        Case::ExtendSecond => Placement::Open(Extension::Leaf(b)),
+        Case::Merge => Placement::Merge,
+        Case::SplitExtendFirst => Placement::Open(Extension::Leaf(a)),
+        Case::SplitExtendSecond => Placement::Open(Extension::Leaf(b)),
+        Case::SplitFirst => Placement::Open(Extension::Nothing),
+        Case::SplitSecond => Placement::Open(Extension::Nothing),
+        Case::SplitBoth => Placement::Open(Extension::Nothing),
+    }
+}
 
 // Vertex v is regular no more. The pieces of its chain keep their labels and sides: no other vertex is touched, no chain looked up.
 pub fn split_vertex(sides: &mut [u16], labels: &mut [u32], v: u16)
@@ -56,25 +87,30 @@ pub fn open_both(
     Merging::done(blocks, 0)
 }
 
-// The chain of the leaf x, which is a or b, goes on over edge e. The other end may have split that very chain, which e makes a loop:
-// x is labelled by what the split left, with the new degrees.
-pub fn place_extend(
+// Both ends are opened, and then the chain of a leaf goes on over edge e, if one does. The other end may have split that very chain,
+// which e makes a loop: the leaf is labelled by what the split left, with the new degrees.
+pub fn place_open(
+    extension: Extension,
     degrees: &mut [u16],
     ends: &[u16],
     sides: &mut [u16],
     labels: &mut [u32],
     blocks: u16,
-    x: u16,
     a: u16,
     b: u16,
     e: u16,
 ) -> Merging
     ensures { λ r. ⌜ placed (r .ring) (now (degrees .exit)) (now (sides .exit)) (now (labels .exit)) (r .blocks) (r .relabellings)
-        ≡ placeExtend (now (degrees .entry)) (now (ends .entry)) (now (sides .entry)) (now (labels .entry)) blocks x a b e ⌝ }
+        ≡ extensionIn extension (now (degrees .entry)) (now (ends .entry)) (now (sides .entry)) (now (labels .entry)) blocks a b e ⌝ }
 {
-    open_both(degrees, sides, labels, blocks, a, b, e);
-    let k = extend_chain(degrees, ends, sides, labels, blocks, x, e);
-    Merging::done(k, 0)
+    let opened = open_both(degrees, sides, labels, blocks, a, b, e);
+    match extension {
+        Extension::Nothing => opened,
+        Extension::Leaf(x) => {
+            let k = extend_chain(degrees, ends, sides, labels, blocks, x, e);
+            Merging::done(k, 0)
+        }
+    }
 }
 
 // A ring leaves the degrees too.
@@ -116,15 +152,19 @@ pub fn place_edge(
         ≡ placeIn (caseIn case) (now (degrees .entry)) (now (ends .entry)) (now (sides .entry)) (now (labels .entry))
         blocks a b e e ⌝ }
 {
-    match case {
-        Case::New => open_both(degrees, sides, labels, blocks, a, b, e),
-        Case::ExtendFirst => place_extend(degrees, ends, sides, labels, blocks, a, a, b, e),
-        Case::ExtendSecond => place_extend(degrees, ends, sides, labels, blocks, b, a, b, e),
-        Case::Merge => place_merge(degrees, ends, sides, labels, blocks, a, b, e, e),
-        Case::SplitExtendFirst => place_extend(degrees, ends, sides, labels, blocks, a, a, b, e),
-        Case::SplitExtendSecond => place_extend(degrees, ends, sides, labels, blocks, b, a, b, e),
-        Case::SplitFirst => open_both(degrees, sides, labels, blocks, a, b, e),
-        Case::SplitSecond => open_both(degrees, sides, labels, blocks, a, b, e),
-        Case::SplitBoth => open_both(degrees, sides, labels, blocks, a, b, e),
+    let placement = placement_of(case, a, b);
+    match placement {
+        Placement::Merge => place_merge(degrees, ends, sides, labels, blocks, a, b, e, e),
+        Placement::Open(extension) => place_open(
+            extension,
+            degrees,
+            ends,
+            sides,
+            labels,
+            blocks,
+            a,
+            b,
+            e,
+        ),
     }
 }
