@@ -1,7 +1,14 @@
 -- Classes and cases.
 use mathlib.Core.Path.{_≡_, refl}
+use mathlib.Core.List.{[], _∷_}
 use Prim.Native.Nat.{ℕ, zero, suc}
+use denote.Enum.Declared.{tagOf}
+use types.Run.{OneOf, miss}
 use Rattle.model.specs.Cases.{Class, isolated, leaf, regular, branch, classOf, caseOf}
+use Rattle.insertion.specs.Meaning.{classIn, leafless}
+use Rattle.insertion.specs.declared.cases.Class as declared
+use Rattle.insertion.specs.declared.cases.Class.the-variants.{Isolated, Leaf, Regular, Branch}
+use Rattle.insertion.proofs.cases.Class.{the-type}
 
 pub class-branch : (n : ℕ) → (n ≡ 0 → ⊥) → (n ≡ 1 → ⊥) → (n ≡ 2 → ⊥) → branch ≡ classOf n
 unfolding classOf
@@ -17,3 +24,19 @@ case-branch isolated = refl
 case-branch leaf = refl
 case-branch regular = refl
 case-branch branch = refl
+
+-- which end of an `or` was taken is told by the position of its variant
+pub no-leaf : (x : declared.Class) → OneOf (0 ∷ 2 ∷ 3 ∷ []) (tagOf the-type x) → leafless (classIn x) ≡ classIn x
+unfolding leafless
+no-leaf Isolated h = refl
+no-leaf Leaf h = absurd (miss (0 ∷ 2 ∷ 3 ∷ []) 1 tt h)
+no-leaf Regular h = refl
+no-leaf Branch h = refl
+
+pub not-regular : (x : declared.Class) (second : Class) → OneOf (0 ∷ 1 ∷ 3 ∷ []) (tagOf the-type x)
+    → caseOf isolated second ≡ caseOf (leafless (classIn x)) second
+unfolding leafless
+not-regular Isolated second h = refl
+not-regular Leaf second h = refl
+not-regular Regular second h = absurd (miss (0 ∷ 1 ∷ 3 ∷ []) 2 tt h)
+not-regular Branch second h = case-branch second

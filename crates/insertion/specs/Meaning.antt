@@ -30,6 +30,13 @@ classIn Leaf = C.leaf
 classIn Regular = C.regular
 classIn Branch = C.branch
 
+-- a class, with a leaf taken as isolated
+unfoldable pub leafless : C.Class → C.Class
+leafless C.isolated = C.isolated
+leafless C.leaf = C.isolated
+leafless C.regular = C.regular
+leafless C.branch = C.branch
+
 abbrev pub caseIn : Case → C.Case
 caseIn New = C.newChain
 caseIn ExtendFirst = C.extends C.firstNamed

@@ -1,7 +1,7 @@
 // The case of an insertion, by the degrees of the two ends before it.
 ghost use mathlib.Core.Path.{_≡_};
 ghost use Rattle.model.specs.Cases.{isolated, leaf, regular, classOf, caseOf};
-ghost use Rattle.insertion.specs.Meaning.{classIn, caseIn};
+ghost use Rattle.insertion.specs.Meaning.{classIn, leafless, caseIn};
 
 // Degrees 0, 1, 2, 3 and up. Document 01 calls a leaf free, a regular vertex a coupling, and every other one a junction.
 pub enum Class {
@@ -35,14 +35,24 @@ pub fn class_of(degree: u16) -> Class
     }
 }
 
+// A leaf is told from the other classes first, since that alone decides which chains change: the test that is hard to foresee is one
+// of two ways, not of four.
 pub fn case_of(first: Class, second: Class) -> Case
     ensures { λ r. ⌜ caseIn r ≡ caseOf (classIn first) (classIn second) ⌝ }
 {
     match first {
-        Class::Isolated => case_of_junction(second),
         Class::Leaf => case_of_leaf(second),
+        Class::Isolated | Class::Regular | Class::Branch => case_of_other(first, second),
+    }
+}
+
+// The first end is no leaf; a leaf would be taken as isolated.
+pub fn case_of_other(first: Class, second: Class) -> Case
+    ensures { λ r. ⌜ caseIn r ≡ caseOf (leafless (classIn first)) (classIn second) ⌝ }
+{
+    match first {
         Class::Regular => case_of_regular(second),
-        Class::Branch => case_of_junction(second),
+        Class::Isolated | Class::Leaf | Class::Branch => case_of_junction(second),
     }
 }
 
