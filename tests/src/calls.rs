@@ -4,67 +4,85 @@
 //! of answer bytes, or the refusal's number made negative: first that of the list, then the
 //! question's own, and 9 last.
 
-use crate::house::{Fitting, House, Tag};
+use std::collections::BTreeMap;
+
+use crate::house::{Fitting, House, PipeNumber, Tag};
 use crate::list;
-use crate::queries;
+use crate::queries::{self, Distances};
 use crate::refusal::Refusal;
 
 /// The answer to a distance where there is no way.
 pub const NOT_JOINED: u32 = u32::MAX;
 
-pub fn sheet(list: &[u8], answer: &mut [u8]) -> i32 {
-    call(list, answer, |house| Ok(queries::sheet(house).concat()))
+/// The numbers that a call answers with, or the refusal that comes before 9.
+pub type Answer = Result<Vec<u32>, Refusal>;
+
+/// A list grown once, for any number of calls on it.
+pub struct Grown {
+    /// The register, or the refusal where the list stopped.
+    house: Result<House, Refusal>,
+    names: BTreeMap<Tag, PipeNumber>,
 }
 
-pub fn find(list: &[u8], tag: Tag, answer: &mut [u8]) -> i32 {
-    call(list, answer, |house| {
-        let name = queries::find(house, tag)?;
-        Ok(vec![u32::try_from(name).expect("below 4,096")])
-    })
-}
+impl Grown {
+    pub fn of(list: &[u8]) -> Self {
+        let (house, result) = list::grow(list);
+        let names = queries::names_by_tag(&house);
+        let house = result.map(|()| house).map_err(list::Stop::refusal);
+        Grown { house, names }
+    }
 
-pub fn reach(list: &[u8], fitting: u32, answer: &mut [u8]) -> i32 {
-    call(list, answer, |house| {
-        let (low, high) = queries::reach(house, fitting_number(fitting))?;
+    pub fn house(&self) -> Result<&House, Refusal> {
+        self.house.as_ref().map_err(|&refusal| refusal)
+    }
+
+    pub fn sheet(&self) -> Answer {
+        Ok(queries::sheet(self.house()?).concat())
+    }
+
+    pub fn find(&self, tag: Tag) -> Answer {
+        self.house()?;
+        let name = self.names.get(&tag).ok_or(Refusal::NoCoupling)?;
+        Ok(vec![u32::try_from(*name).expect("below 4,096")])
+    }
+
+    pub fn reach(&self, fitting: u32) -> Answer {
+        let (low, high) = queries::reach(self.house()?, fitting_number(fitting))?;
         Ok(vec![low, high])
-    })
-}
+    }
 
-pub fn distance(list: &[u8], from: u32, to: u32, answer: &mut [u8]) -> i32 {
-    call(list, answer, |house| {
-        let distance = queries::distance(house, fitting_number(from), fitting_number(to))?;
-        Ok(vec![distance.unwrap_or(NOT_JOINED)])
-    })
+    /// The answers to the distances from one fitting to these, in order.
+    pub fn distances(&self, from: u32, to: &[u32]) -> Vec<Answer> {
+        let house = self.house();
+        let from = house.and_then(|house| Distances::from(house, fitting_number(from)));
+        let answer = |&to: &u32| match &from {
+            Ok(from) => Ok(vec![from.to(fitting_number(to))?.unwrap_or(NOT_JOINED)]),
+            Err(refusal) => Err(*refusal),
+        };
+        to.iter().map(answer).collect()
+    }
 }
 
 fn fitting_number(number: u32) -> Fitting {
     usize::try_from(number).expect("an index has at least 32 bits")
 }
 
-fn call(
-    list: &[u8],
-    answer: &mut [u8],
-    question: impl FnOnce(&House) -> Result<Vec<u32>, Refusal>,
-) -> i32 {
-    let count = grown(list)
-        .and_then(|house| question(&house))
-        .and_then(|numbers| write_answer(&numbers, answer));
+/// What a call returns, and the bytes at the start of the answer slice; none of them under a refusal.
+pub fn returned(answer: &Answer, slice: &mut [u8]) -> i32 {
+    let count = match answer {
+        Ok(numbers) => write_answer(numbers, slice),
+        Err(refusal) => Err(*refusal),
+    };
     match count {
         Ok(count) => i32::try_from(count).expect("at most 81,920"),
         Err(refusal) => -refusal.number(),
     }
 }
 
-fn grown(list: &[u8]) -> Result<House, Refusal> {
-    let (house, result) = list::grow(list);
-    result.map_err(list::Stop::refusal)?;
-    Ok(house)
-}
-
 /// Writes the numbers at the start of the answer slice, or nothing at all.
-fn write_answer(numbers: &[u32], answer: &mut [u8]) -> Result<usize, Refusal> {
+fn write_answer(numbers: &[u32], slice: &mut [u8]) -> Result<usize, Refusal> {
     let bytes: Vec<u8> = numbers.iter().flat_map(|n| n.to_le_bytes()).collect();
-    let room = answer.get_mut(..bytes.len()).ok_or(Refusal::TooShort)?;
+    let room = slice.get_mut(..bytes.len()).ok_or(Refusal::TooShort)?;
     room.copy_from_slice(&bytes);
     Ok(bytes.len())
 }
@@ -77,65 +95,71 @@ mod tests {
     const UNTOUCHED: u8 = 0xA5;
 
     /// What a call returns into a slice of this length, and the slice after it.
-    fn answered(length: usize, call: impl FnOnce(&mut [u8]) -> i32) -> (i32, Vec<u8>) {
-        let mut answer = vec![UNTOUCHED; length];
-        let returned = call(&mut answer);
-        (returned, answer)
+    fn answered(length: usize, answer: &Answer) -> (i32, Vec<u8>) {
+        let mut slice = vec![UNTOUCHED; length];
+        let value = returned(answer, &mut slice);
+        (value, slice)
+    }
+
+    fn distance(grown: &Grown, from: u32, to: u32) -> Answer {
+        grown.distances(from, &[to]).remove(0)
     }
 
     #[test]
     fn answers_are_little_endian_and_the_rest_is_untouched() {
-        let list = listing();
+        let grown = Grown::of(&listing());
         assert_eq!(
-            answered(6, |answer| find(&list, 8195, answer)),
+            answered(6, &grown.find(8195)),
             (4, vec![2, 0, 0, 0, UNTOUCHED, UNTOUCHED])
         );
         assert_eq!(
-            answered(8, |answer| reach(&list, 1, answer)),
+            answered(8, &grown.reach(1)),
             (8, vec![0xE8, 0x03, 0, 0, 0xFC, 0x08, 0, 0])
         );
         assert_eq!(
-            answered(4, |answer| distance(&list, 0, 5, answer)),
+            answered(4, &distance(&grown, 0, 5)),
             (4, 4500_u32.to_le_bytes().to_vec())
         );
-        let (returned, answer) = answered(61, |answer| sheet(&list, answer));
-        assert_eq!(returned, 60);
-        assert_eq!(answer[..4], [0, 0, 0, 0]);
-        assert_eq!(answer[56..], [0x84, 0x03, 0, 0, UNTOUCHED]);
+        let (value, slice) = answered(61, &grown.sheet());
+        assert_eq!(value, 60);
+        assert_eq!(slice[..4], [0, 0, 0, 0]);
+        assert_eq!(slice[56..], [0x84, 0x03, 0, 0, UNTOUCHED]);
     }
 
     #[test]
     fn not_joined_is_the_greatest_number() {
-        let list = pipes(4, &[(0, 1, 5), (2, 3, 5)]);
-        assert_eq!(
-            answered(4, |answer| distance(&list, 0, 3, answer)),
-            (4, vec![255; 4])
-        );
+        let grown = Grown::of(&pipes(4, &[(0, 1, 5), (2, 3, 5)]));
+        assert_eq!(answered(4, &distance(&grown, 0, 3)), (4, vec![255; 4]));
     }
 
     #[test]
     fn refusals_come_in_order_and_write_nothing() {
-        let list = listing();
-        let mut stopped = list.clone();
-        stopped.push(0);
-        let nothing = vec![UNTOUCHED; 3];
-        let refused = |refusal: i32| (-refusal, nothing.clone());
-        assert_eq!(answered(3, |a| find(&stopped, 0, a)), refused(4));
-        assert_eq!(answered(3, |a| sheet(&stopped, a)), refused(4));
-        assert_eq!(answered(3, |a| sheet(&list, a)), refused(9));
-        assert_eq!(answered(3, |a| find(&list, 0, a)), refused(8));
-        assert_eq!(answered(3, |a| find(&list, 8192, a)), refused(9));
-        assert_eq!(answered(3, |a| reach(&list, 7, a)), refused(5));
-        assert_eq!(answered(3, |a| reach(&list, 65_537, a)), refused(5));
-        assert_eq!(answered(3, |a| reach(&list, 3, a)), refused(8));
-        assert_eq!(answered(3, |a| reach(&list, 1, a)), refused(9));
-        assert_eq!(answered(3, |a| distance(&list, 0, 7, a)), refused(5));
-        assert_eq!(answered(3, |a| distance(&list, u32::MAX, 0, a)), refused(5));
-        assert_eq!(answered(3, |a| distance(&list, 0, 0, a)), refused(9));
+        let grown = Grown::of(&listing());
+        let stopped = Grown::of(&[listing(), vec![0]].concat());
+        let refusals = [
+            (stopped.find(8192), 4),
+            (stopped.reach(1), 4),
+            (stopped.sheet(), 4),
+            (distance(&stopped, 0, 99), 4),
+            (grown.sheet(), 9),
+            (grown.find(0), 8),
+            (grown.find(8192), 9),
+            (grown.reach(7), 5),
+            (grown.reach(65_537), 5),
+            (grown.reach(3), 8),
+            (grown.reach(1), 9),
+            (distance(&grown, 0, 7), 5),
+            (distance(&grown, u32::MAX, 0), 5),
+            (distance(&grown, 0, 0), 9),
+        ];
+        for (answer, refusal) in refusals {
+            assert_eq!(answered(3, &answer), (-refusal, vec![UNTOUCHED; 3]));
+        }
     }
 
     #[test]
     fn an_empty_sheet_needs_no_room() {
-        assert_eq!(sheet(&list::header(), &mut []), 0);
+        let grown = Grown::of(&list::header());
+        assert_eq!(answered(0, &grown.sheet()), (0, vec![]));
     }
 }

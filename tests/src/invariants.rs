@@ -144,9 +144,11 @@ fn check_distances(house: &House) {
 }
 
 fn distances_from(house: &House, from: usize) -> Vec<Option<u32>> {
+    let distances = queries::Distances::from(house, from).expect("landed");
     let targets = 0..house.fittings();
-    let distances = targets.map(|to| queries::distance(house, from, to).expect("both landed"));
-    distances.collect()
+    targets
+        .map(|to| distances.to(to).expect("landed"))
+        .collect()
 }
 
 #[test]

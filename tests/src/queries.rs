@@ -1,7 +1,7 @@
 //! Find, reach, distance and sheet (document 01, "What may be called").
 
 use std::cmp::Reverse;
-use std::collections::BinaryHeap;
+use std::collections::{BTreeMap, BinaryHeap};
 
 use crate::house::{Fitting, House, Millimetres, PipeNumber, Tag};
 use crate::refusal::Refusal;
@@ -12,10 +12,22 @@ pub type Line = [u32; 5];
 
 /// The name of the run whose couplings include the tag.
 pub fn find(house: &House, tag: Tag) -> Result<PipeNumber, Refusal> {
-    let wears = |coupling: &Fitting| house.tags()[*coupling] == tag;
-    let runs = house.runs_afresh();
-    let run = runs.iter().find(|run| run.couplings().iter().any(wears));
-    run.map(Run::name).ok_or(Refusal::NoCoupling)
+    let name = names_by_tag(house).get(&tag).copied();
+    name.ok_or(Refusal::NoCoupling)
+}
+
+/// For each tag in use, the name of the run whose couplings include it.
+pub fn names_by_tag(house: &House) -> BTreeMap<Tag, PipeNumber> {
+    let mut names = BTreeMap::new();
+    for run in house.runs_afresh() {
+        let name = run.name();
+        let tags = run
+            .couplings()
+            .iter()
+            .map(|&coupling| house.tags()[coupling]);
+        names.extend(tags.map(|tag| (tag, name)));
+    }
+    names
 }
 
 /// The lengths from a coupling to its run's low and high end.
@@ -26,15 +38,51 @@ pub fn reach(house: &House, fitting: Fitting) -> Result<(Millimetres, Millimetre
         .ok_or(Refusal::NoCoupling)
 }
 
-/// The least length between two fittings, or nothing where they are not joined. It is worked out
-/// over the pipes and over the runs, and both must agree.
+/// The least length between two fittings, or nothing where they are not joined.
 pub fn distance(house: &House, from: Fitting, to: Fitting) -> Result<Option<Millimetres>, Refusal> {
-    landed(house, from)?;
-    landed(house, to)?;
-    let over_pipes = least_over_pipes(house, from)[to];
-    let over_runs = distance_over_runs(house, from, to);
-    assert_eq!(over_pipes, over_runs, "distance from {from} to {to}");
-    Ok(over_pipes)
+    Distances::from(house, from)?.to(to)
+}
+
+/// The least lengths from one fitting, worked out over the pipes and over the runs.
+pub struct Distances<'a> {
+    house: &'a House,
+    from: Fitting,
+    /// To every fitting.
+    over_pipes: Vec<Option<Millimetres>>,
+    /// To every junction, over whole runs.
+    over_runs: Vec<Option<Millimetres>>,
+}
+
+impl<'a> Distances<'a> {
+    pub fn from(house: &'a House, from: Fitting) -> Result<Self, Refusal> {
+        landed(house, from)?;
+        Ok(Distances {
+            house,
+            from,
+            over_pipes: least_over_pipes(house, from),
+            over_runs: least_over_runs(house, &doors(house, from)),
+        })
+    }
+
+    /// The least length to a fitting. Both ways of working it out must agree.
+    pub fn to(&self, to: Fitting) -> Result<Option<Millimetres>, Refusal> {
+        landed(self.house, to)?;
+        let over_pipes = self.over_pipes[to];
+        assert_eq!(over_pipes, self.to_over_runs(to), "{} to {to}", self.from);
+        Ok(over_pipes)
+    }
+
+    /// The least length of a way that uses whole runs, a coupling's two reaches, and the stretch
+    /// between two couplings of one run.
+    fn to_over_runs(&self, to: Fitting) -> Option<Millimetres> {
+        if self.from == to {
+            return Some(0);
+        }
+        let arrivals = doors(self.house, to)
+            .into_iter()
+            .filter_map(|(junction, reach)| Some(self.over_runs[junction]? + reach));
+        arrivals.chain(stretch(self.house, self.from, to)).min()
+    }
 }
 
 /// The runs by rising name. The runs kept with their sides must be the runs that the pipes make.
@@ -94,19 +142,6 @@ fn least_over_pipes(house: &House, from: Fitting) -> Vec<Option<Millimetres>> {
         }
     }
     least
-}
-
-/// The least length of a way that uses whole runs, a coupling's two reaches, and the stretch
-/// between two couplings of one run.
-fn distance_over_runs(house: &House, from: Fitting, to: Fitting) -> Option<Millimetres> {
-    if from == to {
-        return Some(0);
-    }
-    let least = least_over_runs(house, &doors(house, from));
-    let arrivals = doors(house, to)
-        .into_iter()
-        .filter_map(|(junction, reach)| Some(least[junction]? + reach));
-    arrivals.chain(stretch(house, from, to)).min()
 }
 
 /// The junctions at which a way over the runs begins or ends, with the lengths to them: a

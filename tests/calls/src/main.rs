@@ -1,96 +1,121 @@
-//! `compare-calls [COUNT] [SEED]`: each call of the archive on random lists, compared with the other implementation: the value that is
-//! returned and every byte of the answer slice, the bytes behind the answer included.
+//! `register-calls [COUNT] [SEED]`: every call of the archive on random lists, compared with the other implementation: the value that
+//! is returned, every byte of the answer slice, and the bytes behind the slice. A difference ends it with code 1.
+
+mod archive;
+mod questions;
+mod tally;
 
 use std::env;
 use std::process::ExitCode;
+use std::sync::atomic::{AtomicUsize, Ordering};
+use std::thread::{self, ScopedJoinHandle};
 
-use reference::{calls, gen, list};
+use archive::Call;
+use questions::Question;
+use reference::calls::{self, Grown};
+use reference::gen;
+use reference::gen::random::Random;
+use tally::Tally;
 
-extern "C" {
-    fn pnl_sheet(list: *const u8, list_len: usize, answer: *mut u8, answer_len: usize) -> i32;
-    fn pnl_find(list: *const u8, list_len: usize, tag: u32, answer: *mut u8, answer_len: usize) -> i32;
-    fn pnl_reach(list: *const u8, list_len: usize, fitting: u32, answer: *mut u8, answer_len: usize) -> i32;
-}
-
-/// One call, by its arguments.
-#[derive(Clone, Copy, Debug)]
-enum Call {
-    Sheet,
-    Find(u32),
-    Reach(u32),
-}
-
-/// What stands in the answer slice before a call.
+const WORKERS: usize = 2;
+/// What stands in and behind the answer slice before a call.
 const CANARY: u8 = 0xA5;
-/// Houses up to this size have every tag and every fitting asked for.
-const SMALL: usize = 40;
+/// So many bytes behind the answer slice are looked at.
+const BEHIND: usize = 32;
+/// One list in so many is also asked in each of its beginnings, if it has no more bytes than this.
+const CUT_EVERY: usize = 50;
+const CUT_MOST: usize = 400;
 
-fn product(list: &[u8], call: Call, answer: &mut [u8]) -> i32 {
-    let (bytes, length) = (list.as_ptr(), list.len());
-    let (to, room) = (answer.as_mut_ptr(), answer.len());
-    // The archive reads `length` bytes and writes at most `room`.
-    unsafe {
-        match call {
-            Call::Sheet => pnl_sheet(bytes, length, to, room),
-            Call::Find(tag) => pnl_find(bytes, length, tag, to, room),
-            Call::Reach(fitting) => pnl_reach(bytes, length, fitting, to, room),
-        }
-    }
-}
-
-fn expected(list: &[u8], call: Call, answer: &mut [u8]) -> i32 {
-    match call {
-        Call::Sheet => calls::sheet(list, answer),
-        Call::Find(tag) => calls::find(list, tag, answer),
-        Call::Reach(fitting) => calls::reach(list, fitting, answer),
-    }
-}
-
-/// Whether both answer alike in a slice of this length.
-fn alike(list: &[u8], call: Call, room: usize) -> bool {
-    let mut ours = vec![CANARY; room];
-    let mut theirs = vec![CANARY; room];
-    product(list, call, &mut ours) == expected(list, call, &mut theirs) && ours == theirs
-}
-
-/// The calls to make on a list: the sheet, the tags in use and their neighbours, and the fittings.
-fn questions(list: &[u8]) -> Vec<Call> {
-    let (house, _) = list::grow(list);
-    let mut questions = vec![Call::Sheet, Call::Find(0), Call::Find(u32::MAX), Call::Reach(65_536)];
-    for (fitting, &tag) in house.tags().iter().enumerate().take(SMALL) {
-        questions.push(Call::Reach(fitting as u32));
-        if tag != 0 {
-            questions.extend([Call::Find(tag - 1), Call::Find(tag), Call::Find(tag + 1)]);
-        }
-    }
-    questions.push(Call::Reach(house.fittings() as u32));
-    questions
-}
-
-/// The lengths of slices to try: none, one byte too short, exact, one more.
-fn rooms(list: &[u8], call: Call) -> Vec<usize> {
-    let mut room = vec![0u8; 81_920];
-    let needs = usize::try_from(expected(list, call, &mut room)).unwrap_or(0);
-    vec![0, needs.saturating_sub(1), needs, needs + 1]
-}
+/// What differs, in words.
+type Difference = String;
 
 fn main() -> ExitCode {
     let mut arguments = env::args().skip(1).map(|word| word.parse().expect("a number"));
-    let count: usize = arguments.next().unwrap_or(1_500) as usize;
-    let seed: u64 = arguments.next().unwrap_or(1);
-    let mut calls = 0usize;
-    for index in 0..count {
-        let list = gen::list(seed, index);
-        for call in questions(&list) {
-            for room in rooms(&list, call) {
-                calls += 1;
-                if !alike(&list, call, room) {
-                    eprintln!("seed {seed}, list {index}: {call:?} differs with a slice of {room} bytes");
-                    return ExitCode::FAILURE;
-                }
-            }
+    let count = arguments.next().unwrap_or(5_000);
+    let seed = arguments.next().unwrap_or(1);
+    let next = AtomicUsize::new(0);
+    let worked = thread::scope(|scope| {
+        let workers: Vec<_> = (0..WORKERS).map(|_| scope.spawn(|| work(seed, count, &next))).collect();
+        let results = workers.into_iter().map(ScopedJoinHandle::join);
+        results.map(|result| result.expect("no worker fails")).collect::<Result<Vec<Tally>, _>>()
+    });
+    match null_alike().and(worked) {
+        Ok(tallies) => {
+            let mut whole = Tally::default();
+            tallies.into_iter().for_each(|tally| whole.add(tally));
+            println!("{whole}, seed {seed}");
+            ExitCode::SUCCESS
+        }
+        Err(difference) => {
+            eprintln!("{difference}");
+            ExitCode::FAILURE
         }
     }
-    println!("{calls} calls on {count} lists alike, seed {seed}");
-    ExitCode::SUCCESS
+}
+
+/// Compares lists until there are no more.
+fn work(seed: u64, count: u64, next: &AtomicUsize) -> Result<Tally, Difference> {
+    let mut tally = Tally::default();
+    loop {
+        let index = next.fetch_add(1, Ordering::Relaxed);
+        if index as u64 >= count {
+            return Ok(tally);
+        }
+        let random = &mut Random::of_list(!seed, index);
+        // No byte of the allocation lies behind the list, so that a tool that watches memory sees a read there.
+        let list = gen::list(seed, index).into_boxed_slice();
+        let compared = compare(&list, random, &mut tally).and_then(|()| compare_cut(&list, index, random, &mut tally));
+        if let Err(difference) = compared {
+            next.store(usize::MAX / 2, Ordering::Relaxed);
+            return Err(format!("seed {seed}, list {index}: {difference}"));
+        }
+    }
+}
+
+fn compare(list: &[u8], random: &mut Random, tally: &mut Tally) -> Result<(), Difference> {
+    let grown = Grown::of(list);
+    tally.count_list(grown.house().map_or(0, |house| house.fittings()));
+    for question in questions::of(&grown, random) {
+        for &room in &question.rooms {
+            let returned = ask(list, &question, room)?;
+            tally.count_call(question.call, &question.answer, returned);
+        }
+    }
+    Ok(())
+}
+
+/// Compares each beginning of some of the lists.
+fn compare_cut(list: &[u8], index: usize, random: &mut Random, tally: &mut Tally) -> Result<(), Difference> {
+    if !index.is_multiple_of(CUT_EVERY) || list.len() > CUT_MOST {
+        return Ok(());
+    }
+    for length in 0..list.len() {
+        let cut: Box<[u8]> = list[..length].into();
+        compare(&cut, random, tally).map_err(|difference| format!("its first {length} bytes: {difference}"))?;
+    }
+    Ok(())
+}
+
+/// What the archive returns into a slice of this length, if that is the other implementation's answer.
+fn ask(list: &[u8], question: &Question, room: usize) -> Result<i32, Difference> {
+    let mut ours = vec![CANARY; room + BEHIND];
+    let mut theirs = ours.clone();
+    let returned = question.call.make(list, &mut ours[..room]);
+    let expected = calls::returned(&question.answer, &mut theirs[..room]);
+    if returned == expected && ours == theirs {
+        return Ok(returned);
+    }
+    let call = question.call;
+    Err(format!("{call:?} with a slice of {room} bytes: {returned} {ours:?}, and expected {expected} {theirs:?}"))
+}
+
+/// No list at all is refused with 1, with null pointers too.
+fn null_alike() -> Result<(), Difference> {
+    for call in [Call::Sheet, Call::Find(0), Call::Reach(0), Call::Distance(0, 0)] {
+        let returned = call.make_at_null();
+        if returned != -1 {
+            return Err(format!("{call:?} with null pointers: {returned}"));
+        }
+    }
+    Ok(())
 }

@@ -1,0 +1,52 @@
+//! The calls of the archive, as C makes them.
+
+use std::ptr;
+
+extern "C" {
+    fn pnl_sheet(list: *const u8, list_len: usize, answer: *mut u8, answer_len: usize) -> i32;
+    fn pnl_find(list: *const u8, list_len: usize, tag: u32, answer: *mut u8, answer_len: usize) -> i32;
+    fn pnl_reach(list: *const u8, list_len: usize, fitting: u32, answer: *mut u8, answer_len: usize) -> i32;
+    fn pnl_distance(list: *const u8, list_len: usize, from: u32, to: u32, answer: *mut u8, answer_len: usize) -> i32;
+}
+
+/// One call, by its arguments.
+#[derive(Clone, Copy, Debug, PartialEq, Eq)]
+pub enum Call {
+    Sheet,
+    Find(u32),
+    Reach(u32),
+    Distance(u32, u32),
+}
+
+impl Call {
+    /// What the archive returns; its answer is in the slice.
+    pub fn make(self, list: &[u8], answer: &mut [u8]) -> i32 {
+        self.make_at(list.as_ptr(), list.len(), answer.as_mut_ptr(), answer.len())
+    }
+
+    /// The same with no list and no answer slice: null pointers of length 0.
+    pub fn make_at_null(self) -> i32 {
+        self.make_at(ptr::null(), 0, ptr::null_mut(), 0)
+    }
+
+    fn make_at(self, list: *const u8, list_len: usize, to: *mut u8, room: usize) -> i32 {
+        // The archive reads `list_len` bytes and writes at most `room`.
+        unsafe {
+            match self {
+                Call::Sheet => pnl_sheet(list, list_len, to, room),
+                Call::Find(tag) => pnl_find(list, list_len, tag, to, room),
+                Call::Reach(fitting) => pnl_reach(list, list_len, fitting, to, room),
+                Call::Distance(from, end) => pnl_distance(list, list_len, from, end, to, room),
+            }
+        }
+    }
+
+    /// The bytes of an answer; of a sheet's, two rows.
+    pub fn usual_size(self) -> usize {
+        match self {
+            Call::Sheet => 40,
+            Call::Reach(_) => 8,
+            Call::Find(_) | Call::Distance(..) => 4,
+        }
+    }
+}

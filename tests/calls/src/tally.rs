@@ -1,0 +1,73 @@
+//! Counting calls by what they were and what they returned.
+
+use std::collections::BTreeMap;
+use std::fmt;
+
+use reference::calls::{Answer, NOT_JOINED};
+
+use crate::archive::Call;
+
+#[derive(Default)]
+pub struct Tally {
+    lists: usize,
+    calls: BTreeMap<&'static str, usize>,
+    /// By refusal number, 0 for an answer.
+    returned: BTreeMap<i32, usize>,
+    not_joined: usize,
+    /// The number of fittings of the largest house.
+    largest: usize,
+}
+
+impl Tally {
+    pub fn count_list(&mut self, fittings: usize) {
+        self.lists += 1;
+        self.largest = self.largest.max(fittings);
+    }
+
+    pub fn count_call(&mut self, call: Call, answer: &Answer, returned: i32) {
+        let name = match call {
+            Call::Sheet => "sheet",
+            Call::Find(_) => "find",
+            Call::Reach(_) => "reach",
+            Call::Distance(..) => "distance",
+        };
+        *self.calls.entry(name).or_default() += 1;
+        *self.returned.entry(-returned.min(0)).or_default() += 1;
+        let measured = matches!(call, Call::Distance(..)) && returned > 0;
+        if measured && answer.as_deref() == Ok(&[NOT_JOINED]) {
+            self.not_joined += 1;
+        }
+    }
+
+    pub fn add(&mut self, other: Tally) {
+        self.lists += other.lists;
+        add_counts(&mut self.calls, other.calls);
+        add_counts(&mut self.returned, other.returned);
+        self.not_joined += other.not_joined;
+        self.largest = self.largest.max(other.largest);
+    }
+}
+
+fn add_counts<K: Ord>(counts: &mut BTreeMap<K, usize>, more: BTreeMap<K, usize>) {
+    for (key, count) in more {
+        *counts.entry(key).or_default() += count;
+    }
+}
+
+/// One line.
+impl fmt::Display for Tally {
+    fn fmt(&self, f: &mut fmt::Formatter) -> fmt::Result {
+        let calls: usize = self.calls.values().sum();
+        write!(f, "{calls} calls on {} lists alike: ", self.lists)?;
+        for (name, count) in &self.calls {
+            write!(f, "{name} {count}, ")?;
+        }
+        for (refusal, count) in &self.returned {
+            match refusal {
+                0 => write!(f, "answered {count}, ")?,
+                _ => write!(f, "refusal {refusal}: {count}, ")?,
+            }
+        }
+        write!(f, "not joined: {}, largest house: {} fittings", self.not_joined, self.largest)
+    }
+}
