@@ -1,7 +1,9 @@
 //! Growing lists of 512 to 4,096 pipes: the proved register, called as from C, against the same algorithm in plain Rust, in one run.
 //! Each figure is the least of many rounds, in microseconds, taken in turns; the ratio is proved / plain.
 
+mod calls;
 mod plain;
+mod stack;
 
 use std::hint::black_box;
 use std::time::Instant;
@@ -179,4 +181,5 @@ fn main() {
     let mut random = Random(0x9E37_79B9_7F4A_7C15);
     grow_table(&mut random);
     sheet_table(&mut random);
+    calls::table(&mut random);
 }

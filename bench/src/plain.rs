@@ -1,5 +1,8 @@
 //! The register's algorithm in plain Rust: the same tables and the same walks, with no proof and no checks beyond Rust's own.
 
+#[path = "plain_queries.rs"]
+mod queries;
+
 const VERTICES: usize = 4096;
 const EDGES: usize = 4096;
 

@@ -4,9 +4,28 @@ use std::ptr;
 
 extern "C" {
     fn pnl_sheet(list: *const u8, list_len: usize, answer: *mut u8, answer_len: usize) -> i32;
-    fn pnl_find(list: *const u8, list_len: usize, tag: u32, answer: *mut u8, answer_len: usize) -> i32;
-    fn pnl_reach(list: *const u8, list_len: usize, fitting: u32, answer: *mut u8, answer_len: usize) -> i32;
-    fn pnl_distance(list: *const u8, list_len: usize, from: u32, to: u32, answer: *mut u8, answer_len: usize) -> i32;
+    fn pnl_find(
+        list: *const u8,
+        list_len: usize,
+        tag: u32,
+        answer: *mut u8,
+        answer_len: usize,
+    ) -> i32;
+    fn pnl_reach(
+        list: *const u8,
+        list_len: usize,
+        fitting: u32,
+        answer: *mut u8,
+        answer_len: usize,
+    ) -> i32;
+    fn pnl_distance(
+        list: *const u8,
+        list_len: usize,
+        from: u32,
+        to: u32,
+        answer: *mut u8,
+        answer_len: usize,
+    ) -> i32;
 }
 
 /// One call, by its arguments.

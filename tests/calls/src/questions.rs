@@ -16,7 +16,8 @@ const SMALL: usize = 40;
 /// On a larger house, so many fittings are measured from, each to so many others.
 const SOURCES: usize = 6;
 const TARGETS: usize = 24;
-/// On a house that is not tiny, one question in so many, the sheet among them, has slices of more lengths than the answer's own.
+/// On a house that is not tiny, one question in so many, the sheet among them, has slices of more
+/// lengths than the answer's own.
 const LENGTHS_EVERY: usize = 40;
 
 pub struct Question {
@@ -26,18 +27,30 @@ pub struct Question {
     pub rooms: Vec<usize>,
 }
 
-/// The sheet, every tag in use and its neighbours, every fitting, pairs of fittings, and numbers that are none of them. A list that
-/// stops has no house to ask about: there all answers are its refusal, whatever is asked.
+/// The sheet, every tag in use and its neighbours, every fitting, pairs of fittings, and numbers
+/// that are none of them. A list that stops has no house to ask about: its refusal is the answer,
+/// whatever is asked.
 pub fn of(grown: &Grown, random: &mut Random) -> Vec<Question> {
     let empty = House::default();
     let house = grown.house().unwrap_or(&empty);
     let tiny = house.fittings() <= TINY;
-    let asked = [vec![(Call::Sheet, grown.sheet())], finds(grown, house), reaches(grown, house), distances(grown, house, random)];
+    let asked = [
+        vec![(Call::Sheet, grown.sheet())],
+        finds(grown, house),
+        reaches(grown, house),
+        distances(grown, house, random),
+    ];
     let questions = asked.concat().into_iter().enumerate();
     let with_rooms = |(place, (call, answer)): (usize, (Call, Answer))| {
-        let needs = answer.as_ref().map_or(call.usual_size(), |numbers| 4 * numbers.len());
+        let needs = answer
+            .as_ref()
+            .map_or(call.usual_size(), |numbers| 4 * numbers.len());
         let rooms = rooms(needs, tiny, place);
-        Question { call, answer, rooms }
+        Question {
+            call,
+            answer,
+            rooms,
+        }
     };
     questions.map(with_rooms).collect()
 }
@@ -47,19 +60,27 @@ fn finds(grown: &Grown, house: &House) -> Vec<(Call, Answer)> {
     let worn = house.tags().iter().filter(|&&tag| tag != 0);
     let near = worn.flat_map(|&tag| [tag - 1, tag, tag + 1]);
     let tags: BTreeSet<u32> = near.chain([0, 1, 8_192, u32::MAX]).collect();
-    tags.into_iter().map(|tag| (Call::Find(tag), grown.find(tag))).collect()
+    tags.into_iter()
+        .map(|tag| (Call::Find(tag), grown.find(tag)))
+        .collect()
 }
 
 fn reaches(grown: &Grown, house: &House) -> Vec<(Call, Answer)> {
     let fittings = landed(house).chain(not_landed(house));
-    fittings.map(|fitting| (Call::Reach(fitting), grown.reach(fitting))).collect()
+    fittings
+        .map(|fitting| (Call::Reach(fitting), grown.reach(fitting)))
+        .collect()
 }
 
 fn distances(grown: &Grown, house: &House, random: &mut Random) -> Vec<(Call, Answer)> {
     let mut asked = Vec::new();
     for (from, to) in pairs(house, random) {
         let answers = grown.distances(from, &to);
-        asked.extend(to.iter().zip(answers).map(|(&to, answer)| (Call::Distance(from, to), answer)));
+        asked.extend(
+            to.iter()
+                .zip(answers)
+                .map(|(&to, answer)| (Call::Distance(from, to), answer)),
+        );
     }
     asked
 }
@@ -76,7 +97,9 @@ fn pairs(house: &House, random: &mut Random) -> Vec<(u32, Vec<u32>)> {
     }
     targets.extend(not_landed(house).take(2));
     let near = |from: u32| [from, from.saturating_sub(1)];
-    let joined = sources.into_iter().map(|from| (from, [&near(from)[..], &targets].concat()));
+    let joined = sources
+        .into_iter()
+        .map(|from| (from, [&near(from)[..], &targets].concat()));
     let missing = not_landed(house).map(|from| (from, vec![0, from]));
     joined.chain(missing).collect()
 }
@@ -87,7 +110,14 @@ fn landed(house: &House) -> Range<u32> {
 
 /// The first number that is no fitting, and some whose low 16 bits are a fitting's or are not.
 fn not_landed(house: &House) -> impl Iterator<Item = u32> {
-    [number(house.fittings()), 65_536, 65_535, number(MOST_FITTINGS), u32::MAX].into_iter()
+    [
+        number(house.fittings()),
+        65_536,
+        65_535,
+        number(MOST_FITTINGS),
+        u32::MAX,
+    ]
+    .into_iter()
 }
 
 /// Every length from none to one too many, or the answer's own and now and then those beside it.

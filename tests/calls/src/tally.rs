@@ -68,6 +68,10 @@ impl fmt::Display for Tally {
                 _ => write!(f, "refusal {refusal}: {count}, ")?,
             }
         }
-        write!(f, "not joined: {}, largest house: {} fittings", self.not_joined, self.largest)
+        write!(
+            f,
+            "not joined: {}, largest house: {} fittings",
+            self.not_joined, self.largest
+        )
     }
 }

@@ -1,0 +1,121 @@
+//! Every call from C on full lists, against the plain register, and the stack that each uses.
+
+use crate::plain::Register;
+use crate::{comb, least, line, list, shuffled, stack, tree, Random};
+use std::hint::black_box;
+
+extern "C" {
+    fn pnl_sheet(list: *const u8, list_len: usize, answer: *mut u8, answer_len: usize) -> i32;
+    fn pnl_find(list: *const u8, list_len: usize, tag: u32, answer: *mut u8, answer_len: usize) -> i32;
+    fn pnl_reach(list: *const u8, list_len: usize, fitting: u32, answer: *mut u8, answer_len: usize) -> i32;
+    fn pnl_distance(list: *const u8, list_len: usize, from: u32, to: u32, answer: *mut u8, answer_len: usize) -> i32;
+}
+
+#[derive(Clone, Copy, Debug)]
+enum Call {
+    Sheet,
+    Find(u32),
+    Reach(u32),
+    Distance(u32, u32),
+}
+
+fn proved(call: Call, list: &[u8], answer: &mut [u8]) -> i32 {
+    let (bytes, length, to, room) = (list.as_ptr(), list.len(), answer.as_mut_ptr(), answer.len());
+    unsafe {
+        match call {
+            Call::Sheet => pnl_sheet(bytes, length, to, room),
+            Call::Find(tag) => pnl_find(bytes, length, tag, to, room),
+            Call::Reach(fitting) => pnl_reach(bytes, length, fitting, to, room),
+            Call::Distance(from, end) => pnl_distance(bytes, length, from, end, to, room),
+        }
+    }
+}
+
+fn plain(call: Call, list: &[u8], answer: &mut [u8]) -> i32 {
+    let (register, refusal) = Register::grow(list);
+    if refusal != 0 {
+        return -(refusal as i32);
+    }
+    let numbers = match call {
+        Call::Sheet => Ok(register.sheet().concat()),
+        Call::Find(tag) => register.find(tag).map(|name| vec![name]),
+        Call::Reach(fitting) => register.reach(fitting).map(Vec::from),
+        Call::Distance(from, to) => register.distance(from, to).map(|length| vec![length]),
+    };
+    match numbers {
+        Ok(numbers) => put(&numbers, answer),
+        Err(refusal) => -(refusal as i32),
+    }
+}
+
+fn put(numbers: &[u32], answer: &mut [u8]) -> i32 {
+    for (bytes, number) in answer.chunks_exact_mut(4).zip(numbers) {
+        bytes.copy_from_slice(&number.to_le_bytes());
+    }
+    4 * numbers.len() as i32
+}
+
+/// A square of so many fittings a side.
+fn grid(side: usize) -> Vec<(usize, usize)> {
+    let across = (0..side * side).filter(|v| (v + 1) % side != 0).map(|v| (v, v + 1));
+    let down = (0..side * (side - 1)).map(|v| (v, v + side));
+    across.chain(down).collect()
+}
+
+/// The list with other lengths, 1 to 100,000.
+fn with_lengths(mut list: Vec<u8>, fittings: usize, random: &mut Random) -> Vec<u8> {
+    for record in list[5 + fittings..].chunks_exact_mut(9) {
+        let length = 1 + random.below(100_000) as u32;
+        record[5..].copy_from_slice(&length.to_le_bytes());
+    }
+    list
+}
+
+fn full_lists(random: &mut Random) -> Vec<(&'static str, Vec<u8>)> {
+    let houses = [
+        ("line in order", 4096, line(4096)),
+        ("line in random order", 4096, shuffled(line(4096), random)),
+        ("random tree", 4096, tree(4096, random)),
+        ("comb", 4096, comb(4096)),
+        ("grid", 45 * 45, grid(45)),
+    ];
+    let lists = houses.into_iter().map(|(name, n, edges)| (name, with_lengths(list(n, &edges), n, random)));
+    lists.collect()
+}
+
+/// The calls on a list: find and reach of the last coupling, the distance between the first and the last fitting.
+fn calls_on(list: &[u8]) -> [(&'static str, Call); 4] {
+    let (register, _) = Register::grow(list);
+    let (coupling, tag) = register.last_regular().expect("a coupling");
+    let last = register.vertices() as u32 - 1;
+    [
+        ("pnl_sheet", Call::Sheet),
+        ("pnl_find", Call::Find(tag)),
+        ("pnl_reach", Call::Reach(coupling)),
+        ("pnl_distance", Call::Distance(0, last)),
+    ]
+}
+
+/// The least times of both, taken by turns, so that a busy machine is busy for both.
+fn least_of_both(mut one: impl FnMut() -> i32, mut other: impl FnMut() -> i32) -> (f64, f64) {
+    let turns = (0..20).map(|_| (least(20, &mut one), least(20, &mut other)));
+    turns.fold((f64::MAX, f64::MAX), |best, turn| (best.0.min(turn.0), best.1.min(turn.1)))
+}
+
+pub fn table(random: &mut Random) {
+    println!("calls on full lists");
+    println!("{:<14} {:<22} {:>9} {:>9} {:>6} {:>8}", "call", "shape", "proved", "plain", "ratio", "stack");
+    let (mut ours, mut theirs) = (vec![0; 81_920], vec![0; 81_920]);
+    for (shape, list) in full_lists(random) {
+        for (name, call) in calls_on(&list) {
+            assert_eq!(proved(call, &list, &mut ours), plain(call, &list, &mut theirs), "{call:?} {shape}");
+            assert_eq!(ours, theirs, "{call:?} {shape}");
+            let stack = stack::used(|| _ = black_box(proved(call, &list, &mut ours)));
+            let (proved, plain) = least_of_both(
+                || proved(black_box(call), black_box(&list), &mut ours),
+                || plain(black_box(call), black_box(&list), &mut theirs),
+            );
+            println!("{name:<14} {shape:<22} {proved:>9.1} {plain:>9.1} {:>6.2} {stack:>8}", proved / plain);
+        }
+    }
+}

@@ -1,0 +1,98 @@
+//! Find, reach and distance on the plain register, by the same walks and by Dijkstra's search with the standard library's heap.
+
+use super::{Register, Walker};
+use std::cmp::Reverse;
+use std::collections::BinaryHeap;
+
+/// The end of a list of edge ends.
+const NO_END: u16 = u16::MAX;
+
+impl Register {
+    pub fn vertices(&self) -> usize {
+        self.vertices
+    }
+
+    /// The regular vertex with the greatest number, and its label.
+    pub fn last_regular(&self) -> Option<(u32, u32)> {
+        let last = self.labels.iter().rposition(|&label| label != 0)?;
+        Some((last as u32, self.labels[last]))
+    }
+
+    /// The name of the chain of the vertex that wears a label.
+    pub fn find(&self, label: u32) -> Result<u32, u32> {
+        if label == 0 {
+            return Err(8);
+        }
+        let wearer = self.labels.iter().position(|&worn| worn == label).ok_or(8u32)?;
+        let edges = self.sides[wearer].map(|edge| self.walk(wearer as u16, edge).1);
+        Ok(u32::from(edges[0].min(edges[1])))
+    }
+
+    /// The lengths from a regular vertex to the low and to the high end of its chain.
+    pub fn reach(&self, vertex: u32) -> Result<[u32; 2], u32> {
+        let v = self.landed(vertex)?;
+        if !self.is_regular(v) {
+            return Err(8);
+        }
+        Ok(self.sides[usize::from(v)].map(|edge| self.walk(v, edge).0))
+    }
+
+    /// The length from a vertex along one of its edges to the end of that chain, and the lowest edge number on the way.
+    fn walk(&self, v: u16, edge: u16) -> (u32, u16) {
+        let mut w = Walker { edge, at: self.far(edge, v) };
+        let (mut length, mut lowest) = (self.lengths[usize::from(edge)], edge);
+        while self.is_regular(w.at) {
+            w = self.step(w);
+            length += self.lengths[usize::from(w.edge)];
+            lowest = lowest.min(w.edge);
+        }
+        (length, lowest)
+    }
+
+    fn landed(&self, vertex: u32) -> Result<u16, u32> {
+        if (vertex as usize) < self.vertices {
+            Ok(vertex as u16)
+        } else {
+            Err(5)
+        }
+    }
+
+    /// The least length of a way between two vertices, searched from the second; `u32::MAX` where there is none.
+    pub fn distance(&self, from: u32, to: u32) -> Result<u32, u32> {
+        let (from, to) = (self.landed(from)?, self.landed(to)?);
+        let (heads, next) = self.ends_by_vertex();
+        let mut distances = vec![u32::MAX; self.vertices];
+        let mut ahead = BinaryHeap::from([Reverse((0, to))]);
+        distances[usize::from(to)] = 0;
+        while let Some(Reverse((distance, v))) = ahead.pop() {
+            if v == from {
+                return Ok(distance);
+            }
+            if distance > distances[usize::from(v)] {
+                continue;
+            }
+            let mut k = heads[usize::from(v)];
+            while k != NO_END {
+                let far = self.far(k / 2, v);
+                let sum = distance + self.lengths[usize::from(k / 2)];
+                if sum < distances[usize::from(far)] {
+                    distances[usize::from(far)] = sum;
+                    ahead.push(Reverse((sum, far)));
+                }
+                k = next[usize::from(k)];
+            }
+        }
+        Ok(u32::MAX)
+    }
+
+    /// For each vertex the list of its edge ends, by the first of them and the next of each.
+    fn ends_by_vertex(&self) -> (Vec<u16>, Vec<u16>) {
+        let mut heads = vec![NO_END; self.vertices];
+        let mut next = vec![NO_END; 2 * self.edges];
+        for (k, &v) in self.ends[..self.edges].iter().flatten().enumerate() {
+            next[k] = heads[usize::from(v)];
+            heads[usize::from(v)] = k as u16;
+        }
+        (heads, next)
+    }
+}
