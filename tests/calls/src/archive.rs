@@ -60,6 +60,14 @@ impl Call {
         }
     }
 
+    /// The bytes of stack that include/pnl.h promises to do with.
+    pub fn most_stack(self) -> usize {
+        match self {
+            Call::Distance(..) => 160 * 1024,
+            _ => 80 * 1024,
+        }
+    }
+
     /// The bytes of an answer; of a sheet's, two rows.
     pub fn usual_size(self) -> usize {
         match self {

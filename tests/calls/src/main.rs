@@ -4,6 +4,8 @@
 
 mod archive;
 mod questions;
+#[path = "../../../bench/src/stack.rs"]
+mod stack;
 mod tally;
 
 use std::env;
@@ -16,6 +18,7 @@ use questions::Question;
 use reference::calls::{self, Grown};
 use reference::gen;
 use reference::gen::random::Random;
+use reference::house::MOST_FITTINGS;
 use tally::Tally;
 
 const WORKERS: usize = 2;
@@ -26,6 +29,15 @@ const BEHIND: usize = 32;
 /// One list in so many is also cut at every byte, if it has no more bytes than this.
 const CUT_EVERY: usize = 50;
 const CUT_MOST: usize = 400;
+/// The largest sheet.
+const SHEET_MOST: usize = 81_920;
+/// One call of each kind.
+const CALLS: [Call; 4] = [
+    Call::Sheet,
+    Call::Find(8_192),
+    Call::Reach(1),
+    Call::Distance(0, 1),
+];
 
 /// What differs, in words.
 type Difference = String;
@@ -82,7 +94,11 @@ fn work(seed: u64, count: u64, next: &AtomicUsize) -> Result<Tally, Difference> 
 
 fn compare(list: &[u8], random: &mut Random, tally: &mut Tally) -> Result<(), Difference> {
     let grown = Grown::of(list);
-    tally.count_list(grown.house().map_or(0, |house| house.fittings()));
+    let fittings = grown.house().map_or(0, |house| house.fittings());
+    tally.count_list(fittings);
+    if fittings == MOST_FITTINGS {
+        tally.count_stack(measure_stack(list)?);
+    }
     for question in questions::of(&grown, random) {
         for &room in &question.rooms {
             let returned = ask(list, &question, room)?;
@@ -130,14 +146,23 @@ fn ask(list: &[u8], question: &Question, room: usize) -> Result<i32, Difference>
     ))
 }
 
+/// The most stack that a call on this list uses, if none uses more than it may.
+fn measure_stack(list: &[u8]) -> Result<usize, Difference> {
+    let mut answer = vec![0; SHEET_MOST];
+    let mut most = 0;
+    for call in CALLS {
+        let used = stack::used(|| _ = call.make(list, &mut answer));
+        if used > call.most_stack() {
+            return Err(format!("{call:?} uses {used} bytes of stack"));
+        }
+        most = most.max(used);
+    }
+    Ok(most)
+}
+
 /// No list at all is refused with 1, with null pointers too.
 fn null_alike() -> Result<(), Difference> {
-    for call in [
-        Call::Sheet,
-        Call::Find(0),
-        Call::Reach(0),
-        Call::Distance(0, 0),
-    ] {
+    for call in CALLS {
         let returned = call.make_at_null();
         if returned != -1 {
             return Err(format!("{call:?} with null pointers: {returned}"));

@@ -16,6 +16,7 @@ pub struct Tally {
     not_joined: usize,
     /// The number of fittings of the largest house.
     largest: usize,
+    most_stack: usize,
 }
 
 impl Tally {
@@ -39,12 +40,17 @@ impl Tally {
         }
     }
 
+    pub fn count_stack(&mut self, bytes: usize) {
+        self.most_stack = self.most_stack.max(bytes);
+    }
+
     pub fn add(&mut self, other: Tally) {
         self.lists += other.lists;
         add_counts(&mut self.calls, other.calls);
         add_counts(&mut self.returned, other.returned);
         self.not_joined += other.not_joined;
         self.largest = self.largest.max(other.largest);
+        self.count_stack(other.most_stack);
     }
 }
 
@@ -68,10 +74,8 @@ impl fmt::Display for Tally {
                 _ => write!(f, "refusal {refusal}: {count}, ")?,
             }
         }
-        write!(
-            f,
-            "not joined: {}, largest house: {} fittings",
-            self.not_joined, self.largest
-        )
+        write!(f, "not joined: {}, ", self.not_joined)?;
+        write!(f, "largest house: {} fittings, ", self.largest)?;
+        write!(f, "most stack: {} bytes", self.most_stack)
     }
 }
