@@ -1,4 +1,4 @@
-// The distance between two vertices of grown tables, with scratch of its own.
+// The distance between two vertices of grown tables.
 use counters::counts::Counts;
 use counters::numbers::Vertex;
 use distance::measure::Distance;
@@ -12,6 +12,7 @@ ghost use Rattle.tables.specs.Steps.{tables};
 ghost use Rattle.distance.specs.Search.{Searchable};
 ghost use Rattle.distance.specs.Measure.{distanceReply, measureIn};
 
+// The search's scratch stands here, so that only this query pays for it with stack.
 pub fn distance_in(
     ends: &[u16],
     lengths: &[u32],

@@ -22,6 +22,7 @@ ghost use Rattle.tables.specs.Steps.{tables};
 ghost use Rattle.distance.specs.Search.{Searchable};
 ghost use Rattle.pnl.specs.Calls.{returned, queryMeans, Holds};
 
+// What may be asked from C.
 pub enum Query {
     Sheet,
     Find(u32),
@@ -36,6 +37,7 @@ fn narrow(n: u32) -> u16
     if n < 65535 { n as u16 } else { 65535 }
 }
 
+// The tables are a register's, so there is no gate to pass.
 fn answer_query(
     answer: &mut [u8],
     degrees: &[u16],
@@ -71,6 +73,7 @@ fn answer_query(
     }
 }
 
+// The tables of a call are its own, all zero at the start.
 pub fn answer_call(list: &[u8], query: Query, answer: &mut [u8]) -> i32
     ensures { λ r. ⌜ returned (now (answer .exit)) r ≡ fromC (queryMeans query) (now (list .entry)) (now (answer .entry)) ⌝ }
 {
