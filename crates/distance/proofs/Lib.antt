@@ -7,4 +7,3 @@ pub mod Answers
 pub mod Registers
 pub mod Measuring
 pub mod CallLaws
-pub mod CallSteps

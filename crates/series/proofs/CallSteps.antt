@@ -1,5 +1,5 @@
 -- Demand 3 speaks of the functions: the contract of each asks nothing and ensures one equation, with `step` at its call. A line says so
--- of each query, by computation, in every model of the machine.
+-- of each call, by computation, in every model of the machine.
 use mathlib.Core.Path.{_≡_, refl}
 use mathlib.Core.List.{List, []}
 use Prim.Native.Nat.{ℕ}
@@ -16,19 +16,23 @@ use denote.Triple.Entry.{Args, Res}
 use denote.Triple.Clauses.{AtExit, ClausesAt, Ended}
 use Rattle.model.specs.Queries.{Reply}
 use Rattle.model.specs.Tables.{Tables}
-use Rattle.model.specs.Calls.{Call, finds, measures, reaches, sheets, step}
+use Rattle.model.specs.Calls.{Call, finds, grows, lands, measures, reaches, sheets, step}
 use Rattle.counters.specs.declared.counts.Counts.{Counts}
+use Rattle.counters.specs.declared.answers.ListAnswer.{ListAnswer}
 use Rattle.counters.specs.Answers.{countsIn}
 use Rattle.tables.specs.Steps.{tables}
 use Rattle.register.specs.Meaning.{lent}
+use Rattle.calls.specs.Meaning.{outcome}
+use Rattle.calls.proofs.grow.grow as grow
+use Rattle.calls.proofs.land.land as land
 use Rattle.lookups.specs.Meaning.{answered, foundReply, listedReply, reachedReply}
 use Rattle.lookups.proofs.find.find as find
 use Rattle.lookups.proofs.reach.reach as reach
 use Rattle.lookups.proofs.sheet.sheet as sheet
 use Rattle.distance.specs.Measure.{distanceReply}
 use Rattle.distance.proofs.calls.distance as distance
 
--- ---- the parameters of a query
+-- ---- the parameters of a call
 
 -- five lent slices, then others
 abbrev Five : Type 0 → Type 0
@@ -49,6 +53,10 @@ past a = a .1 .1 .1 .1 .1
 -- a query's own parameters
 abbrev own : {R : Type 0} → Query R → R
 own a = past (past a .1)
+
+-- the parameters of a landing: the counts, the tables, the scratch tables, then its own
+abbrev Lands : Type 0 → Type 0
+Lands R = RefT Counts × Five (Five R)
 
 -- ---- the contracts
 
@@ -80,3 +88,17 @@ module _ {M : Type 1} (𝓤 : URA M) (H : Heap 𝓤) (A : Atoms 𝓤) (mem : Mem
       → distance.clauses 𝓤 H A mem run κs a
       ≡ Ensures distance.ended κs (λ r z. Steps a z [] (distanceReply r) (measures (own a .0 .0) (own a .1 .0 .0)))
   distance-steps κs a = refl
+
+  -- with the arguments a, and z at its end, a landing leaves and answers what `step` has at call c
+  abbrev LandSteps : {R S : Type 0} → Lands R → Lands S → ListAnswer → Call → SProp 𝓤
+  LandSteps a z r c =
+      fact 𝓤 (outcome (tablesIn (z .1)) (countsIn (now (z .0))) (tablesIn (past (z .1))) r
+      ≡ step c (lent (tablesIn (a .1)) (countsIn (now (a .0))) (tablesIn (past (a .1)))))
+
+  pub grow-steps : (κs : Lfts 12) (a : Args grow.signature κs)
+      → grow.clauses 𝓤 H A mem run κs a ≡ Ensures grow.ended κs (λ r z. LandSteps a z r (grows (now (past (past (a .1)) .0))))
+  grow-steps κs a = refl
+
+  pub land-steps : (κs : Lfts 12) (a : Args land.signature κs)
+      → land.clauses 𝓤 H A mem run κs a ≡ Ensures land.ended κs (λ r z. LandSteps a z r (lands (now (past (past (a .1)) .0))))
+  land-steps κs a = refl
