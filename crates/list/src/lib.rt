@@ -1,5 +1,5 @@
 // Reading the PNL format: the header, then record after record.
 // `read_header` and `next_record` do the work, over the list's bytes and a cursor by value; `reader` is the reader that holds the list.
-pub mod bytes;
+mod bytes;
 pub mod reader;
 pub mod records;
