@@ -1,4 +1,4 @@
-/* pnl.h: the feed main register, called from C. Link with libpnl.a (x86-64 Linux).
+/* pnl.h: the feed main register, called from C. Link with libpnl.a (x86-64 Linux); beside it stand pnl.pc and pnl.cmake.
  *
  * Each call takes a list, the bytes of a "PNL" file, grows the register from it in tables on its own stack, and writes its answer
  * to the front of `answer` as little-endian 32-bit numbers.
