@@ -1,0 +1,108 @@
+//! The calls on one list, compared.
+
+use reference::calls::{self, Grown};
+use reference::gen;
+use reference::gen::random::Random;
+use reference::house::MOST_FITTINGS;
+
+use crate::archive::Call;
+use crate::questions::{self, Question};
+use crate::stack;
+use crate::tally::Tally;
+
+/// What stands in and behind the answer slice before a call.
+const CANARY: u8 = 0xA5;
+/// So many bytes behind the answer slice are looked at.
+const BEHIND: usize = 32;
+/// One list in so many is also cut at every byte, if it has no more bytes than this.
+const CUT_EVERY: usize = 50;
+const CUT_MOST: usize = 400;
+/// The largest sheet.
+const SHEET_MOST: usize = 81_920;
+/// One call of each kind.
+const CALLS: [Call; 4] = [
+    Call::Sheet,
+    Call::Find(8_192),
+    Call::Reach(1),
+    Call::Distance(0, 1),
+];
+
+/// What differs, in words.
+pub type Difference = String;
+
+/// No list at all is refused with 1, with null pointers too.
+pub fn no_list() -> Result<(), Difference> {
+    for call in CALLS {
+        let returned = call.make_at_null();
+        if returned != -1 {
+            return Err(format!("{call:?} with null pointers: {returned}"));
+        }
+    }
+    Ok(())
+}
+
+/// The list of this number, and some of the lists at every length up to their own.
+pub fn drawn(seed: u64, index: usize, tally: &mut Tally) -> Result<(), Difference> {
+    let list = gen::list(seed, index);
+    let cut = index.is_multiple_of(CUT_EVERY) && list.len() <= CUT_MOST;
+    let shortest = if cut { 0 } else { list.len() };
+    let random = &mut Random::of_list(!seed, index);
+    for length in shortest..=list.len() {
+        // An allocation of its own, that ends where the list does: valgrind sees a read behind it.
+        let list: Box<[u8]> = list[..length].into();
+        one(&list, random, tally)
+            .map_err(|difference| format!("its first {length} bytes: {difference}"))?;
+    }
+    Ok(())
+}
+
+/// All questions on one list.
+fn one(list: &[u8], random: &mut Random, tally: &mut Tally) -> Result<(), Difference> {
+    let grown = Grown::of(list);
+    let fittings = grown.house().map_or(0, |house| house.fittings());
+    tally.count_list(fittings);
+    if fittings == MOST_FITTINGS {
+        tally.count_stack(measure_stack(list)?);
+    }
+    for question in questions::of(&grown, random) {
+        for &room in &question.rooms {
+            let returned = ask(list, &question, room)?;
+            tally.count_call(question.call, &question.answer, returned);
+        }
+    }
+    Ok(())
+}
+
+/// What the archive returns into a slice of this length, if both answer alike.
+fn ask(list: &[u8], question: &Question, room: usize) -> Result<i32, Difference> {
+    let mut ours = vec![CANARY; room + BEHIND];
+    let mut theirs = ours.clone();
+    let returned = question.call.make(list, &mut ours[..room]);
+    let expected = calls::returned(&question.answer, &mut theirs[..room]);
+    let place = ours
+        .iter()
+        .zip(&theirs)
+        .position(|(one, other)| one != other);
+    if returned == expected && place.is_none() {
+        return Ok(returned);
+    }
+    let call = question.call;
+    let place = place.map_or("no byte".into(), |place| format!("byte {place}"));
+    Err(format!(
+        "{call:?} with a slice of {room} bytes returns {returned}, expected {expected}; {place} differs"
+    ))
+}
+
+/// The most stack that a call on this list uses, if none uses more than it may.
+fn measure_stack(list: &[u8]) -> Result<usize, Difference> {
+    let mut answer = vec![0; SHEET_MOST];
+    let mut most = 0;
+    for call in CALLS {
+        let used = stack::used(|| _ = call.make(list, &mut answer));
+        if used > call.most_stack() {
+            return Err(format!("{call:?} uses {used} bytes of stack"));
+        }
+        most = most.max(used);
+    }
+    Ok(most)
+}
