@@ -12,7 +12,7 @@ use Rattle.model.specs.Basics.{maxVertices}
 use Rattle.model.specs.Graph.{Edge, Pass, degree, endsAt, far, isRegular, onlyEdge, onwards, turn, walk}
 use Rattle.model.specs.Labels.{Labelling, Marks, attach, base, extend, labelPath, next}
 use Rattle.tables.specs.Steps.{farIn, more16, nextIn}
-use Rattle.insertion.specs.Labelling.{after, extendAt, extendIn, labelIn, worn}
+use Rattle.labels.specs.Labelling.{after, extendAt, extendIn, labelIn, worn}
 use Rattle.model.proofs.Walks.Degree.{Proper, degree-snoc, is-two, not-two, proper-snoc}
 use Rattle.model.proofs.Walks.Turn.{At}
 use Rattle.model.proofs.Walks.Trail.{across, walk-on, walk-stop}

@@ -16,7 +16,7 @@ use Rattle.model.specs.Labels.{Labelling, Marks, attach, extend, labelEdge, lab
 use Rattle.model.specs.Register.{Register}
 use Rattle.model.specs.Tables.{tablesOf}
 use Rattle.tables.specs.Steps.{raiseBothIn}
-use Rattle.insertion.specs.Labelling.{Merged, Worn, extendIn}
+use Rattle.labels.specs.Labelling.{Merged, Worn, extendIn}
 use Rattle.insertion.specs.Insertion.{Placed, openBothIn, placeExtend, placeIn, placeMerge}
 use Rattle.model.proofs.Walks.Degree.{end-first, end-second, endsAt-le, two-ends, zero-or-one}
 use Rattle.model.proofs.Labels.Following.{re-bare}

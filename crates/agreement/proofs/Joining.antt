@@ -11,7 +11,7 @@ use Rattle.model.specs.Basics.{maxVertices, maxEdges}
 use Rattle.model.specs.Graph.{Edge, Pass, degree, endsAt, far, isRegular, onlyEdge}
 use Rattle.model.specs.Labels.{Labelling, Marks, attach, base, inwards, joinPath, labelPath, next, relabelCount}
 use Rattle.tables.specs.Steps.{farIn, nextIn}
-use Rattle.insertion.specs.Labelling.{Worn, after, beginIn, joinIn, labelIn, relabelIn}
+use Rattle.labels.specs.Labelling.{Worn, after, beginIn, joinIn, labelIn, relabelIn}
 use Rattle.model.proofs.Walks.Degree.{Proper, endsAt-le, is-two, two-ends, zero-or-one}
 use Rattle.model.proofs.Walks.Turn.{At}
 use Rattle.model.proofs.Walks.Trail.{across}

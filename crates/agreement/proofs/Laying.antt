@@ -14,7 +14,7 @@ use Rattle.model.specs.Basics.{if_then_else_, maxVertices}
 use Rattle.model.specs.Graph.{Edge, Pass, degree, endsAt, far, isRegular, turn}
 use Rattle.model.specs.Labels.{Marks, labelPath, mark, next, relabelCount}
 use Rattle.tables.specs.Steps.{farIn, more32, nextIn, setPair, turnIn}
-use Rattle.insertion.specs.Labelling.{Worn, after, labelIn, orientIn, relabelIn, worn}
+use Rattle.labels.specs.Labelling.{Worn, after, labelIn, orientIn, relabelIn, worn}
 use Rattle.model.proofs.Walks.Degree.{Proper, is-two}
 use Rattle.model.proofs.Walks.Turn.{At, two-edges}
 use Rattle.model.proofs.Walks.Trail.{Trail, done, pass}

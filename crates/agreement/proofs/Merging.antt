@@ -14,7 +14,7 @@ use Rattle.model.specs.Cases.{closesRing}
 use Rattle.model.specs.Labels.{Labelling, Marks, attach, inwards, joinPath, merge, relabelCount}
 use Rattle.tables.specs.Steps.{farIn, more16}
 use Rattle.tables.specs.Walks.{Met, lockstepIn}
-use Rattle.insertion.specs.Labelling.{Merged, Worn, beginIn, joinIn, mergeAt, mergeIn, merged}
+use Rattle.labels.specs.Labelling.{Merged, Worn, beginIn, joinIn, mergeAt, mergeIn, merged}
 use Rattle.model.proofs.Walks.Degree.{Proper}
 use Rattle.model.proofs.Walks.Turn.{At}
 use Rattle.model.proofs.Walks.Trail.{Across, Trail, across, backwards, length-backwards, trail-back}

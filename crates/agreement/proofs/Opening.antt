@@ -11,7 +11,7 @@ use Rattle.model.specs.Basics.{maxVertices}
 use Rattle.model.specs.Graph.{Edge, degree, endsAt, isRegular, onlyEdge}
 use Rattle.model.specs.Labels.{Marks, mark, split}
 use Rattle.tables.specs.Steps.{setPair}
-use Rattle.insertion.specs.Labelling.{Worn, worn}
+use Rattle.labels.specs.Labelling.{Worn, worn}
 use Rattle.insertion.specs.Insertion.{openBothIn, openIn}
 use Rattle.model.proofs.Walks.Degree.{Proper, degree-snoc, end-first, end-second, endsAt-le, proper-snoc, two-ends, zero-or-one}
 use Rattle.model.proofs.Walks.NewEdge.{at-last}

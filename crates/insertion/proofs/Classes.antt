@@ -25,7 +25,7 @@ case-branch leaf = refl
 case-branch regular = refl
 case-branch branch = refl
 
--- which end of an `or` was taken is told by the position of its variant
+-- an arm for several variants tells the variant's position: it is no leaf
 pub no-leaf : (x : declared.Class) → OneOf (0 ∷ 2 ∷ 3 ∷ []) (tagOf the-type x) → leafless (classIn x) ≡ classIn x
 unfolding leafless
 no-leaf Isolated h = refl
@@ -33,6 +33,7 @@ no-leaf Leaf h = absurd (miss (0 ∷ 2 ∷ 3 ∷ []) 1 tt h)
 no-leaf Regular h = refl
 no-leaf Branch h = refl
 
+-- .. and here no regular vertex
 pub not-regular : (x : declared.Class) (second : Class) → OneOf (0 ∷ 1 ∷ 3 ∷ []) (tagOf the-type x)
     → caseOf isolated second ≡ caseOf (leafless (classIn x)) second
 unfolding leafless

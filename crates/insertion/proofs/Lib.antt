@@ -1,8 +1,5 @@
 -- Laws for the proofs of the functions, one for each way out of the code: what the code computes is a variable with an equation.
 pub mod Classes
-pub mod Labels
-pub mod Joins
-pub mod Merges
 pub mod Places
 pub mod Rings
 pub mod Answers

@@ -6,7 +6,7 @@ use Prim.Native.Nat.{ℕ}
 use borrow.Author.Tests.{eq-eqb, ne-eqb}
 use lib.ListN.{getD, set}
 use Rattle.tables.specs.Steps.{setPair, raiseBothIn}
-use Rattle.insertion.specs.Labelling.{worn, extendIn, merged, mergeIn}
+use Rattle.labels.specs.Labelling.{worn, extendIn, merged, mergeIn}
 use Rattle.insertion.specs.Insertion.{openIn, Placed, placed, openBothIn, placeExtend, placeMerge}
 use Rattle.insertion.specs.Meaning.{placementIn}
 use Rattle.insertion.specs.declared.placing.Placement.{Placement}

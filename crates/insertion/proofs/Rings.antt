@@ -8,7 +8,7 @@ use lib.ListN.{getD}
 use Rattle.model.specs.Basics.{if_then_else_}
 use Rattle.model.specs.Cases.{Case, newChain, extends, merges, splitExtends, splitNew, splitBoth, firstNamed, secondNamed}
 use Rattle.tables.specs.Walks.{Met}
-use Rattle.insertion.specs.Labelling.{Merged, merged, mergeAt, mergeIn}
+use Rattle.labels.specs.Labelling.{Merged, merged, mergeAt, mergeIn}
 use Rattle.insertion.specs.Insertion.{Placed, openBothIn, placeExtend, placeMerge, placeIn}
 
 false-true : (A : Type 0) → false ≡ true → A

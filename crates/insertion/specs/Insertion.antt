@@ -9,7 +9,7 @@ use Rattle.model.specs.Graph.{Edge}
 use Rattle.model.specs.Cases.{Case, newChain, extends, merges, splitExtends, splitNew, splitBoth, firstNamed, secondNamed, classOf, caseOf}
 use Rattle.model.specs.Tables.{Tables, Counts}
 use Rattle.tables.specs.Steps.{tables, setPair, more16, sum32, raiseBothIn}
-use Rattle.insertion.specs.Labelling.{Worn, worn, extendIn, Merged, mergeIn}
+use Rattle.labels.specs.Labelling.{Worn, worn, extendIn, Merged, mergeIn}
 
 -- vertex v before edge e is inserted at it: an isolated one gets e as its low side, a regular one is split, any other is left
 unfoldable pub openIn : List ℕ → List ℕ → List ℕ → ℕ → ℕ → Worn

@@ -1,3 +1,2 @@
-pub mod Labelling
 pub mod Insertion
 pub mod Meaning

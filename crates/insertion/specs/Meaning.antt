@@ -1,20 +1,15 @@
 -- Document 01's values of the enums of this crate.
 use Prim.Native.Nat.{ℕ}
-use mathlib.Core.Bool.{false}
 use mathlib.Core.List.{List}
 use Rattle.model.specs.Cases as C
 use Rattle.model.specs.Tables.{Tables, Counts}
 use Rattle.counters.specs.Refusals.{numberOf}
 use Rattle.counters.specs.Answers.{countsIn}
-use Rattle.tables.specs.Steps.{more16}
-use Rattle.insertion.specs.Labelling.{joinIn, beginIn, Merged, merged}
 use Rattle.insertion.specs.Insertion.{Placed, openBothIn, placeExtend, placeMerge, AnswerIn, done, refusedIn, LandingIn, landingIn, insertIn}
 use Rattle.insertion.specs.declared.cases.Class.{Class}
 use Rattle.insertion.specs.declared.cases.Class.the-variants.{Isolated, Leaf, Regular, Branch}
 use Rattle.insertion.specs.declared.cases.Case.{Case}
 use Rattle.insertion.specs.declared.cases.Case.the-variants.{New, ExtendFirst, ExtendSecond, Merge, SplitExtendFirst, SplitExtendSecond, SplitFirst, SplitSecond, SplitBoth}
-use Rattle.insertion.specs.declared.merging.Keeper.{Keeper}
-use Rattle.insertion.specs.declared.merging.Keeper.the-variants as keeper
 use Rattle.insertion.specs.declared.placing.Extension.{Extension}
 use Rattle.insertion.specs.declared.placing.Extension.the-variants as extension
 use Rattle.insertion.specs.declared.placing.Placement.{Placement}
@@ -47,15 +42,6 @@ caseIn SplitExtendSecond = C.splitExtends C.secondNamed
 caseIn SplitFirst = C.splitNew C.firstNamed
 caseIn SplitSecond = C.splitNew C.secondNamed
 caseIn SplitBoth = C.splitBoth
-
--- what merging comes to, once it is known which chain keeps its labels
-abbrev pub keeperIn : Keeper → List ℕ → List ℕ → List ℕ → List ℕ → ℕ → ℕ → ℕ → ℕ → ℕ → ℕ → ℕ → Merged
-keeperIn keeper.Neither degrees ends sides labels blocks a b e n da db =
-    let g = beginIn sides labels a da b db e (more16 blocks) in
-    merged false (g .sides) (g .labels) (more16 blocks) 0
-keeperIn (keeper.Chain x y) degrees ends sides labels blocks a b e n da db =
-    let j = joinIn degrees ends sides labels x y e n in
-    merged false (j .sides) (j .labels) blocks (j .count)
 
 -- what opening both ends comes to, with the leaf whose chain goes on
 abbrev pub extensionIn : Extension → List ℕ → List ℕ → List ℕ → List ℕ → ℕ → ℕ → ℕ → ℕ → Placed

@@ -1,8 +1,5 @@
 // One edge into the five lent tables.
-// cases: which of document 01's cases it is; labelling, merging: what becomes of the labels; placing: case by case; landing: the
-// refusals, and the edge written down.
+// cases: which of document 01's cases it is; placing: case by case; landing: the refusals, and the edge written down.
 pub mod cases;
-pub mod labelling;
 pub mod landing;
-pub mod merging;
 pub mod placing;

@@ -1,8 +1,8 @@
 // What an edge does to the degrees, the sides and the labels, case by case.
 use crate::cases::Case;
-use crate::labelling::extend_chain;
-use crate::merging::Merging;
-use crate::merging::merge_chains;
+use labels::labelling::extend_chain;
+use labels::merging::Merging;
+use labels::merging::merge_chains;
 use tables::access::of16;
 use tables::access::put32;
 use tables::steps::put_pair;
@@ -12,7 +12,7 @@ ghost use mathlib.Core.List.{List};
 ghost use Prim.Native.Nat.{ℕ};
 ghost use lib.ListN.{set};
 ghost use Rattle.tables.specs.Steps.{setPair};
-ghost use Rattle.insertion.specs.Labelling.{worn};
+ghost use Rattle.labels.specs.Labelling.{worn};
 ghost use Rattle.insertion.specs.Insertion.{openIn, placed, openBothIn, placeMerge, placeIn};
 ghost use Rattle.insertion.specs.Meaning.{caseIn, extensionIn, placementIn};
 

@@ -4,8 +4,8 @@ use Rattle.insertion.proofs.placing.place_open.Statement.{statement}
 use Rattle.insertion.proofs.placing.place_open.Tie as tie
 use Rattle.insertion.proofs.placing.place_open.Reads as reads
 use Rattle.insertion.proofs.placing.place_open.Lts as lts
-use Rattle.insertion.proofs.labelling.extend_chain.Reads as extend-chain-reads
-use Rattle.insertion.proofs.merging.Merging.done.Reads as done-reads
+use Rattle.labels.proofs.labelling.extend_chain.Reads as extend-chain-reads
+use Rattle.labels.proofs.merging.Merging.done.Reads as done-reads
 use Rattle.insertion.proofs.placing.open_both.Reads as open-both-reads
 
 -- src/placing.rt:106:9

@@ -1,0 +1,48 @@
+use native.Mathlib.Omega.{arith}
+use borrow.Author.Needs.{needs}
+use Rattle.model.specs.Labels.{base}
+use Rattle.labels.proofs.Joins.{begin-law}
+use Rattle.labels.proofs.merging.begin_chain.Statement.{statement}
+use Rattle.labels.proofs.merging.begin_chain.Tie as tie
+
+base-requires : tie.Need-base-requires
+base-requires c κs = search needs
+
+label-vertex-requires : tie.Need-label-vertex-requires
+label-vertex-requires c κs = search needs
+
+add-label-vertex : tie.Need-add-label-vertex
+unfolding base
+add-label-vertex c =
+    let at-base = c .before .before .before .before .before .before .before .before .before in
+    let at-fits = at-base .before .before .before in
+    omega (arith, at-base .base .ensures, at-fits .fits .k .fits)
+
+label-vertex-requires-2 : tie.Need-label-vertex-requires-2
+label-vertex-requires-2 c κs = search needs
+
+same-length : tie.Need-same-length
+same-length c = search needs
+
+same-length-2 : tie.Need-same-length-2
+same-length-2 c = search needs
+
+returns : tie.Need-returns
+returns c =
+    let at-label-vertex2 = c .before .before .before .before in
+    let at-label-vertex = at-label-vertex2 .before .before .before .before .before .before .before in
+    let at-base = at-label-vertex .before .before .before in
+    begin-law _ _ _ _ _ _ _ _ _ _ _ _ _ _ _ (at-base .base .ensures) (at-label-vertex .label-vertex .ensures)
+    (at-label-vertex2 .label-vertex2 .ensures)
+
+pub begin-chain-spec : {M : Type 1} → statement M
+begin-chain-spec =
+    tie.close
+    (tie.spec
+    base-requires
+    label-vertex-requires
+    add-label-vertex
+    label-vertex-requires-2
+    same-length
+    same-length-2
+    returns)

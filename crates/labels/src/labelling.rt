@@ -1,0 +1,142 @@
+// Labels (document 01: tags) along a chain. A vertex has its own label and its own low edge, and no chain is stored: that rules out
+// document 01's "faults near at hand". Where each would have been:
+// - the greatest key smaller than a label: `label_vertex`. It keeps no dictionary of lowest labels; a find looks for the label itself.
+// - a stored weight that a split makes false: `label_vertex`. It stores none; a reach adds up lengths.
+// - a lone regular vertex always extended upwards: `rises`.
+// - the second split in the chain as it was: `placing::open_both`.
+// - the leaf's own chain split: `placing::place_extend`.
+use tables::access::at32;
+use tables::access::of16;
+use tables::access::of32;
+use tables::access::one_more16;
+use tables::access::put32;
+use tables::steps::low_edge;
+use tables::steps::next_label;
+use tables::steps::put_pair;
+use tables::walks::Walker;
+use tables::walks::leave_leaf;
+use tables::walks::step_over;
+ghost use mathlib.Core.Path.{_≡_};
+ghost use mathlib.Core.Bool.{not};
+ghost use Prim.Native.Nat.{_*_};
+ghost use lib.Dec.{eqb};
+ghost use lib.ListN.{getD};
+ghost use Rattle.model.specs.Labels.{base, isRelabelled};
+ghost use Rattle.labels.specs.Labelling.{worn, orientIn, labelIn, relabelIn, extendIn};
+
+// The lowest label of block k: document 01's base of the k-th birth.
+pub fn base(k: u16) -> u32
+    ensures { λ r. ⌜ r ≡ base k ⌝ }
+{
+    8192 * (k as u32)
+}
+
+// The sides of vertex v. Upwards the edge behind it, `inner`, is the low one.
+pub fn orient_sides(sides: &mut [u16], v: u16, inner: u16, outer: u16, up: bool)
+    ensures { λ _. ⌜ now (sides .exit) ≡ orientIn up (now (sides .entry)) v inner outer ⌝ }
+{
+    if up {
+        put_pair(sides, v, inner, outer);
+    } else {
+        put_pair(sides, v, outer, inner);
+    }
+}
+
+// Document 01's re-hanging: both labels are not 0, and they differ.
+pub fn relabelled(old: u32, new: u32) -> bool
+    ensures { λ r. ⌜ r ≡ isRelabelled old new ⌝ }
+{
+    if old == 0 {
+        return false;
+    }
+    if new == 0 {
+        return false;
+    }
+    old != new
+}
+
+// Vertex v gets a label and its sides. The answer is drawn from the labels: 1 where v is relabelled.
+pub fn label_vertex(
+    sides: &mut [u16],
+    labels: &mut [u32],
+    v: u16,
+    label: u32,
+    inner: u16,
+    outer: u16,
+    up: bool,
+) -> u32
+    ensures { λ r. ⌜ worn (now (sides .exit)) (now (labels .exit)) r
+        ≡ labelIn (now (sides .entry)) (now (labels .entry)) v label inner outer up ⌝ }
+{
+    let i = v as usize;
+    let old = at32(labels, i);
+    put32(labels, i, label);
+    orient_sides(sides, v, inner, outer, up);
+    if relabelled(old, label) { 1 } else { 0 }
+}
+
+// The regular vertices from the walker's on get the labels from `label` on. The answer counts the relabelled. Each step is found
+// before the vertex is labelled, since that changes its sides.
+pub fn relabel_chain(
+    degrees: &[u16],
+    ends: &[u16],
+    sides: &mut [u16],
+    labels: &mut [u32],
+    from: Walker,
+    label: u32,
+    up: bool,
+    fuel: u16,
+) -> u32
+    ensures { λ r. ⌜ worn (now (sides .exit)) (now (labels .exit)) r
+        ≡ relabelIn (now (degrees .entry)) (now (ends .entry)) up fuel (now (sides .entry)) (now (labels .entry))
+        (from .edge) (from .at) label ⌝ }
+{
+    let mut w = from;
+    let mut next = label;
+    let mut count: u32 = 0;
+    let mut left = fuel;
+    while 0 < left {
+        if of16(degrees, w.at) != 2 {
+            break;
+        }
+        let on = step_over(sides, ends, w);
+        count += label_vertex(sides, labels, w.at, next, w.edge, on.edge, up);
+        next = next_label(next, up);
+        w = on;
+        left -= 1;
+    }
+    count
+}
+
+// Whether labels rise from the walker's vertex back over its edge: that edge is not the low one. A lone regular vertex that a split
+// left has its sides still, so at its low end labels fall; were they to rise there too, two chains would soon share one.
+pub fn rises(sides: &[u16], w: Walker) -> bool
+    ensures { λ r. ⌜ r ≡ not (eqb (getD (now (sides .entry)) (2 * w .at) 0) (w .edge)) ⌝ }
+{
+    low_edge(sides, w.at) != w.edge
+}
+
+// The chain at the leaf x goes on over edge e. The answer is the number of blocks.
+pub fn extend_chain(
+    degrees: &[u16],
+    ends: &[u16],
+    sides: &mut [u16],
+    labels: &mut [u32],
+    blocks: u16,
+    x: u16,
+    e: u16,
+) -> u16
+    ensures { λ r. ⌜ worn (now (sides .exit)) (now (labels .exit)) r
+        ≡ extendIn (now (degrees .entry)) (now (ends .entry)) (now (sides .entry)) (now (labels .entry)) blocks x e ⌝ }
+{
+    let w = leave_leaf(sides, ends, x);
+    if of16(degrees, w.at) == 2 {
+        let up = rises(sides, w);
+        let label = next_label(of32(labels, w.at), up);
+        label_vertex(sides, labels, x, label, w.edge, e, up);
+        return blocks;
+    }
+    let k = one_more16(blocks);
+    label_vertex(sides, labels, x, base(k), w.edge, e, true);
+    k
+}

@@ -1,0 +1,156 @@
+// The chains of two leaves become one (document 01: merging).
+use crate::labelling::base;
+use crate::labelling::label_vertex;
+use crate::labelling::relabel_chain;
+use crate::labelling::rises;
+use tables::access::of16;
+use tables::access::of32;
+use tables::access::one_more16;
+use tables::steps::next_label;
+use tables::walks::Meeting;
+use tables::walks::leave_leaf;
+use tables::walks::walk_lockstep;
+ghost use mathlib.Core.Path.{_≡_};
+ghost use mathlib.Core.Bool.{true, false};
+ghost use mathlib.Core.List.{List};
+ghost use Prim.Native.Nat.{ℕ};
+ghost use Rattle.tables.specs.Walks.{met};
+ghost use Rattle.labels.specs.Labelling.{worn, joinIn, beginIn, merged, mergeAt, mergeIn};
+ghost use Rattle.labels.specs.Keeping.{keeperIn};
+
+// What an edge makes of the counts: the number of blocks (document 01: births), and of the vertices that it relabelled (re-hung). A
+// ring is refused.
+pub struct Merging {
+    pub ring: bool,
+    pub blocks: u16,
+    pub relabellings: u32,
+}
+
+impl Merging {
+    pub fn ring(blocks: u16) -> Merging
+        ensures { λ r. ⌜ (r .ring ≡ true) × ((r .blocks ≡ blocks) × (r .relabellings ≡ 0)) ⌝ }
+    {
+        Merging {
+            ring: true,
+            blocks,
+            relabellings: 0,
+        }
+    }
+
+    pub fn done(blocks: u16, relabellings: u32) -> Merging
+        ensures { λ r. ⌜ (r .ring ≡ false) × ((r .blocks ≡ blocks) × (r .relabellings ≡ relabellings)) ⌝ }
+    {
+        Merging {
+            ring: false,
+            blocks,
+            relabellings,
+        }
+    }
+}
+
+// The chains of the leaves x and y are joined by edge e. x's keeps its labels; the next ones go to x, to y, and along y's chain. The
+// answer counts the relabelled.
+pub fn join_chains(
+    degrees: &[u16],
+    ends: &[u16],
+    sides: &mut [u16],
+    labels: &mut [u32],
+    x: u16,
+    y: u16,
+    e: u16,
+    fuel: u16,
+) -> u32
+    ensures { λ r. ⌜ worn (now (sides .exit)) (now (labels .exit)) r
+        ≡ joinIn (now (degrees .entry)) (now (ends .entry)) (now (sides .entry)) (now (labels .entry)) x y e fuel ⌝ }
+{
+    let kept = leave_leaf(sides, ends, x);
+    let other = leave_leaf(sides, ends, y);
+    let up = rises(sides, kept);
+    let lx = next_label(of32(labels, kept.at), up);
+    let ly = next_label(lx, up);
+    let n = label_vertex(sides, labels, x, lx, kept.edge, e, up);
+    let m = label_vertex(sides, labels, y, ly, e, other.edge, up);
+    let lz = next_label(ly, up);
+    let rest = relabel_chain(degrees, ends, sides, labels, other, lz, up, fuel);
+    n + (m + rest)
+}
+
+// Two chains without regular vertices become one with two, a and b, in block k. The answer is 1 where b is relabelled: no leaf is.
+pub fn begin_chain(
+    sides: &mut [u16],
+    labels: &mut [u32],
+    a: u16,
+    da: u16,
+    b: u16,
+    db: u16,
+    e: u16,
+    k: u16,
+) -> u32
+    ensures { λ r. ⌜ worn (now (sides .exit)) (now (labels .exit)) r
+        ≡ beginIn (now (sides .entry)) (now (labels .entry)) a da b db e k ⌝ }
+{
+    let low = base(k);
+    label_vertex(sides, labels, a, low, da, e, true);
+    label_vertex(sides, labels, b, low + 1, e, db, true)
+}
+
+// The leaf whose chain keeps its labels, then the other; or neither, where no chain has a regular vertex.
+pub enum Keeper {
+    Neither,
+    Chain(u16, u16),
+}
+
+// The chain with more regular vertices keeps its labels, a's on a tie: a walk that still stands at one is that of the longer chain.
+pub fn keeper_of(degrees: &[u16], meeting: Meeting, a: u16, b: u16) -> Keeper
+    ensures { λ r. ⌜ ((ends sides labels : List ℕ) (blocks e n da db : ℕ) → (meeting .first ≡ b → ⊥)
+        → keeperIn r (now (degrees .entry)) ends sides labels blocks a b e n da db
+        ≡ mergeAt (now (degrees .entry)) ends sides labels blocks a b e n da db
+        (met (meeting .first) (meeting .second) (meeting .steps))) ⌝ }
+{
+    if of16(degrees, meeting.second) == 2 {
+        return Keeper::Chain(b, a);
+    }
+    if of16(degrees, meeting.first) == 2 {
+        return Keeper::Chain(a, b);
+    }
+    if meeting.steps == 0 {
+        return Keeper::Neither;
+    }
+    Keeper::Chain(a, b)
+}
+
+// The chains of the leaves a and b are merged over edge e. Walking in lockstep costs what the shorter one has. It shows which keeps its
+// labels; and it shows a ring, where a's walk ends at b.
+pub fn merge_chains(
+    degrees: &[u16],
+    ends: &[u16],
+    sides: &mut [u16],
+    labels: &mut [u32],
+    blocks: u16,
+    a: u16,
+    b: u16,
+    e: u16,
+    fuel: u16,
+) -> Merging
+    ensures { λ r. ⌜ merged (r .ring) (now (sides .exit)) (now (labels .exit)) (r .blocks) (r .relabellings)
+        ≡ mergeIn (now (degrees .entry)) (now (ends .entry)) (now (sides .entry)) (now (labels .entry)) blocks a b e fuel ⌝ }
+{
+    let first = leave_leaf(sides, ends, a);
+    let second = leave_leaf(sides, ends, b);
+    let met = walk_lockstep(degrees, sides, ends, first, second, fuel);
+    if met.first == b {
+        return Merging::ring(blocks);
+    }
+    let keeper = keeper_of(degrees, met, a, b);
+    match keeper {
+        Keeper::Neither => {
+            let k = one_more16(blocks);
+            begin_chain(sides, labels, a, first.edge, b, second.edge, e, k);
+            Merging::done(k, 0)
+        }
+        Keeper::Chain(x, y) => {
+            let n = join_chains(degrees, ends, sides, labels, x, y, e, fuel);
+            Merging::done(blocks, n)
+        }
+    }
+}
