@@ -53,7 +53,7 @@ pub fn grow_with(
     land_list(degrees, sides, ends, lengths, labels, Counts::none(), list)
 }
 
-// What outsiders call: the head counters are updated in the caller's copy. Covered code calls `grow_with`.
+// What outsiders call: the head counters are updated in the caller's copy.
 pub fn grow(
     counts: &mut Counts,
     degrees: &mut [u16],
@@ -91,4 +91,43 @@ pub fn grow(
     );
     *counts = r.counts;
     r.answer
+}
+
+// Plain parameters, for callers that have the counts by value: the caller's copy is a local here.
+pub fn grow_from(
+    c: Counts,
+    degrees: &mut [u16],
+    sides: &mut [u16],
+    ends: &mut [u16],
+    lengths: &mut [u32],
+    labels: &mut [u32],
+    sdegrees: &mut [u16],
+    ssides: &mut [u16],
+    sends: &mut [u16],
+    slengths: &mut [u32],
+    slabels: &mut [u32],
+    list: &[u8],
+) -> Landing
+    ensures { λ r. ⌜ outcome (tables (now (degrees .exit)) (now (sides .exit)) (now (ends .exit)) (now (lengths .exit)) (now (labels .exit))) (countsIn (r .counts))
+        (tables (now (sdegrees .exit)) (now (ssides .exit)) (now (sends .exit)) (now (slengths .exit)) (now (slabels .exit))) (r .answer)
+        ≡ step (grows (now (list .entry)))
+        (lent (tables (now (degrees .entry)) (now (sides .entry)) (now (ends .entry)) (now (lengths .entry)) (now (labels .entry))) (countsIn c)
+        (tables (now (sdegrees .entry)) (now (ssides .entry)) (now (sends .entry)) (now (slengths .entry)) (now (slabels .entry)))) ⌝ }
+{
+    let mut counts = c;
+    let answer = grow(
+        &mut counts,
+        degrees,
+        sides,
+        ends,
+        lengths,
+        labels,
+        sdegrees,
+        ssides,
+        sends,
+        slengths,
+        slabels,
+        list,
+    );
+    Landing { counts, answer }
 }
