@@ -2,13 +2,13 @@
 // pipes, and where the list stopped (record and refusal, or 0 0).
 mod lists;
 
+use calls::grow::grow_from;
 use counters::answers::ListAnswer;
 use counters::counts::Counts;
 use counters::refusals::Refusal;
 use lists::put_chain;
 use lists::put_edge;
 use lists::put_start;
-use register::records::land_list;
 use text::lines::put_line4;
 use text::put_byte;
 
@@ -38,13 +38,23 @@ fn put_result(out: &mut [u8], at: usize, bytes: &[u8], n: usize) -> usize {
     let mut ends = [0u16; 8192];
     let mut lengths = [0u32; 4096];
     let mut labels = [0u32; 4096];
-    let landing = land_list(
+    let mut sdegrees = [0u16; 4096];
+    let mut ssides = [0u16; 8192];
+    let mut sends = [0u16; 8192];
+    let mut slengths = [0u32; 4096];
+    let mut slabels = [0u32; 4096];
+    let landing = grow_from(
+        Counts::none(),
         &mut degrees,
         &mut sides,
         &mut ends,
         &mut lengths,
         &mut labels,
-        Counts::none(),
+        &mut sdegrees,
+        &mut ssides,
+        &mut sends,
+        &mut slengths,
+        &mut slabels,
         &bytes[..n],
     );
     let counts = landing.counts;
