@@ -1,0 +1,45 @@
+// For the tests alone: the search, and the first of the rounds that confirm it. That one round is enough is not proved, since the answer
+// does not rest on it; tests/confirming shows it on full-size houses.
+use distance::dijkstra::dijkstra;
+use distance::relax::relax_all;
+use distance::search::start;
+use tables::access::of32;
+ghost use mathlib.Core.Path.{_≡_};
+ghost use Prim.Native.Nat.{_≤_, _<_};
+ghost use lib.ListN.{length};
+ghost use Rattle.model.specs.Basics.{maxVertices};
+ghost use Rattle.distance.specs.Search.{Searchable, Settled};
+
+// How many distances the first confirming round lowers. With 0 the search had settled them.
+#[no_mangle]
+pub extern "C" fn confirming_changes(
+    ends: &[u16],
+    lengths: &[u32],
+    edges: u16,
+    from: u16,
+    to: u16,
+    heads: &mut [u16],
+    heap: &mut [u16],
+    next: &mut [u16],
+    distances: &mut [u32],
+    keys: &mut [u32],
+) -> u16
+    requires { ⌜ Searchable (now ends) (now lengths) edges × ((from < maxVertices) × ((to < maxVertices) × (maxVertices ≤ length (now distances)))) ⌝ }
+    ensures { λ r. ⌜ (r ≡ 0 → Settled (now (ends .entry)) (now (lengths .entry)) edges to from (now (distances .exit))) ⌝ }
+{
+    start(distances, to);
+    dijkstra(
+        ends,
+        lengths,
+        edges,
+        heads,
+        heap,
+        next,
+        distances,
+        keys,
+        to,
+        from,
+    );
+    let best = of32(distances, from);
+    relax_all(ends, lengths, distances, edges, to, best)
+}
