@@ -106,6 +106,9 @@ module _ (ends lens : List ℕ) (m goal : ℕ) (h : Searchable ends lens m) wher
   end-below e k l (yes p) a b = rw p (h .firsts e l)
   end-below e k l (no p) a b = let q : k ≡ 2 * e + 1 = omega arith in rw q (h .seconds e l)
 
+  pub end-vertex : (k : ℕ) → k < 2 * m → getD ends k 0 < maxVertices
+  end-vertex k l = end-below (k / 2) k (omega arith) (ℕ-discrete _ _) (omega arith) (omega arith)
+
   pub near-room : (dists : List ℕ) (j half : ℕ) → Grounded ends lens m goal dists → half ≡ j / 2 → 1 ≤ half → half ≤ m
       → getD ends (j - 2) 0 < maxVertices
   near-room dists j half g p a b = end-below (half - 1) (j - 2) (omega arith) (ℕ-discrete _ _) (omega arith) (omega arith)

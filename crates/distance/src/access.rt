@@ -17,6 +17,13 @@ pub fn get32(xs: &[u32], i: u16) -> u32
     xs[i as usize]
 }
 
+pub fn set16(xs: &mut [u16], i: u16, x: u16)
+    requires { ⌜ i < length (now xs) ⌝ }
+    ensures { λ _. ⌜ now (xs .exit) ≡ set (now (xs .entry)) i x ⌝ }
+{
+    xs[i as usize] = x;
+}
+
 pub fn set32(xs: &mut [u32], i: u16, x: u32)
     requires { ⌜ i < length (now xs) ⌝ }
     ensures { λ _. ⌜ now (xs .exit) ≡ set (now (xs .entry)) i x ⌝ }

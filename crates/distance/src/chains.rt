@@ -2,32 +2,32 @@
 // half of it is e + 1, and 0 is its end. The lists are a hint: what they hold is tested, and nothing is proved of it.
 use crate::access::get16;
 use crate::access::get32;
+use crate::access::set16;
 use crate::access::set32;
 use crate::relax::NONE;
-use tables::access::at16;
 use tables::access::of16;
 use tables::access::of32;
 use tables::access::put16;
-ghost use Prim.Native.Nat.{_≤_, _<_, _*_};
-ghost use lib.ListN.{length};
+ghost use Prim.Native.Nat.{ℕ, _≤_, _<_, _*_};
+ghost use lib.ListN.{length, getD};
 ghost use Rattle.model.specs.Basics.{maxEdges};
 ghost use Rattle.distance.specs.Search.{Searchable, Grounded};
 
 // Edge end k comes to the front of the list of its vertex.
-fn link(ends: &[u16], heads: &mut [u16], next: &mut [u16], k: u16)
-    requires { ⌜ (k < length (now ends)) × (k < 2 * maxEdges) ⌝ }
+fn link(ends: &[u16], heads: &mut [u16], next: &mut [u16], k: usize)
+    requires { ⌜ (k < length (now ends)) × ((k < 2 * maxEdges) × (getD (now ends) k 0 < length (now heads))) ⌝ }
 {
-    let i = k as usize;
-    let v = get16(ends, i) as usize;
-    put16(next, i + 2, at16(heads, v));
-    put16(heads, v, k + 2);
+    let v = get16(ends, k);
+    let front = get16(heads, v as usize);
+    put16(next, k + 2, front);
+    set16(heads, v, (k + 2) as u16);
 }
 
 // From the last end down: the two that find no room in next are the last of their lists, and the 0 that is read there is their end.
 pub fn link_all(ends: &[u16], heads: &mut [u16], next: &mut [u16], edges: u16)
-    requires { ⌜ (edges ≤ maxEdges) × (2 * edges ≤ length (now ends)) ⌝ }
+    requires { ⌜ (edges ≤ maxEdges) × ((2 * edges ≤ length (now ends)) × ((k : ℕ) → k < 2 * edges → getD (now ends) k 0 < length (now heads))) ⌝ }
 {
-    let mut k = 2 * edges;
+    let mut k = 2 * (edges as usize);
     while 0 < k {
         k -= 1;
         link(ends, heads, next, k);
@@ -74,7 +74,16 @@ fn other_end(one: u16, two: u16, j: u16) -> u16 {
     if one / 2 == j / 2 { two } else { one }
 }
 
-// Follows a chain from end j - 2 on while it lowers distances. The answer is the vertex that is to be queued: one that the chain ends at
+// Whether the edge of end j - 2 is as long as the gap to the best distance: most edges of a dense graph are, and need no more than this.
+fn is_long(lengths: &[u32], j: u16, gap: u32) -> bool {
+    let half = j / 2;
+    if half == 0 {
+        return true;
+    }
+    gap <= of32(lengths, half - 1)
+}
+
+// Follows a chain from an end on while it lowers distances, unless its first edge is as long as the gap. The answer is the vertex that is to be queued: one that the chain ends at
 // and that is no leaf. At a leaf the other end is none, which stops the walk.
 pub fn follow(
     ends: &[u16],
@@ -86,10 +95,14 @@ pub fn follow(
     goal: u16,
     from: u16,
     end: u16,
+    gap: u32,
 ) -> u16
     requires { ⌜ Searchable (now ends) (now lengths) edges × Grounded (now ends) (now lengths) edges goal (now distances) ⌝ }
     ensures { λ _. ⌜ Grounded (now (ends .entry)) (now (lengths .entry)) edges goal (now (distances .exit)) ⌝ }
 {
+    if is_long(lengths, end, gap) {
+        return NONE;
+    }
     let mut j = end;
     let mut left: u16 = 4096;
     while 0 < left {

@@ -9,6 +9,11 @@ use tables::access::of16;
 use tables::access::of32;
 ghost use Rattle.distance.specs.Search.{Searchable, Grounded};
 
+// By how much a is less than b.
+fn gap_to(a: u32, b: u32) -> u32 {
+    if a < b { b - a } else { 0 }
+}
+
 // Follows the chains from vertex v. The answer is the heap's size.
 fn scan(
     ends: &[u16],
@@ -27,6 +32,7 @@ fn scan(
     requires { ⌜ Searchable (now ends) (now lengths) edges × Grounded (now ends) (now lengths) edges goal (now distances) ⌝ }
     ensures { λ _. ⌜ Grounded (now (ends .entry)) (now (lengths .entry)) edges goal (now (distances .exit)) ⌝ }
 {
+    let gap = gap_to(of32(distances, v), of32(distances, from));
     let mut size = queued;
     let mut j = of16(heads, v);
     let mut left: u16 = 8192;
@@ -34,7 +40,18 @@ fn scan(
         if j == 0 {
             break;
         }
-        let w = follow(ends, lengths, edges, heads, next, distances, goal, from, j);
+        let w = follow(
+            ends,
+            lengths,
+            edges,
+            heads,
+            next,
+            distances,
+            goal,
+            from,
+            j,
+            gap,
+        );
         size = offer(heap, keys, distances, w, size);
         j = of16(next, j);
         left -= 1;
@@ -88,7 +105,7 @@ fn scan_all(
     }
 }
 
-// Tries edges in Dijkstra's order, from the goal on.
+// Tries edges in Dijkstra's order, from the goal on, where there is room for a list of each vertex.
 pub fn dijkstra(
     ends: &[u16],
     lengths: &[u32],
@@ -104,6 +121,9 @@ pub fn dijkstra(
     requires { ⌜ Searchable (now ends) (now lengths) edges × Grounded (now ends) (now lengths) edges goal (now distances) ⌝ }
     ensures { λ _. ⌜ Grounded (now (ends .entry)) (now (lengths .entry)) edges goal (now (distances .exit)) ⌝ }
 {
+    if heads.len() < 4096 {
+        return;
+    }
     link_all(ends, heads, next, edges);
     let queued = push(heap, keys, goal, 0, 0);
     scan_all(

@@ -8,20 +8,16 @@ use mathlib.Core.Path.{_≡_, refl, _∙_}
 use borrow.Author.Needs.{needs}
 use Rattle.confirming.proofs.confirming_changes.Statement.{statement}
 use Rattle.confirming.proofs.confirming_changes.Tie as tie
-use Rattle.confirming.proofs.confirming_changes.Reads as reads
-use Rattle.confirming.proofs.confirming_changes.Lts as lts
 use Rattle.distance.proofs.dijkstra.dijkstra.Reads as dijkstra-reads
 use Rattle.distance.proofs.relax.relax_all.Reads as relax-all-reads
 use Rattle.distance.proofs.search.start.Reads as start-reads
 use Rattle.tables.proofs.access.of32.Reads as of32-reads
 
--- src/lib.rt:30:5
 start-requires : tie.Need-start-requires
 start-requires c κs =
     let at-pre = c .before .before .before .before .before .before .before .before in
     omega (arith, at-pre .pre .1 .1 .0, at-pre .pre .1 .1 .1)
 
--- src/lib.rt:31:5
 dijkstra-requires : tie.Need-dijkstra-requires
 dijkstra-requires c κs =
     let at-start = c .before .before .before .before .before .before .before in
@@ -29,38 +25,30 @@ dijkstra-requires c κs =
     let r : maxVertices ≤ length (at-start .start .last .0) = omega (arith, at-start .start .kept .0, at-pre .pre .1 .1 .1) in
     (at-pre .pre .0, started _ _ _ _ (at-pre .pre .0) _ r (at-start .start .ensures))
 
--- src/lib.rt:43:9
 of32-requires : tie.Need-of32-requires
 of32-requires c κs = search needs
 
--- src/lib.rt:44:5
 relax-all-requires : tie.Need-relax-all-requires
 relax-all-requires c κs =
     let at-dijkstra = c .before .before .before .before .before .before .before .before .before .before .before .before .before in
     let at-pre = at-dijkstra .before .before .before .before .before .before .before .before .before .before .before .before .before .before .before .before .before in
     (at-pre .pre .0, at-dijkstra .dijkstra .ensures)
 
--- src/lib.rt:14:1
 same-length : tie.Need-same-length
 same-length c = search needs
 
--- src/lib.rt:14:1
 same-length-2 : tie.Need-same-length-2
 same-length-2 c = search needs
 
--- src/lib.rt:14:1
 same-length-3 : tie.Need-same-length-3
 same-length-3 c = search needs
 
--- src/lib.rt:14:1
 same-length-4 : tie.Need-same-length-4
 same-length-4 c = search needs
 
--- src/lib.rt:14:1
 same-length-5 : tie.Need-same-length-5
 same-length-5 c = search needs
 
--- src/lib.rt:14:1
 returns : tie.Need-returns
 returns c =
     let at-of32 = c .before .before .before .before in

@@ -6,101 +6,92 @@ use mathlib.Core.Path.{_≡_, refl, _∙_}
 use borrow.Author.Needs.{needs}
 use Rattle.distance.proofs.chains.follow.Statement.{statement}
 use Rattle.distance.proofs.chains.follow.Tie as tie
-use Rattle.distance.proofs.chains.follow.Reads as reads
-use Rattle.distance.proofs.chains.follow.Lts as lts
+use Rattle.distance.proofs.chains.is_long.Reads as is-long-reads
 use Rattle.distance.proofs.chains.other_end.Reads as other-end-reads
 use Rattle.distance.proofs.chains.relax_end.Reads as relax-end-reads
 use Rattle.tables.proofs.access.of16.Reads as of16-reads
 use Rattle.tables.proofs.access.of32.Reads as of32-reads
 
 abbrev Inv-loop : tie.InvT-loop
-Inv-loop ends lengths edges heads next distances₀ goal from end j₀ left₀ distances j left = (length distances ≡ length distances₀) × Grounded ends lengths edges goal distances
+Inv-loop ends lengths edges heads next distances₀ goal from end gap j₀ left₀ distances j left = (length distances ≡ length distances₀) × Grounded ends lengths edges goal distances
 
 abbrev μ-loop : tie.MeasureT-loop
-μ-loop ends lengths edges heads next distances₀ goal from end j₀ left₀ distances j left = left
+μ-loop ends lengths edges heads next distances₀ goal from end gap j₀ left₀ distances j left = left
 
--- src/chains.rt:95:5
+is-long-requires : tie.Need-is-long-requires Inv-loop μ-loop
+is-long-requires c κs = search needs
+
+returns : tie.Need-returns Inv-loop μ-loop
+returns c =
+    let at-pre = c .before .before .before .before .before .before .before in
+    at-pre .pre .1
+
 loop-holds : tie.Need-loop-holds Inv-loop μ-loop
 loop-holds c =
-    let at-pre = c .before .before .before .before .before in
+    let at-pre = c .before .before .before .before .before .before .before in
     (refl, at-pre .pre .1)
 
--- src/chains.rt:96:13
 of32-requires : tie.Need-of32-requires Inv-loop μ-loop
 of32-requires c κs = search needs
 
--- src/chains.rt:97:13
 relax-end-requires : tie.Need-relax-end-requires Inv-loop μ-loop
 relax-end-requires c κs =
     let at-loop = c .before .before .before .before in
-    let at-pre = at-loop .before .before .before .before .before .before in
+    let at-pre = at-loop .before .before .before .before .before .before .before .before in
     (at-pre .pre .0, at-loop .loop .inv .1)
 
--- src/chains.rt:101:13
 of16-requires : tie.Need-of16-requires Inv-loop μ-loop
 of16-requires c κs = search needs
 
--- src/chains.rt:102:13
 of16-requires-2 : tie.Need-of16-requires-2 Inv-loop μ-loop
 of16-requires-2 c κs = search needs
 
--- src/chains.rt:103:12
 of16-requires-3 : tie.Need-of16-requires-3 Inv-loop μ-loop
 of16-requires-3 c κs = search needs
 
--- src/chains.rt:104:13
 same-length : tie.Need-same-length Inv-loop μ-loop
 same-length c =
     let at-relax-end = c .before .before .before .before .before .before .before in
     let at-loop = at-relax-end .before .before .before .before .before in
     at-relax-end .relax-end .kept .1 .1 .1 .0 ∙ at-loop .loop .inv .0
 
--- src/chains.rt:104:13
-returns : tie.Need-returns Inv-loop μ-loop
-returns c =
+returns-2 : tie.Need-returns-2 Inv-loop μ-loop
+returns-2 c =
     let at-relax-end = c .before .before .before .before .before .before .before in
     at-relax-end .relax-end .ensures
 
--- src/chains.rt:106:9
 other-end-requires : tie.Need-other-end-requires Inv-loop μ-loop
 other-end-requires c κs = search needs
 
--- src/chains.rt:107:9
 sub-left : tie.Need-sub-left Inv-loop μ-loop
 sub-left c =
     let at-loop-test = c .before .before .before .before .before .before .before .before .before .before .before .before in
     omega (arith, at-loop-test .loop-test .taken)
 
--- src/chains.rt:95:5
 loop-less : tie.Need-loop-less Inv-loop μ-loop
 loop-less c =
     let at-loop-test = c .before .before .before .before .before .before .before .before .before .before .before .before in
     omega (arith, at-loop-test .loop-test .taken)
 
--- src/chains.rt:95:5
 loop-again : tie.Need-loop-again Inv-loop μ-loop
 loop-again c =
     let at-relax-end = c .before .before .before .before .before .before .before .before in
     let at-loop = at-relax-end .before .before .before .before .before in
     (at-relax-end .relax-end .kept .1 .1 .1 .0 ∙ at-loop .loop .inv .0, at-relax-end .relax-end .ensures)
 
--- src/chains.rt:79:1
 same-length-2 : tie.Need-same-length-2 Inv-loop μ-loop
 same-length-2 c = c .before .loop .inv .0
 
--- src/chains.rt:79:1
-returns-2 : tie.Need-returns-2 Inv-loop μ-loop
-returns-2 c = c .before .loop .inv .1
+returns-3 : tie.Need-returns-3 Inv-loop μ-loop
+returns-3 c = c .before .loop .inv .1
 
--- src/chains.rt:79:1
 same-length-3 : tie.Need-same-length-3 Inv-loop μ-loop
 same-length-3 c =
     let at-loop = c .before .before .before .before .before .before .before .before in
     c .before .before .before .relax-end .kept .1 .1 .1 .0 ∙ at-loop .loop .inv .0
 
--- src/chains.rt:79:1
-returns-3 : tie.Need-returns-3 Inv-loop μ-loop
-returns-3 c = c .before .before .before .relax-end .ensures
+returns-4 : tie.Need-returns-4 Inv-loop μ-loop
+returns-4 c = c .before .before .before .relax-end .ensures
 
 pub follow-spec : {M : Type 1} → statement M
 follow-spec =
@@ -108,6 +99,8 @@ follow-spec =
     (tie.spec
     Inv-loop
     μ-loop
+    is-long-requires
+    returns
     loop-holds
     of32-requires
     relax-end-requires
@@ -115,12 +108,12 @@ follow-spec =
     of16-requires-2
     of16-requires-3
     same-length
-    returns
+    returns-2
     other-end-requires
     sub-left
     loop-less
     loop-again
     same-length-2
-    returns-2
+    returns-3
     same-length-3
-    returns-3)
+    returns-4)

@@ -7,44 +7,34 @@ use mathlib.Core.Path.{_≡_, refl}
 use borrow.Author.Needs.{needs}
 use Rattle.distance.proofs.chains.relax_end.Statement.{statement}
 use Rattle.distance.proofs.chains.relax_end.Tie as tie
-use Rattle.distance.proofs.chains.relax_end.Reads as reads
-use Rattle.distance.proofs.chains.relax_end.Lts as lts
 use Rattle.distance.proofs.access.get16.Reads as get16-reads
 use Rattle.distance.proofs.access.get32.Reads as get32-reads
 use Rattle.distance.proofs.access.set32.Reads as set32-reads
 
--- src/chains.rt:53:9
 returns : tie.Need-returns
 returns c = search needs
 
--- src/chains.rt:56:9
 returns-2 : tie.Need-returns-2
 returns-2 c = search needs
 
--- src/chains.rt:59:28
 sub-get16 : tie.Need-sub-get16
 sub-get16 c = search needs
 
--- src/chains.rt:59:9
 get16-requires : tie.Need-get16-requires
 get16-requires c κs = search needs
 
--- src/chains.rt:60:15
 get32-requires : tie.Need-get32-requires
 get32-requires c κs =
     let at-args = c .before .before .before .before .before .before .before in
     let n : c .before .get16 .result < maxVertices = rw (c .before .get16 .ensures) (near-room _ _ _ _ (at-args .pre .0) _ (at-args .args .j) _ (at-args .pre .1) refl (omega (arith, c .before .before .before .if1 .left)) (c .before .before .if2 .left)) in
     omega (arith, n, at-args .pre .1 .room)
 
--- src/chains.rt:60:55
 sub-get32 : tie.Need-sub-get32
 sub-get32 c = search needs
 
--- src/chains.rt:60:40
 get32-requires-2 : tie.Need-get32-requires-2
 get32-requires-2 c κs = search needs
 
--- src/chains.rt:60:15
 add-sum : tie.Need-add-sum
 add-sum c =
     let at-if2 = c .before .before .before .before in
@@ -55,35 +45,27 @@ add-sum c =
     let u = at-args .pre .0 .short (at-args .args .j / 2 - 1) (omega (arith, at-if1 .if1 .left, at-if2 .if2 .left)) in
     omega (arith, t, u, c .get322 .ensures)
 
--- src/chains.rt:62:9
 same-length : tie.Need-same-length
 same-length c = search needs
 
--- src/chains.rt:62:9
 returns-3 : tie.Need-returns-3
 returns-3 c = search needs
 
--- src/chains.rt:64:32
 cast-get16 : tie.Need-cast-get16
 cast-get16 c = search needs
 
--- src/chains.rt:64:27
 mul-get16 : tie.Need-mul-get16
 mul-get16 c = search needs
 
--- src/chains.rt:64:27
 sub-get16-2 : tie.Need-sub-get16-2
 sub-get16-2 c = search needs
 
--- src/chains.rt:64:27
 sub-get16-3 : tie.Need-sub-get16-3
 sub-get16-3 c = search needs
 
--- src/chains.rt:64:9
 get16-requires-2 : tie.Need-get16-requires-2
 get16-requires-2 c κs = search needs
 
--- src/chains.rt:65:8
 get32-requires-3 : tie.Need-get32-requires-3
 get32-requires-3 c κs =
     let at-if2 = c .before .before .before .before .before .before .before in
@@ -92,15 +74,12 @@ get32-requires-3 c κs =
     let n : c .before .get162 .result < maxVertices = rw (c .before .get162 .ensures) (far-room _ _ _ _ (at-args .pre .0) _ (at-args .args .j) _ (at-args .pre .1) refl (omega (arith, at-if1 .if1 .left)) (at-if2 .if2 .left)) in
     omega (arith, n, at-args .pre .1 .room)
 
--- src/chains.rt:66:9
 same-length-2 : tie.Need-same-length-2
 same-length-2 c = search needs
 
--- src/chains.rt:66:9
 returns-4 : tie.Need-returns-4
 returns-4 c = search needs
 
--- src/chains.rt:68:5
 set32-requires : tie.Need-set32-requires
 set32-requires c κs =
     let at-get162 = c .before .before .before .before in
@@ -110,11 +89,9 @@ set32-requires c κs =
     let n : at-get162 .get162 .result < maxVertices = rw (at-get162 .get162 .ensures) (far-room _ _ _ _ (at-args .pre .0) _ (at-args .args .j) _ (at-args .pre .1) refl (omega (arith, at-if1 .if1 .left)) (at-if2 .if2 .left)) in
     omega (arith, n, at-args .pre .1 .room)
 
--- src/chains.rt:39:1
 same-length-3 : tie.Need-same-length-3
 same-length-3 c = search needs
 
--- src/chains.rt:39:1
 returns-5 : tie.Need-returns-5
 returns-5 c =
     let at-if4 = c .before .before .before .before in

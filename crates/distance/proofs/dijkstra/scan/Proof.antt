@@ -6,55 +6,56 @@ use mathlib.Core.Path.{_≡_, refl, _∙_}
 use borrow.Author.Needs.{needs}
 use Rattle.distance.proofs.dijkstra.scan.Statement.{statement}
 use Rattle.distance.proofs.dijkstra.scan.Tie as tie
-use Rattle.distance.proofs.dijkstra.scan.Reads as reads
-use Rattle.distance.proofs.dijkstra.scan.Lts as lts
 use Rattle.distance.proofs.chains.follow.Reads as follow-reads
+use Rattle.distance.proofs.dijkstra.gap_to.Reads as gap-to-reads
 use Rattle.distance.proofs.heap.offer.Reads as offer-reads
 use Rattle.tables.proofs.access.of16.Reads as of16-reads
+use Rattle.tables.proofs.access.of32.Reads as of32-reads
 
 abbrev Inv-loop : tie.InvT-loop
-Inv-loop ends lengths edges heads heap₀ next distances₀ keys₀ goal from v queued size₀ j₀ left₀ heap distances keys size j left = (length heap ≡ length heap₀) × ((length distances ≡ length distances₀) × ((length keys ≡ length keys₀) × Grounded ends lengths edges goal distances))
+Inv-loop ends lengths edges heads heap₀ next distances₀ keys₀ goal from v queued gap size₀ j₀ left₀ heap distances keys size j left = (length heap ≡ length heap₀) × ((length distances ≡ length distances₀) × ((length keys ≡ length keys₀) × Grounded ends lengths edges goal distances))
 
 abbrev μ-loop : tie.MeasureT-loop
-μ-loop ends lengths edges heads heap₀ next distances₀ keys₀ goal from v queued size₀ j₀ left₀ heap distances keys size j left = left
+μ-loop ends lengths edges heads heap₀ next distances₀ keys₀ goal from v queued gap size₀ j₀ left₀ heap distances keys size j left = left
 
--- src/dijkstra.rt:31:9
+of32-requires : tie.Need-of32-requires Inv-loop μ-loop
+of32-requires c κs = search needs
+
+of32-requires-2 : tie.Need-of32-requires-2 Inv-loop μ-loop
+of32-requires-2 c κs = search needs
+
+gap-to-requires : tie.Need-gap-to-requires Inv-loop μ-loop
+gap-to-requires c κs = search needs
+
 of16-requires : tie.Need-of16-requires Inv-loop μ-loop
 of16-requires c κs = search needs
 
--- src/dijkstra.rt:33:5
 loop-holds : tie.Need-loop-holds Inv-loop μ-loop
 loop-holds c =
-    let at-pre = c .before .before .before .before .before .before .before .before in
+    let at-pre = c .before .before .before .before .before .before .before .before .before .before .before .before .before in
     (refl, (refl, (refl, at-pre .pre .1)))
 
--- src/dijkstra.rt:37:13
 follow-requires : tie.Need-follow-requires Inv-loop μ-loop
 follow-requires c κs =
-    let at-pre = c .before .before .before .before .before .before .before .before .before .before .before .before in
+    let at-pre = c .before .before .before .before .before .before .before .before .before .before .before .before .before .before .before .before .before in
     (at-pre .pre .0, c .before .before .before .loop .inv .1 .1 .1)
 
--- src/dijkstra.rt:38:9
 offer-requires : tie.Need-offer-requires Inv-loop μ-loop
 offer-requires c κs = search needs
 
--- src/dijkstra.rt:39:9
 of16-requires-2 : tie.Need-of16-requires-2 Inv-loop μ-loop
 of16-requires-2 c κs = search needs
 
--- src/dijkstra.rt:40:9
 sub-left : tie.Need-sub-left Inv-loop μ-loop
 sub-left c =
     let at-loop-test = c .before .before .before .before .before .before .before .before .before .before .before .before .before .before in
     omega (arith, at-loop-test .loop-test .taken)
 
--- src/dijkstra.rt:33:5
 loop-less : tie.Need-loop-less Inv-loop μ-loop
 loop-less c =
     let at-loop-test = c .before .before .before .before .before .before .before .before .before .before .before .before .before .before in
     omega (arith, at-loop-test .loop-test .taken)
 
--- src/dijkstra.rt:33:5
 loop-again : tie.Need-loop-again Inv-loop μ-loop
 loop-again c =
     let at-offer = c .before .before .before .before .before in
@@ -62,35 +63,27 @@ loop-again c =
     let at-loop = at-follow .before .before .before .before in
     (at-offer .offer .kept .0 ∙ at-loop .loop .inv .0, (at-follow .follow .kept .1 .1 .1 .1 .1 .0 ∙ at-loop .loop .inv .1 .0, (at-offer .offer .kept .1 .0 ∙ at-loop .loop .inv .1 .1 .0, at-follow .follow .ensures)))
 
--- src/dijkstra.rt:13:1
 same-length : tie.Need-same-length Inv-loop μ-loop
 same-length c = c .before .loop .inv .0
 
--- src/dijkstra.rt:13:1
 same-length-2 : tie.Need-same-length-2 Inv-loop μ-loop
 same-length-2 c = c .before .loop .inv .1 .0
 
--- src/dijkstra.rt:13:1
 same-length-3 : tie.Need-same-length-3 Inv-loop μ-loop
 same-length-3 c = c .before .loop .inv .1 .1 .0
 
--- src/dijkstra.rt:13:1
 returns : tie.Need-returns Inv-loop μ-loop
 returns c = c .before .loop .inv .1 .1 .1
 
--- src/dijkstra.rt:13:1
 same-length-4 : tie.Need-same-length-4 Inv-loop μ-loop
 same-length-4 c = c .before .before .loop .inv .0
 
--- src/dijkstra.rt:13:1
 same-length-5 : tie.Need-same-length-5 Inv-loop μ-loop
 same-length-5 c = c .before .before .loop .inv .1 .0
 
--- src/dijkstra.rt:13:1
 same-length-6 : tie.Need-same-length-6 Inv-loop μ-loop
 same-length-6 c = c .before .before .loop .inv .1 .1 .0
 
--- src/dijkstra.rt:13:1
 returns-2 : tie.Need-returns-2 Inv-loop μ-loop
 returns-2 c = c .before .before .loop .inv .1 .1 .1
 
@@ -100,6 +93,9 @@ scan-spec =
     (tie.spec
     Inv-loop
     μ-loop
+    of32-requires
+    of32-requires-2
+    gap-to-requires
     of16-requires
     loop-holds
     follow-requires

@@ -6,8 +6,6 @@ use mathlib.Core.Path.{_≡_, refl, _∙_}
 use borrow.Author.Needs.{needs}
 use Rattle.distance.proofs.dijkstra.scan_all.Statement.{statement}
 use Rattle.distance.proofs.dijkstra.scan_all.Tie as tie
-use Rattle.distance.proofs.dijkstra.scan_all.Reads as reads
-use Rattle.distance.proofs.dijkstra.scan_all.Lts as lts
 use Rattle.distance.proofs.dijkstra.scan.Reads as scan-reads
 use Rattle.distance.proofs.heap.pop.Reads as pop-reads
 use Rattle.tables.proofs.access.of16.Reads as of16-reads
@@ -19,48 +17,39 @@ Inv-loop ends lengths edges heads heap₀ next distances₀ keys₀ goal from qu
 abbrev μ-loop : tie.MeasureT-loop
 μ-loop ends lengths edges heads heap₀ next distances₀ keys₀ goal from queued size₀ left₀ heap distances keys size left = left
 
--- src/dijkstra.rt:64:5
 loop-holds : tie.Need-loop-holds Inv-loop μ-loop
 loop-holds c =
     let at-pre = c .before .before .before .before .before .before .before in
     (refl, (refl, (refl, at-pre .pre .1)))
 
--- src/dijkstra.rt:68:12
 of32-requires : tie.Need-of32-requires Inv-loop μ-loop
 of32-requires c κs = search needs
 
--- src/dijkstra.rt:68:37
 of32-requires-2 : tie.Need-of32-requires-2 Inv-loop μ-loop
 of32-requires-2 c κs = search needs
 
--- src/dijkstra.rt:71:13
 of16-requires : tie.Need-of16-requires Inv-loop μ-loop
 of16-requires c κs = search needs
 
--- src/dijkstra.rt:72:9
 pop-requires : tie.Need-pop-requires Inv-loop μ-loop
 pop-requires c κs = search needs
 
--- src/dijkstra.rt:73:9
 scan-requires : tie.Need-scan-requires Inv-loop μ-loop
 scan-requires c κs =
     let at-loop = c .before .before .before .before .before .before .before .before .before .before .before .before .before .before .before .before .before .before .before in
     let at-pre = at-loop .before .before .before .before .before .before .before .before in
     (at-pre .pre .0, at-loop .loop .inv .1 .1 .1)
 
--- src/dijkstra.rt:87:9
 sub-left : tie.Need-sub-left Inv-loop μ-loop
 sub-left c =
     let at-loop-test = c .before .before .before .before .before .before .before .before .before .before .before .before .before .before .before .before .before .before .before .before .before .before .before .before .before in
     omega (arith, at-loop-test .loop-test .taken)
 
--- src/dijkstra.rt:64:5
 loop-less : tie.Need-loop-less Inv-loop μ-loop
 loop-less c =
     let at-loop-test = c .before .before .before .before .before .before .before .before .before .before .before .before .before .before .before .before .before .before .before .before .before .before .before .before .before in
     omega (arith, at-loop-test .loop-test .taken)
 
--- src/dijkstra.rt:64:5
 loop-again : tie.Need-loop-again Inv-loop μ-loop
 loop-again c =
     let at-scan = c .before .before .before .before .before .before in
@@ -68,57 +57,45 @@ loop-again c =
     let at-loop = at-pop .before .before .before .before .before .before .before .before .before .before .before .before in
     (at-scan .scan .kept .1 .1 .1 .1 .0 ∙ at-pop .pop .kept .0 ∙ at-loop .loop .inv .0, (at-scan .scan .kept .1 .1 .1 .1 .1 .1 .0 ∙ at-loop .loop .inv .1 .0, (at-scan .scan .kept .1 .1 .1 .1 .1 .1 .1 .0 ∙ at-pop .pop .kept .1 .0 ∙ at-loop .loop .inv .1 .1 .0, at-scan .scan .ensures)))
 
--- src/dijkstra.rt:46:1
 same-length : tie.Need-same-length Inv-loop μ-loop
 same-length c = c .before .loop .inv .0
 
--- src/dijkstra.rt:46:1
 same-length-2 : tie.Need-same-length-2 Inv-loop μ-loop
 same-length-2 c = c .before .loop .inv .1 .0
 
--- src/dijkstra.rt:46:1
 same-length-3 : tie.Need-same-length-3 Inv-loop μ-loop
 same-length-3 c = c .before .loop .inv .1 .1 .0
 
--- src/dijkstra.rt:46:1
 returns : tie.Need-returns Inv-loop μ-loop
 returns c = c .before .loop .inv .1 .1 .1
 
--- src/dijkstra.rt:46:1
 same-length-4 : tie.Need-same-length-4 Inv-loop μ-loop
 same-length-4 c = c .before .before .loop .inv .0
 
--- src/dijkstra.rt:46:1
 same-length-5 : tie.Need-same-length-5 Inv-loop μ-loop
 same-length-5 c = c .before .before .loop .inv .1 .0
 
--- src/dijkstra.rt:46:1
 same-length-6 : tie.Need-same-length-6 Inv-loop μ-loop
 same-length-6 c = c .before .before .loop .inv .1 .1 .0
 
--- src/dijkstra.rt:46:1
 returns-2 : tie.Need-returns-2 Inv-loop μ-loop
 returns-2 c = c .before .before .loop .inv .1 .1 .1
 
--- src/dijkstra.rt:46:1
 same-length-7 : tie.Need-same-length-7 Inv-loop μ-loop
 same-length-7 c =
     let at-loop = c .before .before .before .before .before .before .before in
     at-loop .loop .inv .0
 
--- src/dijkstra.rt:46:1
 same-length-8 : tie.Need-same-length-8 Inv-loop μ-loop
 same-length-8 c =
     let at-loop = c .before .before .before .before .before .before .before in
     at-loop .loop .inv .1 .0
 
--- src/dijkstra.rt:46:1
 same-length-9 : tie.Need-same-length-9 Inv-loop μ-loop
 same-length-9 c =
     let at-loop = c .before .before .before .before .before .before .before in
     at-loop .loop .inv .1 .1 .0
 
--- src/dijkstra.rt:46:1
 returns-3 : tie.Need-returns-3 Inv-loop μ-loop
 returns-3 c =
     let at-loop = c .before .before .before .before .before .before .before in

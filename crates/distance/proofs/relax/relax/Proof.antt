@@ -6,59 +6,47 @@ use mathlib.Core.Path.{_≡_, refl}
 use borrow.Author.Needs.{needs}
 use Rattle.distance.proofs.relax.relax.Statement.{statement}
 use Rattle.distance.proofs.relax.relax.Tie as tie
-use Rattle.distance.proofs.relax.relax.Reads as reads
-use Rattle.distance.proofs.relax.relax.Lts as lts
 use Rattle.distance.proofs.access.get16.Reads as get16-reads
 use Rattle.distance.proofs.access.get32.Reads as get32-reads
 use Rattle.distance.proofs.access.set32.Reads as set32-reads
 use Rattle.distance.proofs.relax.greatest.Reads as greatest-reads
 use Rattle.distance.proofs.relax.least.Reads as least-reads
 
--- src/relax.rt:32:9
 get32-requires : tie.Need-get32-requires
 get32-requires c κs = c .before .before .before .pre .lens-room
 
--- src/relax.rt:34:9
 returns : tie.Need-returns
 returns c = rests refl refl (still-long _ _ _ _ _ _ (c .before .get32 .ensures) (c .if1 .taken))
 
--- src/relax.rt:36:13
 mul-i : tie.Need-mul-i
 mul-i c = search needs
 
--- src/relax.rt:37:9
 get16-requires : tie.Need-get16-requires
 get16-requires c κs =
     let at-pre = c .before .before .before .before .before in
     omega (arith, at-pre .pre .ends-room)
 
--- src/relax.rt:38:25
 add-get16 : tie.Need-add-get16
 add-get16 c = search needs
 
--- src/relax.rt:38:9
 get16-requires-2 : tie.Need-get16-requires-2
 get16-requires-2 c κs =
     let at-pre = c .before .before .before .before .before .before in
     at-pre .pre .ends-room
 
--- src/relax.rt:39:9
 get32-requires-2 : tie.Need-get32-requires-2
 get32-requires-2 c κs =
     let at-pre = c .before .before .before .before .before .before .before .before in
     rw (c .before .before .get16 .ensures) (at-pre .pre .first-room)
 
--- src/relax.rt:40:9
 get32-requires-3 : tie.Need-get32-requires-3
 get32-requires-3 c κs =
     let at-pre = c .before .before .before .before .before .before .before .before .before .before in
     rw (c .before .before .before .get162 .ensures) (at-pre .pre .second-room)
 
--- src/relax.rt:41:15
 least-requires : tie.Need-least-requires
 least-requires c κs = search needs
 
--- src/relax.rt:41:15
 add-sum : tie.Need-add-sum
 add-sum c =
     let at-get16 = c .before .before .before .before .before .before in
@@ -67,19 +55,15 @@ add-sum c =
     let v : c .before .before .before .get322 .result ≤ unreached = rw (c .before .before .before .get322 .ensures, at-get16 .get16 .ensures) (at-pre .pre .first-distance) in
     omega (arith, v, c .least .ensures, at-get32 .get32 .ensures, at-pre .pre .short)
 
--- src/relax.rt:42:20
 greatest-requires : tie.Need-greatest-requires
 greatest-requires c κs = search needs
 
--- src/relax.rt:42:8
 least-requires-2 : tie.Need-least-requires-2
 least-requires-2 c κs = search needs
 
--- src/relax.rt:43:9
 same-length : tie.Need-same-length
 same-length c = search needs
 
--- src/relax.rt:43:9
 returns-2 : tie.Need-returns-2
 returns-2 c =
     let at-get323 = c .before .before .before .before in
@@ -92,18 +76,15 @@ returns-2 c =
     let x : min (at-args .args .best) (max (at-get322 .get322 .result) (at-get323 .get323 .result)) ≤ c .before .before .before .least .result + at-get32 .get32 .result = omega (arith, c .before .before .greatest .ensures, c .before .least2 .ensures, c .if2 .taken) in
     rests refl refl (still-of _ _ _ _ _ _ _ _ _ _ _ (at-get16 .get16 .ensures) (at-get162 .get162 .ensures) (at-get32 .get32 .ensures) (at-get322 .get322 .ensures) (at-get323 .get323 .ensures) s x)
 
--- src/relax.rt:46:9
 set32-requires : tie.Need-set32-requires
 set32-requires c κs =
     let at-get162 = c .before .before .before .before .before .before .before .before .before .before in
     let at-pre = at-get162 .before .before .before .before .before .before .before in
     rw (at-get162 .get162 .ensures) (at-pre .pre .second-room)
 
--- src/relax.rt:47:9
 same-length-2 : tie.Need-same-length-2
 same-length-2 c = search needs
 
--- src/relax.rt:47:9
 returns-3 : tie.Need-returns-3
 returns-3 c =
     let at-if3 = c .before .before .before .before in
@@ -121,18 +102,15 @@ returns-3 c =
     let x : at-least .least .result + at-get32 .get32 .result < min (at-args .args .best) (max (at-get322 .get322 .result) (at-get323 .get323 .result)) = omega (arith, at-greatest .greatest .ensures, at-least2 .least2 .ensures, at-if2 .if2 .left) in
     lowered-second _ _ _ _ _ _ _ _ _ _ _ (at-get16 .get16 .ensures) (at-get162 .get162 .ensures) (at-get32 .get32 .ensures) (at-get322 .get322 .ensures) (at-get323 .get323 .ensures) s _ x (at-if3 .if3 .taken) (c .before .before .set32 .ensures)
 
--- src/relax.rt:49:5
 set32-requires-2 : tie.Need-set32-requires-2
 set32-requires-2 c κs =
     let at-get16 = c .before .before .before .before .before .before .before .before .before .before .before in
     let at-pre = at-get16 .before .before .before .before .before .before in
     rw (at-get16 .get16 .ensures) (at-pre .pre .first-room)
 
--- src/relax.rt:28:1
 same-length-3 : tie.Need-same-length-3
 same-length-3 c = search needs
 
--- src/relax.rt:28:1
 returns-4 : tie.Need-returns-4
 returns-4 c =
     let at-if3 = c .before .before .before .before in
