@@ -10,7 +10,7 @@
  *   Overlap    `list` and `answer` must not overlap.
  *   Threads    nothing is shared or kept between calls, nothing is allocated, no signal is used: any number of threads may call at
  *              once, as long as no thread writes a list or an answer that another call was given.
- *   Stack      a call needs 80 KiB, pnl_distance 160 KiB.
+ *   Stack      a call needs 160 KiB.
  *
  * Fittings and pipes are numbered from 0 in the order of landing, at most 4,096 of each. A fitting with exactly two pipe ends is a
  * coupling, any other a junction; a run goes from junction to junction through couplings, and its name is its lowest pipe number.

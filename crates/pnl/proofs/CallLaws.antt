@@ -25,7 +25,7 @@ use Rattle.distance.specs.Measure.{measureIn}
 use Rattle.distance.proofs.Registers.{searchable}
 use Rattle.distance.proofs.Measuring.{measure-agrees}
 use Rattle.pnl.specs.Calls.{returned, GrownIn, wholeIn, stoppedIn, stopIn, Growth, growth, growthOf, Holds}
-use Rattle.pnl.proofs.Narrowing.{narrow-reach}
+use Rattle.pnl.proofs.Narrowing.{narrow-reach, narrow-measure}
 
 pub grow-law : (t : Tables) (c : Counts) (bs : List ℕ) (d : ReadIn) (a : GrownIn) → c ≡ noCounts → d ≡ landListIn t c bs → a ≡ stopIn (d .counts) (d .reply)
     → growth (d .tables) a ≡ growthOf (landListIn t noCounts bs)
@@ -131,8 +131,8 @@ module _ (d s e l lb : List ℕ) (c : Counts) (r : Register) (h : Holds (tables 
       let k : reachIn (tables d s e l lb) c v ≡ reach r v = rw (← h .tables-are, ← h .counts-are) (reach-agrees r (h .reachable) v) in
       q ∙ ap (returnsReply r slice) (p ∙ narrow-reach (tables d s e l lb) c (few-vertices (tables d s e l lb) c r h) v m n ∙ k)
 
-  pub distance-query : (v w : ℕ) (a : Reply) → a ≡ measureIn (tables d s e l lb) c v w → z ≡ returnsReply r slice a
-      → z ≡ returnsReply r slice (measure r v w)
-  distance-query v w a p q =
+  pub distance-query : (v w m n : ℕ) (a : Reply) → m ≡ min v 65535 → n ≡ min w 65535 → a ≡ measureIn (tables d s e l lb) c m n
+      → z ≡ returnsReply r slice a → z ≡ returnsReply r slice (measure r v w)
+  distance-query v w m n a i j p q =
       let k : measureIn (tables d s e l lb) c v w ≡ measure r v w = rw (← h .tables-are, ← h .counts-are) (measure-agrees r v w) in
-      q ∙ ap (returnsReply r slice) (p ∙ k)
+      q ∙ ap (returnsReply r slice) (p ∙ narrow-measure (tables d s e l lb) c (few-vertices (tables d s e l lb) c r h) v w m n i j ∙ k)

@@ -8,7 +8,7 @@ use Rattle.model.specs.Format.{whole, stopped}
 use Rattle.model.specs.FromC.{Returned}
 use Rattle.model.specs.Notions.{Reachable}
 use Rattle.model.specs.Register.{Register}
-use Rattle.model.specs.Queries.{Reply, read, found, reached, measured, listed, refuses, find, reach, sheet}
+use Rattle.model.specs.Queries.{Reply, read, found, reached, measured, listed, refuses, find, reach, measure, sheet}
 use Rattle.model.specs.Tables as T
 use Rattle.counters.specs.Answers.{countsIn}
 use Rattle.counters.specs.Refusals.{numberOf}
@@ -16,7 +16,7 @@ use Rattle.register.specs.Listing.{ReadIn}
 use Rattle.pnl.specs.declared.growing.Grown.{Grown}
 use Rattle.pnl.specs.declared.growing.Grown.the-variants.{Whole, Stopped}
 use Rattle.pnl.specs.declared.query.Query.{Query}
-use Rattle.pnl.specs.declared.query.Query.the-variants.{Sheet, Find, Reach}
+use Rattle.pnl.specs.declared.query.Query.the-variants.{Sheet, Find, Reach, Distance}
 
 -- the answer slice afterwards, and the value
 abbrev pub returned : List ℕ → ℤ → Returned
@@ -62,3 +62,4 @@ abbrev pub queryMeans : Query → Register → Reply
 queryMeans Sheet = λ r. listed (length (sheet r))
 queryMeans (Find label) = λ r. find r label
 queryMeans (Reach v) = λ r. reach r v
+queryMeans (Distance v w) = λ r. measure r v w

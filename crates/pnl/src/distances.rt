@@ -1,5 +1,4 @@
-// The distance between two vertices of grown tables, with scratch of its own.
-use crate::query::narrow;
+// The distance between two vertices of grown tables.
 use counters::counts::Counts;
 use counters::numbers::Vertex;
 use distance::measure::Distance;
@@ -13,18 +12,23 @@ ghost use Rattle.tables.specs.Steps.{tables};
 ghost use Rattle.distance.specs.Search.{Searchable};
 ghost use Rattle.distance.specs.Measure.{distanceReply, measureIn};
 
-pub fn distance_in(ends: &[u16], lengths: &[u32], counts: Counts, from: u32, to: u32) -> Distance
+// The distance between two vertices of grown tables, with scratch of its own for the search.
+pub fn distance_in(
+    ends: &[u16],
+    lengths: &[u32],
+    counts: Counts,
+    from: Vertex,
+    to: Vertex,
+) -> Distance
     requires { ⌜ Searchable (now ends) (now lengths) (counts .edges) × (counts .vertices ≤ maxVertices) ⌝ }
     ensures { λ r. ⌜ ((degrees sides labels : List ℕ) → distanceReply r
-        ≡ measureIn (tables degrees sides (now (ends .entry)) (now (lengths .entry)) labels) (countsIn counts) from to) ⌝ }
+        ≡ measureIn (tables degrees sides (now (ends .entry)) (now (lengths .entry)) labels) (countsIn counts) (from .0) (to .0)) ⌝ }
 {
     let mut heads = [0u16; 4096];
     let mut heap = [0u16; 8192];
     let mut next = [0u16; 8192];
     let mut distances = [0u32; 4096];
     let mut keys = [0u32; 4096];
-    let v = narrow(from);
-    let w = narrow(to);
     measure(
         ends,
         lengths,
@@ -34,7 +38,7 @@ pub fn distance_in(ends: &[u16], lengths: &[u32], counts: Counts, from: u32, to:
         &mut next,
         &mut distances,
         &mut keys,
-        Vertex(v),
-        Vertex(w),
+        from,
+        to,
     )
 }

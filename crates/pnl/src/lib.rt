@@ -6,11 +6,6 @@ pub mod growing;
 pub mod query;
 pub mod sheet;
 
-use crate::answers::answer_distance;
-use crate::answers::refused;
-use crate::distances::distance_in;
-use crate::growing::Grown;
-use crate::growing::grow_tables;
 use crate::query::Query;
 use crate::query::answer_call;
 ghost use mathlib.Core.Path.{_≡_};
@@ -41,29 +36,10 @@ pub extern "C" fn pnl_reach(list: &[u8], fitting: u32, answer: &mut [u8]) -> i32
     answer_call(list, Query::Reach(fitting), answer)
 }
 
-// The least length of a way between two vertices, or NOT_JOINED. It is no Query: its scratch would stand on the stack of the others.
+// The least length of a way between two vertices, or NOT_JOINED.
 #[no_mangle]
 pub extern "C" fn pnl_distance(list: &[u8], from: u32, to: u32, answer: &mut [u8]) -> i32
     ensures { λ r. ⌜ returned (now (answer .exit)) r ≡ cDistance (now (list .entry)) from to (now (answer .entry)) ⌝ }
 {
-    let mut degrees = [0u16; 4096];
-    let mut sides = [0u16; 8192];
-    let mut ends = [0u16; 8192];
-    let mut lengths = [0u32; 4096];
-    let mut labels = [0u32; 4096];
-    let grown = grow_tables(
-        &mut degrees,
-        &mut sides,
-        &mut ends,
-        &mut lengths,
-        &mut labels,
-        list,
-    );
-    match grown {
-        Grown::Whole(counts) => {
-            let measured = distance_in(&ends, &lengths, counts, from, to);
-            answer_distance(answer, measured)
-        }
-        Grown::Stopped(refusal) => refused(refusal),
-    }
+    answer_call(list, Query::Distance(from, to), answer)
 }

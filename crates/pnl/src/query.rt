@@ -1,7 +1,9 @@
-// A query that needs no scratch, on the register that a list leaves, and its answer.
+// A query on the register that a list leaves, and its answer.
+use crate::answers::answer_distance;
 use crate::answers::answer_found;
 use crate::answers::answer_reached;
 use crate::answers::refused;
+use crate::distances::distance_in;
 use crate::growing::Grown;
 use crate::growing::grow_tables;
 use crate::sheet::answer_sheet;
@@ -11,21 +13,25 @@ use counters::numbers::Vertex;
 use lookups::find::find_in;
 use lookups::reach::reach_in;
 ghost use mathlib.Core.Path.{_≡_};
-ghost use Prim.Native.Nat.{min};
+ghost use Prim.Native.Nat.{_≤_, min};
+ghost use Rattle.model.specs.Basics.{maxVertices};
 ghost use Rattle.model.specs.Register.{Register};
 ghost use Rattle.model.specs.FromC.{fromC, returnsReply};
 ghost use Rattle.counters.specs.Answers.{countsIn};
 ghost use Rattle.tables.specs.Steps.{tables};
+ghost use Rattle.distance.specs.Search.{Searchable};
 ghost use Rattle.pnl.specs.Calls.{returned, queryMeans, Holds};
 
+// What may be asked from C.
 pub enum Query {
     Sheet,
     Find(u32),
     Reach(u32),
+    Distance(u32, u32),
 }
 
 // No register has a vertex 65,535, so it stands for every number from there on.
-pub fn narrow(n: u32) -> u16
+fn narrow(n: u32) -> u16
     ensures { λ r. ⌜ r ≡ min n 65535 ⌝ }
 {
     if n < 65535 { n as u16 } else { 65535 }
@@ -42,6 +48,7 @@ fn answer_query(
     counts: Counts,
     query: Query,
 ) -> i32
+    requires { ⌜ Searchable (now ends) (now lengths) (counts .edges) × (counts .vertices ≤ maxVertices) ⌝ }
     ensures { λ r. ⌜ ((register : Register)
         → Holds (tables (now (degrees .entry)) (now (sides .entry)) (now (ends .entry)) (now (lengths .entry)) (now (labels .entry))) (countsIn counts) register
         → returned (now (answer .exit)) r ≡ returnsReply register (now (answer .entry)) (queryMeans query register)) ⌝ }
@@ -56,6 +63,12 @@ fn answer_query(
             let v = narrow(vertex);
             let reached = reach_in(degrees, sides, ends, lengths, counts, Vertex(v));
             answer_reached(answer, reached)
+        }
+        Query::Distance(from, to) => {
+            let v = narrow(from);
+            let w = narrow(to);
+            let measured = distance_in(ends, lengths, counts, Vertex(v), Vertex(w));
+            answer_distance(answer, measured)
         }
     }
 }

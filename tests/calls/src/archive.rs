@@ -2,6 +2,9 @@
 
 use std::ptr;
 
+/// The bytes of stack that include/pnl.h promises to do with.
+pub const MOST_STACK: usize = 160 * 1024;
+
 extern "C" {
     fn pnl_sheet(list: *const u8, list_len: usize, answer: *mut u8, answer_len: usize) -> i32;
     fn pnl_find(
@@ -57,14 +60,6 @@ impl Call {
                 Call::Reach(fitting) => pnl_reach(list, list_len, fitting, to, room),
                 Call::Distance(from, end) => pnl_distance(list, list_len, from, end, to, room),
             }
-        }
-    }
-
-    /// The bytes of stack that include/pnl.h promises to do with.
-    pub fn most_stack(self) -> usize {
-        match self {
-            Call::Distance(..) => 160 * 1024,
-            _ => 80 * 1024,
         }
     }
 

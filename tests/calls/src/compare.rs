@@ -5,7 +5,7 @@ use reference::gen;
 use reference::gen::random::Random;
 use reference::house::MOST_FITTINGS;
 
-use crate::archive::Call;
+use crate::archive::{Call, MOST_STACK};
 use crate::questions::{self, Question};
 use crate::stack;
 use crate::tally::Tally;
@@ -99,7 +99,7 @@ fn measure_stack(list: &[u8]) -> Result<usize, Difference> {
     let mut most = 0;
     for call in CALLS {
         let used = stack::used(|| _ = call.make(list, &mut answer));
-        if used > call.most_stack() {
+        if used > MOST_STACK {
             return Err(format!("{call:?} uses {used} bytes of stack"));
         }
         most = most.max(used);

@@ -2,7 +2,7 @@ use mathlib.Core.Path.{ap, _∙_}
 use Rattle.pnl.proofs.Values.{value-kept, handed}
 use Rattle.model.specs.Tables.{cleared}
 use Rattle.pnl.specs.Calls.{grownMeans}
-use Rattle.pnl.proofs.CallLaws.{call-stops, call-answers}
+use Rattle.pnl.proofs.CallLaws.{call-stops, call-answers, call-searchable}
 use borrow.Author.Needs.{needs}
 use Rattle.pnl.proofs.query.answer_call.Statement.{statement}
 use Rattle.pnl.proofs.query.answer_call.Tie as tie
@@ -47,7 +47,11 @@ slice-aggregate-answer-query-5 : tie.Need-slice-aggregate-answer-query-5
 slice-aggregate-answer-query-5 c = search needs
 
 answer-query-requires : tie.Need-answer-query-requires
-answer-query-requires c κs = search needs
+unfolding cleared
+answer-query-requires c κs =
+    let at-grown = c .before .before .before .before .before .before .before in
+    let at-grow-tables = at-grown .before .before .before .before .before .before .before in
+    call-searchable _ _ _ (at-grow-tables .grow-tables .ensures) _ (ap grownMeans (at-grown .grown .given .1))
 
 enum-known-grown-2 : tie.Need-enum-known-grown-2
 enum-known-grown-2 c = search needs

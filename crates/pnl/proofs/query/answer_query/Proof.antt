@@ -1,12 +1,14 @@
 use Rattle.pnl.proofs.Values.{handed}
-use Rattle.pnl.proofs.CallLaws.{sheet-query, find-query, reach-query}
+use Rattle.pnl.proofs.CallLaws.{sheet-query, find-query, reach-query, distance-query}
 use borrow.Author.Needs.{needs}
 use Rattle.pnl.proofs.query.answer_query.Statement.{statement}
 use Rattle.pnl.proofs.query.answer_query.Tie as tie
 use Rattle.lookups.proofs.find.find_in.Reads as find-in-reads
 use Rattle.lookups.proofs.reach.reach_in.Reads as reach-in-reads
+use Rattle.pnl.proofs.answers.answer_distance.Reads as answer-distance-reads
 use Rattle.pnl.proofs.answers.answer_found.Reads as answer-found-reads
 use Rattle.pnl.proofs.answers.answer_reached.Reads as answer-reached-reads
+use Rattle.pnl.proofs.distances.distance_in.Reads as distance-in-reads
 use Rattle.pnl.proofs.query.narrow.Reads as narrow-reads
 use Rattle.pnl.proofs.sheet.answer_sheet.Reads as answer-sheet-reads
 
@@ -37,6 +39,21 @@ reach-in-requires c κs = search needs
 answer-reached-requires : tie.Need-answer-reached-requires
 answer-reached-requires c κs = search needs
 
+enum-known-query-3 : tie.Need-enum-known-query-3
+enum-known-query-3 c = search needs
+
+narrow-requires-2 : tie.Need-narrow-requires-2
+narrow-requires-2 c κs = search needs
+
+narrow-requires-3 : tie.Need-narrow-requires-3
+narrow-requires-3 c κs = search needs
+
+distance-in-requires : tie.Need-distance-in-requires
+distance-in-requires c κs = search needs
+
+answer-distance-requires : tie.Need-answer-distance-requires
+answer-distance-requires c κs = search needs
+
 same-length : tie.Need-same-length
 same-length c = search needs
 
@@ -64,6 +81,17 @@ returns-3 c =
     let at-query2 = at-narrow .before .before in
     λ register h. rw (at-query2 .query2 .given .1) (reach-query _ _ _ _ _ _ register h _ _ _ _ _ (at-narrow .narrow .ensures) (at-reach-in .reach-in .ensures _) (handed (c .before .before .answer-reached .ok) (c .before .before .answer-reached .ensures register)))
 
+same-length-4 : tie.Need-same-length-4
+same-length-4 c = search needs
+
+returns-4 : tie.Need-returns-4
+returns-4 c =
+    let at-distance-in = c .before .before .before .before in
+    let at-narrow3 = at-distance-in .before in
+    let at-narrow2 = at-narrow3 .before in
+    let at-query3 = at-narrow2 .before .before in
+    λ register h. rw (at-query3 .query3 .given .1) (distance-query _ _ _ _ _ _ register h _ _ _ _ _ _ _ (at-narrow2 .narrow2 .ensures) (at-narrow3 .narrow3 .ensures) (at-distance-in .distance-in .ensures _ _ _) (handed (c .before .before .answer-distance .ok) (c .before .before .answer-distance .ensures register)))
+
 pub answer-query-spec : {M : Type 1} → statement M
 answer-query-spec =
     tie.close
@@ -77,9 +105,16 @@ answer-query-spec =
     narrow-requires
     reach-in-requires
     answer-reached-requires
+    enum-known-query-3
+    narrow-requires-2
+    narrow-requires-3
+    distance-in-requires
+    answer-distance-requires
     same-length
     returns
     same-length-2
     returns-2
     same-length-3
-    returns-3)
+    returns-3
+    same-length-4
+    returns-4)
