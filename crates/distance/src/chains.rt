@@ -74,16 +74,7 @@ fn other_end(one: u16, two: u16, j: u16) -> u16 {
     if one / 2 == j / 2 { two } else { one }
 }
 
-// Whether the edge of end j - 2 is as long as the gap to the best distance: most edges of a dense graph are, and need no more than this.
-fn is_long(lengths: &[u32], j: u16, gap: u32) -> bool {
-    let half = j / 2;
-    if half == 0 {
-        return true;
-    }
-    gap <= of32(lengths, half - 1)
-}
-
-// Follows a chain from an end on while it lowers distances, unless its first edge is as long as the gap. The answer is the vertex that is to be queued: one that the chain ends at
+// Follows a chain from end j - 2 on while it lowers distances. The answer is the vertex that is to be queued: one that the chain ends at
 // and that is no leaf. At a leaf the other end is none, which stops the walk.
 pub fn follow(
     ends: &[u16],
@@ -95,14 +86,10 @@ pub fn follow(
     goal: u16,
     from: u16,
     end: u16,
-    gap: u32,
 ) -> u16
     requires { ⌜ Searchable (now ends) (now lengths) edges × Grounded (now ends) (now lengths) edges goal (now distances) ⌝ }
     ensures { λ _. ⌜ Grounded (now (ends .entry)) (now (lengths .entry)) edges goal (now (distances .exit)) ⌝ }
 {
-    if is_long(lengths, end, gap) {
-        return NONE;
-    }
     let mut j = end;
     let mut left: u16 = 4096;
     while 0 < left {

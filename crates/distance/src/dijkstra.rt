@@ -9,11 +9,6 @@ use tables::access::of16;
 use tables::access::of32;
 ghost use Rattle.distance.specs.Search.{Searchable, Grounded};
 
-// By how much a is less than b.
-fn gap_to(a: u32, b: u32) -> u32 {
-    if a < b { b - a } else { 0 }
-}
-
 // Follows the chains from vertex v. The answer is the heap's size.
 fn scan(
     ends: &[u16],
@@ -32,7 +27,6 @@ fn scan(
     requires { ⌜ Searchable (now ends) (now lengths) edges × Grounded (now ends) (now lengths) edges goal (now distances) ⌝ }
     ensures { λ _. ⌜ Grounded (now (ends .entry)) (now (lengths .entry)) edges goal (now (distances .exit)) ⌝ }
 {
-    let gap = gap_to(of32(distances, v), of32(distances, from));
     let mut size = queued;
     let mut j = of16(heads, v);
     let mut left: u16 = 8192;
@@ -40,18 +34,7 @@ fn scan(
         if j == 0 {
             break;
         }
-        let w = follow(
-            ends,
-            lengths,
-            edges,
-            heads,
-            next,
-            distances,
-            goal,
-            from,
-            j,
-            gap,
-        );
+        let w = follow(ends, lengths, edges, heads, next, distances, goal, from, j);
         size = offer(heap, keys, distances, w, size);
         j = of16(next, j);
         left -= 1;

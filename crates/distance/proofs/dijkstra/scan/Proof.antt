@@ -7,37 +7,26 @@ use borrow.Author.Needs.{needs}
 use Rattle.distance.proofs.dijkstra.scan.Statement.{statement}
 use Rattle.distance.proofs.dijkstra.scan.Tie as tie
 use Rattle.distance.proofs.chains.follow.Reads as follow-reads
-use Rattle.distance.proofs.dijkstra.gap_to.Reads as gap-to-reads
 use Rattle.distance.proofs.heap.offer.Reads as offer-reads
 use Rattle.tables.proofs.access.of16.Reads as of16-reads
-use Rattle.tables.proofs.access.of32.Reads as of32-reads
 
 abbrev Inv-loop : tie.InvT-loop
-Inv-loop ends lengths edges heads heap₀ next distances₀ keys₀ goal from v queued gap size₀ j₀ left₀ heap distances keys size j left = (length heap ≡ length heap₀) × ((length distances ≡ length distances₀) × ((length keys ≡ length keys₀) × Grounded ends lengths edges goal distances))
+Inv-loop ends lengths edges heads heap₀ next distances₀ keys₀ goal from v queued size₀ j₀ left₀ heap distances keys size j left = (length heap ≡ length heap₀) × ((length distances ≡ length distances₀) × ((length keys ≡ length keys₀) × Grounded ends lengths edges goal distances))
 
 abbrev μ-loop : tie.MeasureT-loop
-μ-loop ends lengths edges heads heap₀ next distances₀ keys₀ goal from v queued gap size₀ j₀ left₀ heap distances keys size j left = left
-
-of32-requires : tie.Need-of32-requires Inv-loop μ-loop
-of32-requires c κs = search needs
-
-of32-requires-2 : tie.Need-of32-requires-2 Inv-loop μ-loop
-of32-requires-2 c κs = search needs
-
-gap-to-requires : tie.Need-gap-to-requires Inv-loop μ-loop
-gap-to-requires c κs = search needs
+μ-loop ends lengths edges heads heap₀ next distances₀ keys₀ goal from v queued size₀ j₀ left₀ heap distances keys size j left = left
 
 of16-requires : tie.Need-of16-requires Inv-loop μ-loop
 of16-requires c κs = search needs
 
 loop-holds : tie.Need-loop-holds Inv-loop μ-loop
 loop-holds c =
-    let at-pre = c .before .before .before .before .before .before .before .before .before .before .before .before .before in
+    let at-pre = c .before .before .before .before .before .before .before .before in
     (refl, (refl, (refl, at-pre .pre .1)))
 
 follow-requires : tie.Need-follow-requires Inv-loop μ-loop
 follow-requires c κs =
-    let at-pre = c .before .before .before .before .before .before .before .before .before .before .before .before .before .before .before .before .before in
+    let at-pre = c .before .before .before .before .before .before .before .before .before .before .before .before in
     (at-pre .pre .0, c .before .before .before .loop .inv .1 .1 .1)
 
 offer-requires : tie.Need-offer-requires Inv-loop μ-loop
@@ -93,9 +82,6 @@ scan-spec =
     (tie.spec
     Inv-loop
     μ-loop
-    of32-requires
-    of32-requires-2
-    gap-to-requires
     of16-requires
     loop-holds
     follow-requires
