@@ -1,10 +1,10 @@
 // The distance between two vertices over lent tables: the least sum of edge lengths over all ways, or that there is no way.
 // A search in Dijkstra's order is a hint, and rounds over all edges confirm it. So the answer rests on nothing that the heap holds.
-pub mod access;
+mod access;
 pub mod calls;
-pub mod chains;
+mod chains;
 pub mod dijkstra;
-pub mod heap;
+mod heap;
 pub mod measure;
 pub mod relax;
 pub mod search;
