@@ -30,7 +30,7 @@ use Rattle.lookups.proofs.find.find as find
 use Rattle.lookups.proofs.reach.reach as reach
 use Rattle.lookups.proofs.sheet.sheet as sheet
 use Rattle.distance.specs.Measure.{distanceReply}
-use Rattle.distance.proofs.calls.distance as distance
+use Rattle.distance.proofs.query.distance as distance
 
 -- ---- the parameters of a call
 

@@ -4,8 +4,8 @@ use Rattle.admission.specs.Gate.{gateRefusal}
 use Rattle.model.specs.Calls.{measures, registerFor, lentSlice}
 use mathlib.Core.Path.{refl, sym, ap, _∙_}
 use borrow.Author.Needs.{needs}
-use Rattle.distance.proofs.calls.distance.Statement.{statement}
-use Rattle.distance.proofs.calls.distance.Tie as tie
+use Rattle.distance.proofs.query.distance.Statement.{statement}
+use Rattle.distance.proofs.query.distance.Tie as tie
 use Rattle.distance.proofs.measure.measure.Reads as measure-reads
 use Rattle.admission.proofs.gate.pass_gate.Reads as pass-gate-reads
 
