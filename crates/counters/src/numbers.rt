@@ -1,5 +1,5 @@
 // A fitting number, a tag and a length in millimetres: three types, so that none stands where another is expected. Each has its
-// bounds, and a constructor that tests them.
+// bounds, and a constructor that tests them, on a number that is wide enough to be out of them.
 ghost use mathlib.Core.Path.{_≡_};
 ghost use Prim.Native.Nat.{_-_, _^_};
 ghost use Rattle.counters.specs.Numbers.{within, vertexIn, labelIn, millimetresIn};

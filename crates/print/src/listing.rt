@@ -83,6 +83,7 @@ fn put_sheet(
     next
 }
 
+// A list that is landed on tables of the program's own is never refused as a whole: nothing is printed for that.
 fn put_stop(out: &mut [u8], at: usize, answer: ListAnswer) -> usize
     ensures { λ r. ⌜ (page (now (out .exit)) r ≡ write (replyLine (listReply answer)) (page (now (out .entry)) at)) × (r ≤ at + 60) ⌝ }
 {
