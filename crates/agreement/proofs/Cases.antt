@@ -1,29 +1,16 @@
 -- Which table function an insertion is, by which of its ends are leaves.
 use mathlib.Core.Path.{_≡_, refl}
-use Prim.Native.Nat.{ℕ, zero, suc}
-use native.Mathlib.Omega.{arith}
-use mathlib.Core.Bool.{Bool, true, false, _&&_}
+use Prim.Native.Nat.{ℕ}
+use mathlib.Core.Bool.{Bool, true, _&&_}
 use mathlib.Core.List.{List}
 use lib.Dec.{eqb}
-use borrow.Author.Tests.{eqb-true, ne-eqb}
+use borrow.Author.Tests.{eqb-true}
 use Rattle.model.specs.Basics.{if_then_else_}
 use Rattle.model.specs.Graph.{Edge, degree, isLeaf}
 use Rattle.model.specs.Cases.{Class, branch, caseOf, classOf, closesRing, isolated, leaf, regular}
 use Rattle.insertion.specs.Insertion.{Placed, openBothIn, placeExtend, placeIn, placeMerge}
 use Rattle.model.proofs.Basics.Booleans.{and-true}
-
-isLeafClass : Class → Bool
-isLeafClass isolated = false
-isLeafClass leaf = true
-isLeafClass regular = false
-isLeafClass branch = false
-
-class-leaf : (n : ℕ) → eqb n 1 ≡ isLeafClass (classOf n)
-unfolding isLeafClass classOf
-class-leaf zero = refl
-class-leaf (suc zero) = refl
-class-leaf (suc (suc zero)) = refl
-class-leaf (suc (suc (suc n))) = ne-eqb (suc (suc (suc n))) 1 (λ e. omega arith)
+use Rattle.model.proofs.Labels.Cases.{class-leaf, isLeafClass}
 
 module _ (d ends s l : List ℕ) (blocks a b e n : ℕ) where
   abbrev pub byLeaves : Bool → Bool → Placed

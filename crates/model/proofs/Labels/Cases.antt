@@ -11,7 +11,7 @@ use Rattle.model.specs.Graph.{Edge, degree, isLeaf, isRegular}
 use Rattle.model.specs.Cases.{Class, isolated, leaf, regular, branch, caseAt, caseOf, classOf, opposite, vertexAt}
 use Rattle.model.specs.Labels.{Labelling, Marks, extend, labelCase, labelEdge, merge, split}
 
-isLeafClass : Class → Bool
+unfoldable pub isLeafClass : Class → Bool
 isLeafClass isolated = false
 isLeafClass leaf = true
 isLeafClass regular = false
@@ -23,7 +23,7 @@ isRegularClass leaf = false
 isRegularClass regular = true
 isRegularClass branch = false
 
-class-leaf : (n : ℕ) → eqb n 1 ≡ isLeafClass (classOf n)
+pub class-leaf : (n : ℕ) → eqb n 1 ≡ isLeafClass (classOf n)
 unfolding isLeafClass classOf
 class-leaf zero = refl
 class-leaf (suc zero) = refl
