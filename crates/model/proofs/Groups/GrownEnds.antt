@@ -1,7 +1,7 @@
 -- In the groups after one more edge: where leaves and regular vertices stand.
 use mathlib.Core.Path.{_≡_, sym, _∙_}
 use mathlib.Core.Logic.{_≢_, _⊎_, inl, inr}
-use Prim.Native.Nat.{ℕ, suc, _<_}
+use Prim.Native.Nat.{ℕ, suc, _+_, _<_}
 use native.Mathlib.Omega.{arith}
 use mathlib.Core.Bool.{true}
 use mathlib.Core.List.{List, [], _∷_, _++_}
@@ -92,11 +92,21 @@ module _ (it : Growth) where
       go (in-y i q) = leaf-y z e c (at-old es p i a) q (old i)
       go (elsewhere i q r) = leaf-o z e (was-leaf z e c (at-old es p i a)) (at-old es p i a) q r (old i)
 
-  -- the old regular vertices
-  unfoldable pub between-x : (v : ℕ) → Between es h v gx → Between new h′ v gx
-  between-x v u =
-      let l = old-x it (u .lo) (u .lo-at .inside) (u .lo-group) in
-      let m = old-x it (u .hi) (u .hi-at .inside) (u .hi-group) in
+  -- the old edges of group g are in group g′, c places further on
+  abbrev pub Moved : (g g′ c : ℕ) → Type 0
+  Moved g g′ c = (e : ℕ) → e < length es → h .group e ≡ g → Seen it e g′ (c + h .place e) (h .low e)
+
+  -- a group other than gy stays where it is
+  pub stays : (g : ℕ) → g ≢ gy → Moved g g 0
+  stays g n e i q =
+      let o = seen-old it e i (λ z. n (sym q ∙ z)) in
+      record { group-is = o .group-is ∙ q; place-is = omega (arith, o .place-is); low-is = o .low-is }
+
+  -- an old regular vertex moves with its two edges
+  unfoldable pub between-old : (v g g′ c : ℕ) → Moved g g′ c → Between es h v g → Between new h′ v g′
+  between-old v g g′ c mv u =
+      let l = mv (u .lo) (u .lo-at .inside) (u .lo-group) in
+      let m = mv (u .hi) (u .hi-at .inside) (u .hi-group) in
       record {
         lo = u .lo;
         hi = u .hi;
@@ -104,38 +114,6 @@ module _ (it : Growth) where
         hi-at = at-new es p (u .hi-at);
         lo-group = l .group-is;
         hi-group = m .group-is;
-        step = omega (arith, l .place-is, m .place-is, u .step);
-        lo-end = old-end it (u .lo) (u .lo-at .inside) ∙ u .lo-end;
-        hi-end = m .low-is ∙ u .hi-end;
-      }
-
-  unfoldable pub between-y : (v : ℕ) → Between es h v gy → Between new h′ v gx
-  between-y v u =
-      let l = seen-y it (u .lo) (u .lo-at .inside) (u .lo-group) in
-      let m = seen-y it (u .hi) (u .hi-at .inside) (u .hi-group) in
-      record {
-        lo = u .lo;
-        hi = u .hi;
-        lo-at = at-new es p (u .lo-at);
-        hi-at = at-new es p (u .hi-at);
-        lo-group = l .group-is;
-        hi-group = m .group-is;
-        step = omega (arith, l .place-is, m .place-is, u .step);
-        lo-end = old-end it (u .lo) (u .lo-at .inside) ∙ u .lo-end;
-        hi-end = m .low-is ∙ u .hi-end;
-      }
-
-  unfoldable pub between-o : (v g : ℕ) → g ≢ gx → g ≢ gy → Between es h v g → Between new h′ v g
-  between-o v g q r u =
-      let l = seen-old it (u .lo) (u .lo-at .inside) (λ z. r (sym (u .lo-group) ∙ z)) in
-      let m = seen-old it (u .hi) (u .hi-at .inside) (λ z. r (sym (u .hi-group) ∙ z)) in
-      record {
-        lo = u .lo;
-        hi = u .hi;
-        lo-at = at-new es p (u .lo-at);
-        hi-at = at-new es p (u .hi-at);
-        lo-group = l .group-is ∙ u .lo-group;
-        hi-group = m .group-is ∙ u .hi-group;
         step = omega (arith, l .place-is, m .place-is, u .step);
         lo-end = old-end it (u .lo) (u .lo-at .inside) ∙ u .lo-end;
         hi-end = m .low-is ∙ u .hi-end;
@@ -199,12 +177,12 @@ module _ (it : Growth) where
 
       inner : endsAt v p ≡ 0 → Look it e → Between new h′ v (h′ .group e)
       inner z (new-one i) = absurd (let o = last-at es p (let a′ : At new v (length es) = rw i at a in a′) in omega arith)
-      inner z (in-x i q) = rw ((old-x it e i q) .group-is) (between-x v (rw q at (old i z (rw q (s .open-x e i q)))))
-      inner z (in-y i q) = rw ((seen-y it e i q) .group-is) (between-y v (rw q at (old i z (rw q (s .open-y e i q)))))
+      inner z (in-x i q) = rw ((old-x it e i q) .group-is) (between-old v gx gx 0 (stays gx (s .differ)) (rw q at (old i z (rw q (s .open-x e i q)))))
+      inner z (in-y i q) = rw ((seen-y it e i q) .group-is) (between-old v gy gx (size h (length es) gx + 1) (seen-y it) (rw q at (old i z (rw q (s .open-y e i q)))))
       inner z (elsewhere i q r) =
           let o = seen-old it e i r in
           let t′ : h′ .isOpen (h .group e) ≡ true = rw (o .group-is) at t in
-          rw (o .group-is) (between-o v (h .group e) q r (old i z (sym (open-o it (h .group e) q) ∙ t′)))
+          rw (o .group-is) (between-old v (h .group e) (h .group e) 0 (stays (h .group e) r) (old i z (sym (open-o it (h .group e) q) ∙ t′)))
 
       go : (endsAt v p ≡ 0) ⊎ (endsAt v p ≡ 1) → Between new h′ v (h′ .group e)
       go (inl z) = inner z (look it e (a .inside))

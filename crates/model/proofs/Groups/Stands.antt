@@ -1,7 +1,7 @@
 -- Where the course stays open, each regular vertex wears the label that its place calls for.
 use mathlib.Core.Path.{_≡_, refl, sym, _∙_, subst}
 use mathlib.Core.Logic.{_≢_}
-use Prim.Native.Nat.{ℕ, _+_}
+use Prim.Native.Nat.{ℕ, _+_, _≤_}
 use native.Mathlib.Omega.{arith}
 use native.Mathlib.Decide.{ℕ-discrete}
 use mathlib.Core.Bool.{Bool, true, false}
@@ -15,7 +15,7 @@ use Rattle.model.proofs.Walks.NewEdge.{last-at, old-edge}
 use Rattle.model.proofs.Labels.Following.{following, labelOf, lowOf, Ith}
 use Rattle.model.proofs.Groups.Origins.{Origins, Stand, Fits, LowIs, labelAt, lowAt}
 use Rattle.model.proofs.Groups.Grown.{grown, Growth, Look, new-one, in-x, in-y, elsewhere, look, seen-y, seen-old, old-x, size-x, size-o, open-gx, open-o}
-use Rattle.model.proofs.Groups.GrownEnds.{between-x, between-y, between-o}
+use Rattle.model.proofs.Groups.GrownEnds.{Moved, between-old, stays}
 use Rattle.model.proofs.Groups.Relabel.{grownL, Relabelled, Now, in-path, as-was, view, origin-y, origin-o, rising-is}
 
 fits-shift : (up : Bool) (q b i t c : ℕ) → Fits up q b i t → Fits up (c + q) b (c + i) t
@@ -67,47 +67,20 @@ module _ (re : Relabelled) where
         low-is = rw (bl, ri, g) (low-of-path up t);
       }
 
-  stand-x : (v : ℕ) → l .owner (l .block v) ≡ gx → labelAt mN v ≡ labelAt m v → lowAt mN v ≡ lowAt m v → l′ .block v ≡ l .block v → Stand es m h l v gx → Stand new mN h′ l′ v gx
-  unfolding between-x
-  stand-x v ow f g bl st =
+  -- an old regular vertex, in group g′ now and c places further on
+  stand-old : (v g g′ c : ℕ) → Moved it g g′ c → l′ .origin (l .block v) ≡ c + l .origin (l .block v) → c + size h (length es) g ≤ size h′ (length new) g′
+      → labelAt mN v ≡ labelAt m v → lowAt mN v ≡ lowAt m v → l′ .block v ≡ l .block v → Stand es m h l v g → Stand new mN h′ l′ v g′
+  unfolding between-old
+  stand-old v g g′ c mv o room f low bl st =
       let u = st .spot in
-      let o : l′ .origin (l .block v) ≡ l .origin (l .block v) = origin-o re (l .block v) (λ z. s .differ (sym ow ∙ z)) in
       let ri = rising-is re (l .block v) in
       record {
-        spot = between-x it v u;
-        first = rw (bl, o) (st .first);
-        last = rw (bl, o, size-x it) (omega (arith, st .last));
-        fits = rw (bl, ri, o, (old-x it (u .hi) (u .hi-at .inside) (u .hi-group)) .place-is, f) (st .fits);
-        low-is = rw (bl, ri, g) (st .low-is);
-      }
-
-  stand-y : (v : ℕ) → l .owner (l .block v) ≡ gy → labelAt mN v ≡ labelAt m v → lowAt mN v ≡ lowAt m v → l′ .block v ≡ l .block v → Stand es m h l v gy → Stand new mN h′ l′ v gx
-  unfolding between-y
-  stand-y v ow f g bl st =
-      let u = st .spot in
-      let o = origin-y re (l .block v) ow in
-      let ri = rising-is re (l .block v) in
-      record {
-        spot = between-y it v u;
+        spot = between-old it v g g′ c mv u;
         first = rw (bl, o) (omega (arith, st .first));
-        last = rw (bl, o, size-x it) (omega (arith, st .last));
-        fits = rw (bl, ri, o, (seen-y it (u .hi) (u .hi-at .inside) (u .hi-group)) .place-is, f)
-            (fits-shift (l .rising (l .block v)) (l .origin (l .block v)) (base (l .block v)) (h .place (u .hi)) (labelAt m v) (size h (length es) gx + 1) (st .fits));
-        low-is = rw (bl, ri, g) (st .low-is);
-      }
-
-  stand-o : (v c : ℕ) → c ≢ gx → c ≢ gy → l .owner (l .block v) ≡ c → labelAt mN v ≡ labelAt m v → lowAt mN v ≡ lowAt m v → l′ .block v ≡ l .block v → Stand es m h l v c → Stand new mN h′ l′ v c
-  unfolding between-o
-  stand-o v c n n′ ow f g bl st =
-      let u = st .spot in
-      let o : l′ .origin (l .block v) ≡ l .origin (l .block v) = origin-o re (l .block v) (λ z. n′ (sym ow ∙ z)) in
-      let ri = rising-is re (l .block v) in
-      record {
-        spot = between-o it v c n n′ u;
-        first = rw (bl, o) (st .first);
-        last = rw (bl, o, size-o it c n n′) (st .last);
-        fits = rw (bl, ri, o, (seen-old it (u .hi) (u .hi-at .inside) (λ z. n′ (sym (u .hi-group) ∙ z))) .place-is, f) (st .fits);
-        low-is = rw (bl, ri, g) (st .low-is);
+        last = rw (bl, o) (omega (arith, st .last, room));
+        fits = rw (bl, ri, o, (mv (u .hi) (u .hi-at .inside) (u .hi-group)) .place-is, f)
+            (fits-shift (l .rising (l .block v)) (l .origin (l .block v)) (base (l .block v)) (h .place (u .hi)) (labelAt m v) c (st .fits));
+        low-is = rw (bl, ri, low) (st .low-is);
       }
 
   -- a regular vertex of another group is as it was
@@ -153,10 +126,17 @@ module _ (re : Relabelled) where
           a′ : At es v e
           a′ = old-edge es p v e z a
 
+          owned : l .owner (l .block v) ≡ h .group e
+          owned = lab .owned v e c′ a′
+
           inner : Look it e → Stand new mN h′ l′ v gx
           inner (new-one i) = absurd (let o : At new v (length es) = rw i at a in omega (arith, last-at es p o))
-          inner (in-x i u) = stand-x v (lab .owned v e c′ a′ ∙ u) f g bl (rw u at (lab .stands v e c′ a′ (rw u (s .open-x e i u))))
-          inner (in-y i u) = stand-y v (lab .owned v e c′ a′ ∙ u) f g bl (rw u at (lab .stands v e c′ a′ (rw u (s .open-y e i u))))
+          inner (in-x i u) =
+              stand-old v gx gx 0 (stays it gx (s .differ)) (omega (arith, origin-o re (l .block v) (λ q′. s .differ (sym u ∙ sym owned ∙ q′)))) (omega (arith, size-x it)) f g bl
+              (rw u at (lab .stands v e c′ a′ (rw u (s .open-x e i u))))
+          inner (in-y i u) =
+              stand-old v gy gx (size h (length es) gx + 1) (seen-y it) (origin-y re (l .block v) (owned ∙ u)) (omega (arith, size-x it)) f g bl
+              (rw u at (lab .stands v e c′ a′ (rw u (s .open-y e i u))))
           inner (elsewhere i u u′) = absurd (u (sym ((seen-old it e i u′) .group-is) ∙ q))
 
   pub stands′ : (v e : ℕ) → degree new v ≡ 2 → At new v e → h′ .isOpen (h′ .group e) ≡ true → Stand new mN h′ l′ v (h′ .group e)
@@ -170,4 +150,7 @@ module _ (re : Relabelled) where
           let o = other v e c a q in
           let t′ : h′ .isOpen (h .group e) ≡ true = rw (o .group-is) at t in
           let t″ : h .isOpen (h .group e) ≡ true = sym (open-o it (h .group e) (o .not-x)) ∙ t′ in
-          rw (o .group-is) (stand-o v (h .group e) (o .not-x) (o .not-y) (lab .owned v e (o .was-two) (o .was-at)) (o .label-is) (o .low-is) (o .block-is) (lab .stands v e (o .was-two) (o .was-at) t″))
+          let own : l′ .origin (l .block v) ≡ l .origin (l .block v) = origin-o re (l .block v) (λ z. o .not-y (sym (lab .owned v e (o .was-two) (o .was-at)) ∙ z)) in
+          rw (o .group-is)
+          (stand-old v (h .group e) (h .group e) 0 (stays it (h .group e) (o .not-y)) (omega (arith, own)) (omega (arith, size-o it (h .group e) (o .not-x) (o .not-y))) (o .label-is) (o .low-is) (o .block-is)
+          (lab .stands v e (o .was-two) (o .was-at) t″))
