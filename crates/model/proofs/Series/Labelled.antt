@@ -15,7 +15,7 @@ use Rattle.model.specs.Graph.{Edge, Pass, degree, isRegular}
 use Rattle.model.specs.Labels.{Labelling, Marks, labelEdge}
 use Rattle.model.specs.Register.{Register, empty, marksOf, withEdge, withVertex}
 use Rattle.model.specs.Queries.{chainAt, find, found, refuses, wearer}
-use Rattle.model.proofs.Walks.Degree.{Proper, is-two, proper-snoc, end-cases}
+use Rattle.model.proofs.Walks.Degree.{is-two, proper-snoc, end-cases}
 use Rattle.model.proofs.Walks.Turn.{At, TwoEdges, two-edges}
 use Rattle.model.proofs.Walks.Keeps.{Accepted, Added}
 use Rattle.model.proofs.Walks.RingFree.{RingFree, ring-free}
@@ -69,45 +69,49 @@ ends-landed es p n a b old v e at = go (which es p e (at .inside))
     go (is-old i) = old v e (at-old es p i at)
     go (is-new i) = end (end-cases p v (last-at es p (let at′ : At (es ++ (p ∷ [])) v (length es) = rw i at at in at′)))
 
-pub labelled-edge : (r : Register) (p : Edge) (r′ : Register) → Labelled r → Accepted r p r′ → Labelled (withEdge r p)
-unfolding withEdge marksOf
-labelled-edge r p r′ c a = record {
-  sound = record { proper = proper-snoc es p pr (a .differ); rings = rf′ };
-  bare = bare-after es p (a .differ) (r .blocks) m (c .bare) res even k;
-  labels-long = long .labels-long ∙ c .labels-long;
-  lows-long = long .lows-long ∙ c .lows-long;
-  few = c .few;
-  landed-ends = ends;
-  room = omega (arith, length-new es p, a .room);
-  ghosts = ghosts-on es p pr (a .differ) (c .sound .rings) (r .blocks) m (c .bare) (r .relabellings) (c .ghosts) res (a .room) (λ v e at. omega (arith, ends v e at, c .few, c .labels-long)) even k;
-}
-  where
-    es : List Edge
-    es = r .edges
+module _ (r : Register) (p : Edge) (r′ : Register) (c : Labelled r) (a : Accepted r p r′) where
+  abbrev es : List Edge
+  es = r .edges
 
-    m : Marks
-    m = marksOf r
+  abbrev m : Marks
+  m = marksOf r
 
-    pr : Proper es
-    pr = c .sound .proper
+  abbrev res : Labelling
+  res = labelEdge (r .edges) p (r .blocks) (marksOf r)
 
-    rf′ : RingFree (es ++ (p ∷ []))
-    rf′ = ring-free es p pr (a .differ) (c .sound .rings) (no-ring es p pr (a .no-ring))
+  ends : (v e : ℕ) → At (es ++ (p ∷ [])) v e → v < r .vertices
+  ends = ends-landed es p (r .vertices) (a .first-landed) (a .second-landed) (c .landed-ends)
 
-    res : Labelling
-    res = labelEdge es p (r .blocks) m
+  rings-after : RingFree (es ++ (p ∷ []))
+  rings-after = ring-free es p (c .sound .proper) (a .differ) (c .sound .rings) (no-ring es p (c .sound .proper) (a .no-ring))
 
-    even : length (m .labels) ≡ length (m .lows)
-    even = c .labels-long ∙ sym (c .lows-long)
+  -- which case of an insertion it is, and that the tables of the labels have room for it
+  pub edge-inserted : Inserted (r .edges) p (r .blocks) (marksOf r) (labelEdge (r .edges) p (r .blocks) (marksOf r))
+  edge-inserted = inserted es p (c .sound .proper) (a .differ) (c .sound .rings) rings-after (a .no-ring) (r .blocks) m
 
-    k : Inserted es p (r .blocks) m res
-    k = inserted es p pr (a .differ) (c .sound .rings) rf′ (a .no-ring) (r .blocks) m
+  pub even-marks : length ((marksOf r) .labels) ≡ length ((marksOf r) .lows)
+  unfolding marksOf
+  even-marks = c .labels-long ∙ sym (c .lows-long)
 
-    long : Long m (res .marks)
-    long = long-after es p (a .differ) (r .blocks) m (c .bare) res even k
+  pub long-marks : (v e : ℕ) → At (r .edges ++ (p ∷ [])) v e → v < length ((marksOf r) .labels)
+  unfolding marksOf
+  long-marks v e at = omega (arith, ends v e at, c .few, c .labels-long)
 
-    ends : (v e : ℕ) → At (es ++ (p ∷ [])) v e → v < r .vertices
-    ends = ends-landed es p (r .vertices) (a .first-landed) (a .second-landed) (c .landed-ends)
+  long : Long m (res .marks)
+  long = long-after es p (a .differ) (r .blocks) m (c .bare) res even-marks edge-inserted
+
+  pub labelled-edge : Labelled (withEdge r p)
+  unfolding withEdge marksOf
+  labelled-edge = record {
+    sound = record { proper = proper-snoc es p (c .sound .proper) (a .differ); rings = rings-after };
+    bare = bare-after es p (a .differ) (r .blocks) m (c .bare) res even-marks edge-inserted;
+    labels-long = long .labels-long ∙ c .labels-long;
+    lows-long = long .lows-long ∙ c .lows-long;
+    few = c .few;
+    landed-ends = ends;
+    room = omega (arith, length-new es p, a .room);
+    ghosts = ghosts-on es p (c .sound .proper) (a .differ) (c .sound .rings) (r .blocks) m (c .bare) (r .relabellings) (c .ghosts) res (a .room) long-marks even-marks edge-inserted;
+  }
 
 pub labelled-vertex : (r : Register) (r′ : Register) → Labelled r → Added r r′ → Labelled (withVertex r)
 unfolding withVertex marksOf

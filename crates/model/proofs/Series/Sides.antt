@@ -1,5 +1,5 @@
 -- In every grown register the labels rise by 1 along each chain, from its low end to its high end.
-use mathlib.Core.Path.{_≡_, sym, _∙_, subst}
+use mathlib.Core.Path.{_≡_, sym, subst}
 use mathlib.Core.Logic.{_≢_, _⊎_, inl, inr}
 use Prim.Native.Nat.{ℕ, _≤_, _<_}
 use native.Mathlib.Omega.{arith}
@@ -12,14 +12,11 @@ use Rattle.model.specs.Register.{Register, empty, marksOf, withEdge, wit
 use Rattle.model.proofs.Walks.Degree.{Proper, degree-snoc, end-first, end-second, two-ends}
 use Rattle.model.proofs.Walks.Turn.{At}
 use Rattle.model.proofs.Walks.Keeps.{Accepted, Added}
-use Rattle.model.proofs.Walks.RingFree.{RingFree, ring-free}
-use Rattle.model.proofs.Walks.Rings.{no-ring}
 use Rattle.model.proofs.Labels.Following.{here, later}
 use Rattle.model.proofs.Labels.Laid.{Inserted, fresh, extends, merges}
-use Rattle.model.proofs.Labels.Inserted.{inserted}
 use Rattle.model.proofs.Groups.Origins.{labelAt}
 use Rattle.model.proofs.Groups.InPath.{InPath}
-use Rattle.model.proofs.Series.Labelled.{Labelled, labelled-edge, label-not-zero, ends-landed}
+use Rattle.model.proofs.Series.Labelled.{Labelled, labelled-edge, label-not-zero, edge-inserted, even-marks, long-marks}
 use Rattle.model.proofs.Series.Facts.{Kept, kept-empty, kept-vertex, kept-edge}
 use Rattle.model.proofs.Labels.Rise.{Sided, sided-fresh, sided-laid}
 
@@ -59,36 +56,18 @@ pub record Full (r : Register) : Type 0 where
 
 pub full-edge : (r : Register) (p : Edge) (r′ : Register) → Full r → Accepted r p r′ → Full (withEdge r p)
 unfolding withEdge marksOf labelAt
-full-edge r p r′ f a = record { kept = subst Kept (sym (a .result)) (kept-edge r p r′ (f .kept) a); sided = sided-on es p pr (a .differ) (r .blocks) m (f .sided) long even res pos k }
+full-edge r p r′ f a = record {
+  kept = subst Kept (sym (a .result)) (kept-edge r p r′ (f .kept) a);
+  sided = sided-on (r .edges) p (c .sound .proper) (a .differ) (r .blocks) (marksOf r) (f .sided) (long-marks r p r′ c a) (even-marks r p r′ c a) res pos (edge-inserted r p r′ c a);
+}
   where
     c : Labelled r
     c = f .kept .labelled
 
-    es : List Edge
-    es = r .edges
-
-    m : Marks
-    m = marksOf r
-
-    pr : Proper es
-    pr = c .sound .proper
-
-    rf′ : RingFree (es ++ (p ∷ []))
-    rf′ = ring-free es p pr (a .differ) (c .sound .rings) (no-ring es p pr (a .no-ring))
-
     res : Labelling
-    res = labelEdge es p (r .blocks) m
+    res = labelEdge (r .edges) p (r .blocks) (marksOf r)
 
-    even : length (m .labels) ≡ length (m .lows)
-    even = c .labels-long ∙ sym (c .lows-long)
-
-    long : (v e : ℕ) → At (es ++ (p ∷ [])) v e → v < length (m .labels)
-    long v e at = omega (arith, ends-landed es p (r .vertices) (a .first-landed) (a .second-landed) (c .landed-ends) v e at, c .few, c .labels-long)
-
-    k : Inserted es p (r .blocks) m res
-    k = inserted es p pr (a .differ) (c .sound .rings) rf′ (a .no-ring) (r .blocks) m
-
-    pos : (v : ℕ) → degree (es ++ (p ∷ [])) v ≡ 2 → 1 ≤ labelAt (res .marks) v
+    pos : (v : ℕ) → degree (r .edges ++ (p ∷ [])) v ≡ 2 → 1 ≤ labelAt (res .marks) v
     pos v two = label-not-zero (withEdge r p) (labelled-edge r p r′ c a) v two
 
 pub full-vertex : (r r′ : Register) → Full r → Added r r′ → Full r′
