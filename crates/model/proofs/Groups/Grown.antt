@@ -67,17 +67,20 @@ pub record Growth : Type 0 where
   pub b : Bool
   pub s : Seam es p h gx gy x y k b
 
+-- the edges and the groups with the new edge
+pub record After : Type 0 where
+  pub new : List Edge
+  pub h′ : Shape
+
+abbrev pub after : Growth → After
+after it = record { new = it .es ++ (it .p ∷ []); h′ = grown (it .h) (length (it .es)) (it .gx) (it .gy) (it .x) (it .k) (it .b) }
+
 module _ (it : Growth) where
   open Growth it using (es, p, pr, d, relabellings, h, w, gx, gy, x, y, k, b, s)
+  open After (after it) using (new, h′)
 
   abbrev n : ℕ
   n = length es
-
-  abbrev pub new : List Edge
-  new = es ++ (p ∷ [])
-
-  abbrev pub h′ : Shape
-  h′ = grown h (length es) gx gy x k b
 
   -- an edge in the new groups
   pub data Look (e : ℕ) : Type 0 where
@@ -86,7 +89,7 @@ module _ (it : Growth) where
     in-y : e < length es → h .group e ≡ gy → Look e
     elsewhere : e < length es → h .group e ≢ gx → h .group e ≢ gy → Look e
 
-  pub look : (e : ℕ) → e < length (es ++ (p ∷ [])) → Look e
+  pub look : (e : ℕ) → e < length new → Look e
   look e l = go (which es p e l) (ℕ-discrete (h .group e) gx) (ℕ-discrete (h .group e) gy)
     where
       go : Which es p e → Dec (h .group e ≡ gx) → Dec (h .group e ≡ gy) → Look e
@@ -96,9 +99,9 @@ module _ (it : Growth) where
       go (is-old i) (no a) (no c) = elsewhere i a c
 
   pub record Seen (e g i f : ℕ) : Type 0 where
-    pub group-is : (grown h (length es) gx gy x k b) .group e ≡ g
-    pub place-is : (grown h (length es) gx gy x k b) .place e ≡ i
-    pub low-is : (grown h (length es) gx gy x k b) .low e ≡ f
+    pub group-is : h′ .group e ≡ g
+    pub place-is : h′ .place e ≡ i
+    pub low-is : h′ .low e ≡ f
 
   pub seen-new : Seen (length es) gx (size h (length es) gx) x
   unfolding grown
@@ -132,7 +135,7 @@ module _ (it : Growth) where
       go (yes q) = omega (arith, same-eq (h′ .group e) gx ((seen-y e l q) .group-is), same-eq (h .group e) gy q, same-ne (h .group e) gx (λ z. s .differ (sym z ∙ q)))
       go (no q) = rw ((seen-old e l q) .group-is) (omega (arith, same-ne (h .group e) gy q))
 
-  pub size-x : size (grown h (length es) gx gy x k b) (length (es ++ (p ∷ []))) gx ≡ size h (length es) gx + size h (length es) gy + 1
+  pub size-x : size h′ (length new) gx ≡ size h (length es) gx + size h (length es) gy + 1
   unfolding size total
   size-x = rw (length-new es p) (omega (arith, same-eq (h′ .group (length es)) gx (seen-new .group-is), total-same (length es) _ _ part-x, total-add (length es) (λ e. same (h .group e) gx) (λ e. same (h .group e) gy)))
 
@@ -143,7 +146,7 @@ module _ (it : Growth) where
       go (yes q) = omega (arith, same-ne (h′ .group e) g (λ z. a (sym z ∙ (seen-y e l q) .group-is)), same-ne (h .group e) g (λ z. c (sym z ∙ q)))
       go (no q) = rw ((seen-old e l q) .group-is) refl
 
-  pub size-o : (g : ℕ) → g ≢ gx → g ≢ gy → size (grown h (length es) gx gy x k b) (length (es ++ (p ∷ []))) g ≡ size h (length es) g
+  pub size-o : (g : ℕ) → g ≢ gx → g ≢ gy → size h′ (length new) g ≡ size h (length es) g
   unfolding size total
   size-o g a c = rw (length-new es p) (omega (arith, same-ne (h′ .group (length es)) g (λ z. a (sym z ∙ seen-new .group-is)), total-same (length es) _ _ (part-o g a c)))
 
@@ -218,7 +221,7 @@ module _ (it : Growth) where
       go (is-old i) = rw (low-old e i) (at-new es p (w .ends e i))
 
   -- the new edge's ends
-  pub far-new : far (es ++ (p ∷ [])) (length es) x ≡ y
+  pub far-new : far new (length es) x ≡ y
   far-new = far-last es p pr d x y (s .x-end) (s .y-end) (s .x-y)
 
   pub x-or-y : (z : ℕ) → endsAt z p ≡ 1 → (z ≡ x) ⊎ (z ≡ y)

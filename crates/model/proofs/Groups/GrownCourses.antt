@@ -5,25 +5,20 @@ use Prim.Native.Nat.{ℕ, _+_, _*_, _≤_, _<_}
 use native.Mathlib.Omega.{arith}
 use native.Mathlib.Decide.{ℕ-discrete, decLt}
 use mathlib.Core.Bool.{true}
-use mathlib.Core.List.{List, [], _∷_, _++_}
+use mathlib.Core.List.{[], _∷_, _++_}
 use lib.ListN.{length}
 use Rattle.model.specs.Basics.{floorLog}
-use Rattle.model.specs.Graph.{Edge, same}
+use Rattle.model.specs.Graph.{same}
 use Rattle.model.proofs.Walks.Counting.{same-eq, same-ne}
 use Rattle.model.proofs.Chains.Sums.{total, total-same, total-add, total-zero, total-one}
 use Rattle.model.proofs.Walks.NewEdge.{length-new}
-use Rattle.model.proofs.Groups.Shape.{Shape, size, pick-yes, pick-no, size-none, Courses}
-use Rattle.model.proofs.Groups.Grown.{grown, Growth, new-one, in-x, in-y, elsewhere, Look, look, seen-new, seen-y, seen-old, size-x, size-o, below′, old-x, fits′, apart′, ends′, open-gx, open-o}
+use Rattle.model.proofs.Groups.Shape.{size, pick-yes, pick-no, size-none, Courses}
+use Rattle.model.proofs.Groups.Grown.{grown, Growth, After, after, new-one, in-x, in-y, elsewhere, Look, look, seen-new, seen-y, seen-old, size-x, size-o, below′, old-x, fits′, apart′, ends′, open-gx, open-o}
 use Rattle.model.proofs.Groups.GrownEnds.{leaf′, between′}
 
 module _ (it : Growth) where
   open Growth it using (es, p, pr, d, relabellings, h, w, gx, gy, x, y, k, b, s)
-
-  abbrev pub new : List Edge
-  new = es ++ (p ∷ [])
-
-  abbrev pub h′ : Shape
-  h′ = grown h (length es) gx gy x k b
+  open After (after it) using (new, h′)
 
   -- what is spent
   gy-none : size h′ (length new) gy ≡ 0

@@ -4,24 +4,18 @@ use mathlib.Core.Logic.{_≢_, _⊎_, inl, inr}
 use Prim.Native.Nat.{ℕ, suc, _+_, _<_}
 use native.Mathlib.Omega.{arith}
 use mathlib.Core.Bool.{true}
-use mathlib.Core.List.{List, [], _∷_, _++_}
 use lib.ListN.{length}
-use Rattle.model.specs.Graph.{Edge, degree, endsAt}
+use Rattle.model.specs.Graph.{degree, endsAt}
 use Rattle.model.proofs.Walks.Degree.{degree-snoc, endsAt-le, zero-or-one}
 use Rattle.model.proofs.Walks.Turn.{At}
 use Rattle.model.proofs.Walks.RingFree.{OneEdge, one-edge}
 use Rattle.model.proofs.Walks.NewEdge.{at-new, at-old, at-last, last-at, Which, is-new, is-old, which, at-degree}
-use Rattle.model.proofs.Groups.Shape.{Shape, size, LeafAt, at-low, at-high, Between}
-use Rattle.model.proofs.Groups.Grown.{grown, Growth, new-one, in-x, in-y, elsewhere, Look, look, Seen, seen-new, seen-y, seen-old, size-x, size-o, old-x, far-new, x-or-y, old-end, open-gx, open-o}
+use Rattle.model.proofs.Groups.Shape.{size, LeafAt, at-low, at-high, Between}
+use Rattle.model.proofs.Groups.Grown.{Growth, After, after, new-one, in-x, in-y, elsewhere, Look, look, Seen, seen-new, seen-y, seen-old, size-x, size-o, old-x, far-new, x-or-y, old-end, open-gx, open-o}
 
 module _ (it : Growth) where
   open Growth it using (es, p, pr, d, relabellings, h, w, gx, gy, x, y, k, b, s)
-
-  abbrev pub new : List Edge
-  new = es ++ (p ∷ [])
-
-  abbrev pub h′ : Shape
-  h′ = grown h (length es) gx gy x k b
+  open After (after it) using (new, h′)
 
   -- a leaf at an old edge is no end of the new edge
   not-end : (z e : ℕ) → degree new z ≡ 1 → At es z e → endsAt z p ≡ 1 → ⊥

@@ -5,33 +5,21 @@ use Prim.Native.Nat.{ℕ, _+_, _*_, _≤_}
 use native.Mathlib.Omega.{arith}
 use native.Mathlib.Decide.{ℕ-discrete}
 use mathlib.Core.Bool.{true, false}
-use mathlib.Core.List.{List, [], _∷_, _++_}
 use lib.ListN.{length}
-use Rattle.model.specs.Graph.{Edge, degree}
-use Rattle.model.specs.Labels.{Marks, base}
+use Rattle.model.specs.Graph.{degree}
+use Rattle.model.specs.Labels.{base}
 use Rattle.model.proofs.Walks.Turn.{At}
-use Rattle.model.proofs.Groups.Shape.{Shape, size}
-use Rattle.model.proofs.Labels.Following.{following}
-use Rattle.model.proofs.Groups.Origins.{Origins, Aligned, labelAt, gap}
-use Rattle.model.proofs.Groups.Grown.{grown, Growth, size-o, open-gx, open-o}
-use Rattle.model.proofs.Groups.Relabel.{grownL, Relabelled, owned′, along′, least′, most′}
+use Rattle.model.proofs.Groups.Shape.{size}
+use Rattle.model.proofs.Groups.Origins.{Aligned, labelAt, gap}
+use Rattle.model.proofs.Groups.Grown.{Growth, After, after, size-o, open-gx, open-o}
+use Rattle.model.proofs.Groups.Relabel.{Relabelled, Renewed, renewed, owned′, along′, least′, most′}
 use Rattle.model.proofs.Groups.Stands.{Other, other, stands′}
 
 module _ (re : Relabelled) where
   open Relabelled re using (it, m, m′, br, blocks′, l, lab, path, up, label, now, start, r, long, even)
   open Growth it using (es, p, pr, d, relabellings, h, w, gx, gy, x, y, k, b, s)
-
-  abbrev pub new : List Edge
-  new = es ++ (p ∷ [])
-
-  abbrev pub h′ : Shape
-  h′ = grown h (length es) gx gy x k b
-
-  abbrev pub l′ : Origins
-  l′ = grownL l gx gy (size h (length es) gx) now path
-
-  abbrev pub mN : Marks
-  mN = following up label path m′
+  open After (after it) using (new, h′)
+  open Renewed (renewed re) using (l′, mN)
 
   -- a closed group: these facts where it is the one that the edge closes
   pub record Closing : Type 0 where
@@ -81,8 +69,7 @@ module _ (re : Relabelled) where
             (lab .within-two v u e c (o .was-two) (o′ .was-two) (o .was-at) (o′ .was-at) (shut-o v e o t) (sym (o′ .group-is) ∙ q ∙ o .group-is)
             (λ i. bl (o .block-is ∙ i ∙ sym (o′ .block-is))))
 
-    pub grown-aligned : ((v : ℕ) → degree (es ++ (p ∷ [])) v ≡ 2 → (e : ℕ) × At (es ++ (p ∷ [])) v e)
-        → Aligned (es ++ (p ∷ [])) (following up label path m′) blocks′ (grown h (length es) gx gy x k b) (grownL l gx gy (size h (length es) gx) now path)
+    pub grown-aligned : ((v : ℕ) → degree new v ≡ 2 → (e : ℕ) × At new v e) → Aligned new mN blocks′ h′ l′
     grown-aligned some = record {
       owned = owned′ re;
       least = λ v c. let f = some v c in least′ re v (f .0) c (f .1);
@@ -95,8 +82,7 @@ module _ (re : Relabelled) where
     }
 
   -- where the course stays open
-  pub open-aligned : b ≡ true → ((v : ℕ) → degree (es ++ (p ∷ [])) v ≡ 2 → (e : ℕ) × At (es ++ (p ∷ [])) v e)
-      → Aligned (es ++ (p ∷ [])) (following up label path m′) blocks′ (grown h (length es) gx gy x k b) (grownL l gx gy (size h (length es) gx) now path)
+  pub open-aligned : b ≡ true → ((v : ℕ) → degree new v ≡ 2 → (e : ℕ) × At new v e) → Aligned new mN blocks′ h′ l′
   open-aligned t some = grown-aligned shut some
     where
       clash : b ≡ false → ⊥

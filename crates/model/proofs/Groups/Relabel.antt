@@ -17,7 +17,7 @@ use Rattle.model.proofs.Labels.Following.{following, labelOf, lowOf, It
 use Rattle.model.proofs.Groups.Origins.{Origins, Aligned, Fits, labelAt, lowAt}
 use Rattle.model.proofs.Groups.InPath.{InPath, pathBlock, given-in, given-out}
 use Rattle.model.proofs.Labels.Splits.{Bare}
-use Rattle.model.proofs.Groups.Grown.{grown, Growth, Look, new-one, in-x, in-y, elsewhere, look, seen-y, seen-old, old-x}
+use Rattle.model.proofs.Groups.Grown.{Growth, After, after, Look, new-one, in-x, in-y, elsewhere, look, seen-y, seen-old, old-x}
 
 unfoldable pub grownL : Origins → (gx gy s now : ℕ) → List Pass → Origins
 grownL l gx gy s now path = record {
@@ -55,25 +55,25 @@ pub record Relabelled : Type 0 where
   pub label : ℕ
   pub now : ℕ
   pub start : ℕ
-  pub r : OnPath (it .es) (it .p) (it .h) (grown (it .h) (length (it .es)) (it .gx) (it .gy) (it .x) (it .k) (it .b)) l (it .gx) blocks′ (it .b) path up label now start
-  pub long : (v e : ℕ) → At (it .es ++ (it .p ∷ [])) v e → v < length (m .labels)
+  pub r : OnPath (it .es) (it .p) (it .h) ((after it) .h′) l (it .gx) blocks′ (it .b) path up label now start
+  pub long : (v e : ℕ) → At ((after it) .new) v e → v < length (m .labels)
   pub even : length (m .labels) ≡ length (m .lows)
+
+-- the origins and the marks with the new labels
+pub record Renewed : Type 0 where
+  pub l′ : Origins
+  pub mN : Marks
+
+abbrev pub renewed : Relabelled → Renewed
+renewed re =
+    let it = re .it in
+    record { l′ = grownL (re .l) (it .gx) (it .gy) (size (it .h) (length (it .es)) (it .gx)) (re .now) (re .path); mN = following (re .up) (re .label) (re .path) (re .m′) }
 
 module _ (re : Relabelled) where
   open Relabelled re using (it, m, m′, br, blocks′, l, lab, path, up, label, now, start, r, long, even)
   open Growth it using (es, p, pr, d, relabellings, h, w, gx, gy, x, y, k, b, s)
-
-  abbrev pub new : List Edge
-  new = es ++ (p ∷ [])
-
-  abbrev pub h′ : Shape
-  h′ = grown h (length es) gx gy x k b
-
-  abbrev pub l′ : Origins
-  l′ = grownL l gx gy (size h (length es) gx) now path
-
-  abbrev pub mN : Marks
-  mN = following up label path m′
+  open After (after it) using (new, h′)
+  open Renewed (renewed re) using (l′, mN)
 
   -- a regular vertex of the new list: on the path, or an old one that stays as it was
   pub data Now (v : ℕ) : Type 0 where
@@ -88,7 +88,7 @@ module _ (re : Relabelled) where
   unfolding grownL
   block-out v n = given-out now path (l .block) v n
 
-  pub view : (v e : ℕ) → degree (es ++ (p ∷ [])) v ≡ 2 → At (es ++ (p ∷ [])) v e → Now v
+  pub view : (v e : ℕ) → degree new v ≡ 2 → At new v e → Now v
   unfolding labelAt lowAt
   view v e c a = go (wears up label path m′ v (omega (arith, long v e a, br .labels-long)) (omega (arith, long v e a, even, br .lows-long)))
     where

@@ -5,18 +5,17 @@ use Prim.Native.Nat.{ℕ, _+_, _≤_}
 use native.Mathlib.Omega.{arith}
 use native.Mathlib.Decide.{ℕ-discrete}
 use mathlib.Core.Bool.{Bool, true, false}
-use mathlib.Core.List.{List, [], _∷_, _++_}
 use lib.ListN.{length}
-use Rattle.model.specs.Graph.{Edge, Pass, degree}
-use Rattle.model.specs.Labels.{Marks, base}
+use Rattle.model.specs.Graph.{Pass, degree}
+use Rattle.model.specs.Labels.{base}
 use Rattle.model.proofs.Walks.Turn.{At}
-use Rattle.model.proofs.Groups.Shape.{Shape, size}
+use Rattle.model.proofs.Groups.Shape.{size}
 use Rattle.model.proofs.Walks.NewEdge.{last-at, old-edge}
-use Rattle.model.proofs.Labels.Following.{following, labelOf, lowOf, Ith}
-use Rattle.model.proofs.Groups.Origins.{Origins, Stand, Fits, LowIs, labelAt, lowAt}
-use Rattle.model.proofs.Groups.Grown.{grown, Growth, Look, new-one, in-x, in-y, elsewhere, look, seen-y, seen-old, old-x, size-x, size-o, open-gx, open-o}
+use Rattle.model.proofs.Labels.Following.{labelOf, lowOf, Ith}
+use Rattle.model.proofs.Groups.Origins.{Stand, Fits, LowIs, labelAt, lowAt}
+use Rattle.model.proofs.Groups.Grown.{Growth, After, after, Look, new-one, in-x, in-y, elsewhere, look, seen-y, seen-old, old-x, size-x, size-o, open-gx, open-o}
 use Rattle.model.proofs.Groups.GrownEnds.{Moved, between-old, stays}
-use Rattle.model.proofs.Groups.Relabel.{grownL, Relabelled, Now, in-path, as-was, view, origin-y, origin-o, rising-is}
+use Rattle.model.proofs.Groups.Relabel.{Relabelled, Renewed, renewed, Now, in-path, as-was, view, origin-y, origin-o, rising-is}
 
 fits-shift : (up : Bool) (q b i t c : ℕ) → Fits up q b i t → Fits up (c + q) b (c + i) t
 fits-shift true q b i t c e = omega (arith, e)
@@ -30,18 +29,8 @@ low-of-path false t = refl
 module _ (re : Relabelled) where
   open Relabelled re using (it, m, m′, br, blocks′, l, lab, path, up, label, now, start, r, long, even)
   open Growth it using (es, p, pr, d, relabellings, h, w, gx, gy, x, y, k, b, s)
-
-  abbrev pub new : List Edge
-  new = es ++ (p ∷ [])
-
-  abbrev pub h′ : Shape
-  h′ = grown h (length es) gx gy x k b
-
-  abbrev pub l′ : Origins
-  l′ = grownL l gx gy (size h (length es) gx) now path
-
-  abbrev pub mN : Marks
-  mN = following up label path m′
+  open After (after it) using (new, h′)
+  open Renewed (renewed re) using (l′, mN)
 
   -- where regular vertices stand
   stand-path : b ≡ true → (v i : ℕ) (t : Pass) → Ith t i path → t .at ≡ v → labelAt mN v ≡ labelOf up label i → lowAt mN v ≡ lowOf up t → l′ .block v ≡ now → Stand new mN h′ l′ v gx
