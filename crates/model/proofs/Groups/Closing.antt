@@ -14,14 +14,14 @@ use Rattle.model.proofs.Walks.RingFree.{RingFree}
 use Rattle.model.proofs.Groups.Shape.{Shape, size, Between, Courses}
 use Rattle.model.proofs.Groups.Flip.{Spot, Rises, climb}
 use Rattle.model.proofs.Walks.NewEdge.{last-at, old-edge}
-use Rattle.model.proofs.Groups.Grown.{grown, Growth, Seam, old-x, Look, look, new-one, in-x, in-y, elsewhere, seen-old}
+use Rattle.model.proofs.Groups.Grown.{Growth, After, after, Seam, old-x, Look, look, new-one, in-x, in-y, elsewhere, seen-old}
 use Rattle.model.proofs.Groups.GrownEnds.{end-group}
-use Rattle.model.proofs.Labels.Following.{following, labelOf, Ith}
+use Rattle.model.proofs.Labels.Following.{labelOf, Ith}
 use Rattle.model.proofs.Labels.Laid.{Laid}
-use Rattle.model.proofs.Groups.Origins.{Origins, Aligned, Stand, Fits, labelAt}
+use Rattle.model.proofs.Groups.Origins.{Stand, Fits, labelAt}
 use Rattle.model.proofs.Groups.Blocks.{Start}
 use Rattle.model.proofs.Groups.InPath.{ith-one, ith-split, rises-ith}
-use Rattle.model.proofs.Groups.Relabel.{OnPath, grownL, Relabelled, Now, in-path, as-was, view}
+use Rattle.model.proofs.Groups.Relabel.{OnPath, Relabelled, Renewed, renewed, Now, in-path, as-was, view}
 use Rattle.model.proofs.Labels.Inwards.{Inward, inward, trail-regular}
 use Rattle.model.proofs.Groups.Gaps.{fits-one}
 
@@ -65,21 +65,6 @@ module _ (jo : Joined) where
   abbrev pub path : List Pass
   path = record { before = e; at = x; after = length es } ∷ record { before = length es; at = y; after = c } ∷ inwards es y
 
-  abbrev pub new : List Edge
-  new = es ++ (p ∷ [])
-
-  abbrev pub gx : ℕ
-  gx = h .group e
-
-  abbrev pub h′ : Shape
-  h′ = grown h (length es) (h .group e) (length es) x k false
-
-  abbrev pub l : Origins
-  l = st .origins
-
-  abbrev pub lab : Aligned es m (res .blocks) h (st .origins)
-  lab = st .aligned
-
   abbrev pub growth : Growth
   growth = record {
     es = es;
@@ -97,6 +82,14 @@ module _ (jo : Joined) where
     b = false;
     s = s;
   }
+
+  open Growth growth using (gx)
+  open After (after growth) using (new, h′)
+  open Start st using (origins as l, aligned as lab)
+
+  -- what its path needs to wear the new labels
+  abbrev pub ClosingPath : Type 0
+  ClosingPath = OnPath es p h h′ l gx (res .blocks) false path (la .up) (la .label) (st .now) (h .place e)
 
   pub no-end : (v : ℕ) → degree es v ≡ 2 → endsAt v p ≡ 0
   no-end v q = go (zero-or-one (endsAt v p) (endsAt-le v p d))
@@ -135,7 +128,7 @@ module _ (jo : Joined) where
       go (inl q) = end-group growth (t .at) a (rw q (la .x-leaf)) (inl (ap (λ (o : Pass). o .at) q)) b
       go (inr n) = rest (ith-split (n .1))
 
-  module _ (r : OnPath es p h (grown h (length es) (h .group e) (length es) x k false) (st .origins) (h .group e) (res .blocks) false path (la .up) (la .label) (st .now) (h .place e)) where
+  module _ (r : ClosingPath) where
     abbrev pub relabelled : Relabelled
     relabelled = record {
       it = growth;
@@ -156,13 +149,9 @@ module _ (jo : Joined) where
     }
 
     abbrev pub size₁ : ℕ
-    size₁ = size h (length es) (h .group e)
+    size₁ = size h (length es) gx
 
-    abbrev pub l′ : Origins
-    l′ = grownL l gx (length es) size₁ (st .now) path
-
-    abbrev pub mN : Marks
-    mN = following (la .up) (la .label) path (la .m′)
+    open Renewed (renewed relabelled) using (l′, mN)
 
     -- where a regular vertex of the group stood while the course was open: on the path, or where growth was before
     pub data Who (v at : ℕ) : Type 0 where

@@ -4,56 +4,37 @@ use mathlib.Core.Logic.{_≢_}
 use Prim.Native.Nat.{ℕ, suc, _+_, _-_, _*_, _≤_, _<_}
 use native.Mathlib.Omega.{arith}
 use native.Mathlib.Decide.{decLt, decLe}
-use mathlib.Core.Bool.{false}
-use mathlib.Core.List.{List, [], _∷_, _++_}
 use lib.ListN.{length}
-use Rattle.model.specs.Graph.{Edge, Pass, degree, far}
-use Rattle.model.specs.Labels.{Marks, base, inwards}
+use Rattle.model.specs.Graph.{Pass, degree, far}
+use Rattle.model.specs.Labels.{base, inwards}
 use Rattle.model.proofs.Walks.Degree.{degree-snoc}
 use Rattle.model.proofs.Walks.Turn.{At}
 use Rattle.model.proofs.Walks.Trail.{across}
 use Rattle.model.proofs.Groups.Shape.{Shape, size, size-none, Between, Courses}
 use Rattle.model.proofs.Groups.Flip.{flipped, flip-group, flip-place, flip-low, flip-courses}
-use Rattle.model.proofs.Groups.Grown.{grown, size-x}
-use Rattle.model.proofs.Labels.Following.{following, Ith, later}
-use Rattle.model.proofs.Groups.Origins.{Origins, Aligned, labelAt, gap}
+use Rattle.model.proofs.Groups.Grown.{Growth, After, after, size-x}
+use Rattle.model.proofs.Labels.Following.{Ith, later}
+use Rattle.model.proofs.Groups.Origins.{labelAt, gap}
+use Rattle.model.proofs.Groups.Blocks.{Start}
 use Rattle.model.proofs.Groups.InPath.{InPath, ith-below}
-use Rattle.model.proofs.Groups.Relabel.{OnPath, grownL}
+use Rattle.model.proofs.Groups.Relabel.{Relabelled, Renewed, renewed}
 use Rattle.model.proofs.Groups.Realigned.{Closing}
 use Rattle.model.proofs.Labels.Inwards.{Inward, inward}
 use Rattle.model.proofs.Groups.Gaps.{fits-gap, gap-le, low-path, one-block, trail-first}
-use Rattle.model.proofs.Groups.Closing.{Joined, growth, relabelled, Who, of-path, of-old, Held, held, old-below, single, no-end}
+use Rattle.model.proofs.Groups.Closing.{Joined, growth, ClosingPath, relabelled, Who, of-path, of-old, Held, held, old-below, single, no-end}
 
 module _ (jo : Joined) where
   open Joined jo using (es, p, pr, d, rf, relabellings, blocks, m, res, x, y, e, c, la, h, w, st, hi, top, cy, ac, lo, bot, eq, le, less, k, s, long, even)
+  open Growth (growth jo) using (gx)
+  open After (after (growth jo)) using (new, h′)
+  open Start st using (origins as l, aligned as lab)
 
-  abbrev pub path : List Pass
-  path = record { before = e; at = x; after = length es } ∷ record { before = length es; at = y; after = c } ∷ inwards es y
+  module _ (r : ClosingPath jo) where
+    open Relabelled (relabelled jo r) using (path)
+    open Renewed (renewed (relabelled jo r)) using (l′, mN)
 
-  abbrev pub new : List Edge
-  new = es ++ (p ∷ [])
-
-  abbrev pub gx : ℕ
-  gx = h .group e
-
-  abbrev pub h′ : Shape
-  h′ = grown h (length es) (h .group e) (length es) x k false
-
-  abbrev pub l : Origins
-  l = st .origins
-
-  abbrev pub lab : Aligned es m (res .blocks) h (st .origins)
-  lab = st .aligned
-
-  module _ (r : OnPath es p h (grown h (length es) (h .group e) (length es) x k false) (st .origins) (h .group e) (res .blocks) false path (la .up) (la .label) (st .now) (h .place e)) where
-    abbrev pub size₁ : ℕ
-    size₁ = size h (length es) (h .group e)
-
-    abbrev pub l′ : Origins
-    l′ = grownL l gx (length es) size₁ (st .now) path
-
-    abbrev pub mN : Marks
-    mN = following (la .up) (la .label) path (la .m′)
+    abbrev size₁ : ℕ
+    size₁ = size h (length es) gx
 
     path-below : (i : ℕ) (t : Pass) → Ith t i path → i ≤ length (inwards es y) + 1
     path-below i t j = omega (arith, ith-below j)
