@@ -12,8 +12,9 @@ use Rattle.model.specs.Format.{Stop, whole, stopped}
 use Rattle.model.specs.Tables.{Tables, Counts}
 use Rattle.tables.specs.Steps.{more16}
 use Rattle.insertion.specs.Insertion.{AnswerIn, done, refusedIn, LandingIn, landingIn, counts, landIn}
+use Rattle.agreement.specs.Listing.{landVertexIn}
 use Rattle.list.specs.Reading.{HeaderAt, good, badHeader, RecordAt, ends, vertexTo, edgeTo, badRecord, headerAt, recordAt}
-use Rattle.register.specs.Listing.{landVertexIn, StepIn, ended, wentOn, stoppedIn, SteppedIn, steppedIn, stepOf, landRecordIn, ReadIn, readIn, landRecordsIn, landListIn}
+use Rattle.register.specs.Listing.{StepIn, ended, wentOn, stoppedIn, SteppedIn, steppedIn, stepOf, landRecordIn, ReadIn, readIn, landRecordsIn, landListIn}
 
 -- ---- a vertex
 

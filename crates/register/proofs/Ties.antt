@@ -16,16 +16,12 @@ use Rattle.model.specs.Tables.{Counts, Tables}
 use Rattle.insertion.specs.Insertion.{AnswerIn, LandingIn, counts, done, landIn, landingIn, refusedIn}
 use Rattle.agreement.specs.Listing as whole
 use Rattle.list.specs.Reading.{badRecord, edgeTo, ends, headerAt, recordAt, recordOf, vertexTo}
-use Rattle.register.specs.Listing.{ReadIn, landListIn, landRecordIn, landRecordsIn, landVertexIn, steppedIn, stoppedIn, wentOn}
+use Rattle.register.specs.Listing.{ReadIn, landListIn, landRecordIn, landRecordsIn, steppedIn, stoppedIn, wentOn}
 use Rattle.register.proofs.ListingLaws.{record-bad, record-edge, record-ends, record-vertex, records-end, records-none, records-on, records-stop}
 
 -- what a list leaves, with its answer
 unfoldable pub replied : whole.ReadIn → ReadIn
 replied d = record { tables = d .tables; counts = d .counts; reply = read (d .stop) }
-
-vertex-is : (c : Counts) → landVertexIn c ≡ whole.landVertexIn c
-unfolding landVertexIn whole.landVertexIn
-vertex-is c = refl
 
 drop-on : (i j : ℕ) (bs : List ℕ) → drop (i + j) bs ≡ drop j (drop i bs)
 drop-on zero j bs = let z : 0 + j ≡ j = omega arith in rw z
@@ -89,10 +85,10 @@ records-is bs (suc n) k t c i = go (drop i bs) refl (λ t′ c′ j. records-is 
     on-vertex : (kind : ℕ) (bytes rest : List ℕ) → drop i bs ≡ kind ∷ bytes → firstRecord kind bytes ≡ vertex rest → (a : AnswerIn) → whole.landVertexIn c ≡ a → Rest → Goal
     on-vertex kind bytes rest p q (done c′) a ih =
         let r : drop (i + 1) bs ≡ rest = drop-on i 1 bs ∙ rw p ((rest-is kind bytes (vertex rest) q) .0 rest refl) in
-        let s = record-vertex t c (recordAt bs i) (i + 1) (done c′) (wentOn c′ (i + 1)) (at-vertex bs i kind bytes rest p q) (sym (vertex-is c ∙ a)) refl in
+        let s = record-vertex t c (recordAt bs i) (i + 1) (done c′) (wentOn c′ (i + 1)) (at-vertex bs i kind bytes rest p q) (sym a) refl in
         on t c′ (i + 1) s ∙ rw (p, q, a, whole.landRecordsIn) (rw r at (ih t c′ (i + 1)))
     on-vertex kind bytes rest p q (refusedIn x) a ih =
-        let s = record-vertex t c (recordAt bs i) (i + 1) (refusedIn x) (stoppedIn x) (at-vertex bs i kind bytes rest p q) (sym (vertex-is c ∙ a)) refl in
+        let s = record-vertex t c (recordAt bs i) (i + 1) (refusedIn x) (stoppedIn x) (at-vertex bs i kind bytes rest p q) (sym a) refl in
         sym (records-stop bs (suc n) k t t c i x (omega arith) s) ∙ rw (p, q, a, whole.landRecordsIn)
 
     on-edge : (kind : ℕ) (bytes rest : List ℕ) (e : Edge) → drop i bs ≡ kind ∷ bytes → firstRecord kind bytes ≡ edge e rest → (a : AnswerIn) → (landIn t c e) .answer ≡ a → Rest → Goal

@@ -2,20 +2,12 @@
 use Prim.Native.Nat.{ℕ, zero, suc, _+_}
 use mathlib.Core.List.{List}
 use lib.ListN.{length}
-use lib.Dec.{leb}
-use Rattle.model.specs.Basics.{if_then_else_, maxVertices}
 use Rattle.model.specs.Format.{Stop, whole, stopped}
 use Rattle.model.specs.Queries.{Reply, read}
 use Rattle.model.specs.Tables.{Tables, Counts}
-use Rattle.tables.specs.Steps.{more16}
 use Rattle.insertion.specs.Insertion.{AnswerIn, done, refusedIn, counts, landIn}
-use Rattle.list.specs.Reading.{HeaderAt, good, RecordAt, ends, vertexTo, edgeTo, badHeader, badRecord, headerAt, recordAt}
-
--- one more vertex, or refusal 22
-unfoldable pub landVertexIn : Counts → AnswerIn
-landVertexIn c =
-    if leb maxVertices (c .vertices) then refusedIn 22
-    else done (counts (more16 (c .vertices)) (c .edges) (c .blocks) (c .relabellings))
+use Rattle.agreement.specs.Listing.{landVertexIn}
+use Rattle.list.specs.Reading.{good, RecordAt, ends, vertexTo, edgeTo, badHeader, badRecord, headerAt, recordAt}
 
 -- what stands behind a record: the end of the list; the counts and the next index; or the record's refusal
 pub data StepIn : Type 0 where
