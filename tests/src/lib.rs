@@ -6,7 +6,7 @@
 //! - [`calls`]: the same as calls from C answer them;
 //! - [`print`]: what the printing program prints;
 //! - [`gen`]: lists of every kind, drawn from a seed;
-//! - [`child`] and [`tally`]: asking a binary, and counting outcomes.
+//! - [`child`], [`tally`] and [`workers`]: asking a binary, counting outcomes, and doing so on both cores.
 
 pub mod calls;
 pub mod child;
@@ -18,6 +18,7 @@ pub mod queries;
 pub mod refusal;
 pub mod run;
 pub mod tally;
+pub mod workers;
 
 #[cfg(test)]
 mod invariants;

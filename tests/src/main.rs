@@ -6,16 +6,15 @@ use std::fs;
 use std::path::{Path, PathBuf};
 use std::process::ExitCode;
 use std::sync::atomic::{AtomicBool, AtomicUsize, Ordering};
-use std::thread::{self, ScopedJoinHandle};
 
 use reference::child;
 use reference::gen;
 use reference::print::Outcome;
 use reference::tally::Tally;
+use reference::workers::together;
 
 const DEFAULT_COUNT: usize = 20_000;
 const DEFAULT_SEED: u64 = 1;
-const WORKERS: usize = 2;
 /// One list in so many is handed over in pieces.
 const PIECEWISE_EVERY: usize = 16;
 const PIECES: usize = 3;
@@ -81,17 +80,8 @@ fn number_or<T: std::str::FromStr>(argument: Option<&String>, default: T) -> Opt
 
 fn compare(order: &Order) -> Result<Tally, Difference> {
     let progress = Progress::default();
-    let results: Vec<_> = thread::scope(|scope| {
-        let workers: Vec<_> = (0..WORKERS)
-            .map(|_| scope.spawn(|| work(order, &progress)))
-            .collect();
-        let results = workers.into_iter().map(ScopedJoinHandle::join);
-        results
-            .map(|result| result.expect("no worker fails"))
-            .collect()
-    });
     let mut whole = Tally::default();
-    for result in results {
+    for result in together(|| work(order, &progress)) {
         whole.add(result?);
     }
     Ok(whole)

@@ -12,12 +12,10 @@ mod tally;
 use std::env;
 use std::process::ExitCode;
 use std::sync::atomic::{AtomicUsize, Ordering};
-use std::thread::{self, ScopedJoinHandle};
 
 use compare::Difference;
+use reference::workers::together;
 use tally::Tally;
-
-const WORKERS: usize = 2;
 
 fn main() -> ExitCode {
     let mut arguments = env::args()
@@ -39,17 +37,8 @@ fn main() -> ExitCode {
 
 fn compare_all(seed: u64, count: u64) -> Result<Tally, Difference> {
     let next = AtomicUsize::new(0);
-    let results: Vec<_> = thread::scope(|scope| {
-        let workers: Vec<_> = (0..WORKERS)
-            .map(|_| scope.spawn(|| work(seed, count, &next)))
-            .collect();
-        let results = workers.into_iter().map(ScopedJoinHandle::join);
-        results
-            .map(|result| result.expect("no worker fails"))
-            .collect()
-    });
     let mut whole = Tally::default();
-    for result in results {
+    for result in together(|| work(seed, count, &next)) {
         whole.add(result?);
     }
     Ok(whole)
