@@ -1,14 +1,14 @@
 // For the tests alone: the search, and the first of the rounds that confirm it. That one round is enough is not proved, since the answer
 // does not rest on it; tests/confirming shows it on full-size houses.
-use distance::dijkstra::dijkstra;
-use distance::relax::relax_all;
-use distance::search::start;
+use search::dijkstra::dijkstra;
+use search::relax::relax_all;
+use search::shortest::start;
 use tables::access::of32;
 ghost use mathlib.Core.Path.{_≡_};
 ghost use Prim.Native.Nat.{_≤_, _<_};
 ghost use lib.ListN.{length};
 ghost use Rattle.model.specs.Basics.{maxVertices};
-ghost use Rattle.distance.specs.Search.{Searchable, Settled};
+ghost use Rattle.search.specs.Search.{Searchable, Settled};
 
 // How many distances the first confirming round lowers. With 0 the search had settled them.
 #[no_mangle]

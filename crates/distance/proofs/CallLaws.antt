@@ -19,7 +19,7 @@ use Rattle.register.specs.Meaning.{lent}
 use Rattle.lookups.specs.Meaning.{answered}
 use Rattle.admission.specs.Gate.{barred}
 use Rattle.lookups.proofs.QueryLaws.{Answers, query-answered, query-refused}
-use Rattle.distance.specs.Search.{Searchable}
+use Rattle.search.specs.Search.{Searchable}
 use Rattle.distance.specs.Measure.{measureIn}
 use Rattle.distance.proofs.Registers.{searchable}
 use Rattle.distance.proofs.Measuring.{measure-agrees}

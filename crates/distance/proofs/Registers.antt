@@ -14,7 +14,7 @@ use Rattle.model.proofs.Series.Held.{edge-read, edges-read, length-ends, length
 use Rattle.model.proofs.Series.Labelled.{Labelled}
 use Rattle.model.proofs.Series.Lawful.{Lawful, edges-lawful}
 use Rattle.model.proofs.Series.Reachable.{full}
-use Rattle.distance.specs.Search.{Searchable}
+use Rattle.search.specs.Search.{Searchable}
 
 padded-long : (n : ℕ) (xs : List ℕ) → length xs ≤ length (padded n xs)
 unfolding padded

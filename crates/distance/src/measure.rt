@@ -1,9 +1,9 @@
 // A distance between two vertices of a register: refusal 5, then the search. Scratch that is all zero is so again at the end.
-use crate::Measured;
-use crate::search::search;
 use counters::counts::Counts;
 use counters::numbers::Vertex;
 use counters::refusals::Refusal;
+use search::shortest::Measured;
+use search::shortest::search;
 use tables::whole::clear_tables;
 ghost use mathlib.Core.Path.{_≡_};
 ghost use mathlib.Core.List.{List};
@@ -15,7 +15,7 @@ ghost use Rattle.model.specs.Distance.{distance};
 ghost use Rattle.model.specs.Queries as queries;
 ghost use Rattle.counters.specs.Answers.{countsIn};
 ghost use Rattle.tables.specs.Steps.{tables, zeroed};
-ghost use Rattle.distance.specs.Search.{Searchable, measuredIn};
+ghost use Rattle.search.specs.Search.{Searchable, measuredIn};
 ghost use Rattle.distance.specs.Measure.{distanceReply, measureIn};
 
 // What outsiders are answered.

@@ -20,7 +20,7 @@ use Rattle.agreement.proofs.Finding.{reach-agrees}
 use Rattle.register.specs.Listing.{ReadIn, landListIn}
 use Rattle.register.proofs.Grown.{grownFrom, list-leaves, growList-grown}
 use Rattle.lookups.proofs.AnswerLaws.{find-answers}
-use Rattle.distance.specs.Search.{Searchable}
+use Rattle.search.specs.Search.{Searchable}
 use Rattle.distance.specs.Measure.{measureIn}
 use Rattle.distance.proofs.Registers.{searchable}
 use Rattle.distance.proofs.Measuring.{measure-agrees}

@@ -9,7 +9,7 @@ ghost use Prim.Native.Nat.{ℕ, _≤_};
 ghost use Rattle.model.specs.Basics.{maxVertices};
 ghost use Rattle.counters.specs.Answers.{countsIn};
 ghost use Rattle.tables.specs.Steps.{tables};
-ghost use Rattle.distance.specs.Search.{Searchable};
+ghost use Rattle.search.specs.Search.{Searchable};
 ghost use Rattle.distance.specs.Measure.{distanceReply, measureIn};
 
 // The distance between two vertices of grown tables, with scratch of its own for the search.

@@ -19,7 +19,7 @@ ghost use Rattle.model.specs.Register.{Register};
 ghost use Rattle.model.specs.FromC.{fromC, returnsReply};
 ghost use Rattle.counters.specs.Answers.{countsIn};
 ghost use Rattle.tables.specs.Steps.{tables};
-ghost use Rattle.distance.specs.Search.{Searchable};
+ghost use Rattle.search.specs.Search.{Searchable};
 ghost use Rattle.pnl.specs.Calls.{returned, queryMeans, Holds};
 
 // What may be asked from C.

@@ -1,5 +1,5 @@
-use Rattle.distance.proofs.Rounds.{round-settled}
-use Rattle.distance.proofs.Answers.{started}
+use Rattle.search.proofs.Rounds.{round-settled}
+use Rattle.search.proofs.Answers.{started}
 use Rattle.model.specs.Basics.{maxVertices}
 use native.Mathlib.Omega.{arith}
 use lib.ListN.{length}
@@ -8,9 +8,9 @@ use mathlib.Core.Path.{_≡_, refl, _∙_}
 use borrow.Author.Needs.{needs}
 use Rattle.confirming.proofs.confirming_changes.Statement.{statement}
 use Rattle.confirming.proofs.confirming_changes.Tie as tie
-use Rattle.distance.proofs.dijkstra.dijkstra.Reads as dijkstra-reads
-use Rattle.distance.proofs.relax.relax_all.Reads as relax-all-reads
-use Rattle.distance.proofs.search.start.Reads as start-reads
+use Rattle.search.proofs.dijkstra.dijkstra.Reads as dijkstra-reads
+use Rattle.search.proofs.relax.relax_all.Reads as relax-all-reads
+use Rattle.search.proofs.shortest.start.Reads as start-reads
 use Rattle.tables.proofs.access.of32.Reads as of32-reads
 
 start-requires : tie.Need-start-requires

@@ -3,7 +3,7 @@ use mathlib.Core.Path.{refl, _∙_}
 use borrow.Author.Needs.{needs}
 use Rattle.distance.proofs.measure.search_cleared.Statement.{statement}
 use Rattle.distance.proofs.measure.search_cleared.Tie as tie
-use Rattle.distance.proofs.search.search.Reads as search-reads
+use Rattle.search.proofs.shortest.search.Reads as search-reads
 use Rattle.tables.proofs.whole.clear_tables.Reads as clear-tables-reads
 
 search-requires : tie.Need-search-requires

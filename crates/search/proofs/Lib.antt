@@ -1,0 +1,6 @@
+pub mod Edges
+pub mod Counting
+pub mod Settled
+pub mod Relaxing
+pub mod Rounds
+pub mod Answers

@@ -1,0 +1,138 @@
+// Dijkstra's order over the chains, as a hint: the vertices with the least distances come first, and neither leaves nor regular vertices
+// are queued. What is proved is that the distances stay grounded, which they do in every order.
+use crate::chains::follow_both;
+use crate::chains::link_all;
+use crate::heap::pop;
+use crate::heap::push;
+use tables::access::of16;
+use tables::access::of32;
+ghost use Rattle.search.specs.Search.{Searchable, Grounded};
+
+// Follows the chains from vertex v, two at a time. The answer is the heap's size.
+fn scan(
+    ends: &[u16],
+    lengths: &[u32],
+    edges: u16,
+    heads: &[u16],
+    heap: &mut [u16],
+    next: &[u16],
+    distances: &mut [u32],
+    keys: &mut [u32],
+    goal: u16,
+    from: u16,
+    v: u16,
+    queued: u16,
+) -> u16
+    requires { ⌜ Searchable (now ends) (now lengths) edges × Grounded (now ends) (now lengths) edges goal (now distances) ⌝ }
+    ensures { λ _. ⌜ Grounded (now (ends .entry)) (now (lengths .entry)) edges goal (now (distances .exit)) ⌝ }
+{
+    let mut size = queued;
+    let mut j = of16(heads, v);
+    let mut left: u16 = 8192;
+    while 0 < left {
+        if j == 0 {
+            break;
+        }
+        let k = of16(next, j);
+        size = follow_both(
+            ends,
+            lengths,
+            edges,
+            heads,
+            heap,
+            next,
+            distances,
+            keys,
+            goal,
+            from,
+            j,
+            k,
+            size,
+        );
+        j = of16(next, k);
+        left -= 1;
+    }
+    size
+}
+
+// Scans the queued vertices, the least distance first, until none is nearer than vertex from.
+fn scan_all(
+    ends: &[u16],
+    lengths: &[u32],
+    edges: u16,
+    heads: &[u16],
+    heap: &mut [u16],
+    next: &[u16],
+    distances: &mut [u32],
+    keys: &mut [u32],
+    goal: u16,
+    from: u16,
+    queued: u16,
+)
+    requires { ⌜ Searchable (now ends) (now lengths) edges × Grounded (now ends) (now lengths) edges goal (now distances) ⌝ }
+    ensures { λ _. ⌜ Grounded (now (ends .entry)) (now (lengths .entry)) edges goal (now (distances .exit)) ⌝ }
+{
+    let mut size = queued;
+    let mut left: u16 = 4096;
+    while 0 < left {
+        if size == 0 {
+            break;
+        }
+        if of32(distances, from) <= of32(keys, 1) {
+            break;
+        }
+        let v = of16(heap, 1);
+        size = pop(heap, keys, v, size);
+        size = scan(
+            ends,
+            lengths,
+            edges,
+            heads,
+            heap,
+            next,
+            distances,
+            keys,
+            goal,
+            from,
+            v,
+            size,
+        );
+        left -= 1;
+    }
+}
+
+// Tries edges in Dijkstra's order, from the goal on, where there is room for a list of each vertex.
+pub fn dijkstra(
+    ends: &[u16],
+    lengths: &[u32],
+    edges: u16,
+    heads: &mut [u16],
+    heap: &mut [u16],
+    next: &mut [u16],
+    distances: &mut [u32],
+    keys: &mut [u32],
+    goal: u16,
+    from: u16,
+)
+    requires { ⌜ Searchable (now ends) (now lengths) edges × Grounded (now ends) (now lengths) edges goal (now distances) ⌝ }
+    ensures { λ _. ⌜ Grounded (now (ends .entry)) (now (lengths .entry)) edges goal (now (distances .exit)) ⌝ }
+{
+    if heads.len() < 4096 {
+        return;
+    }
+    link_all(ends, heads, next, edges);
+    let queued = push(heap, keys, goal, 0, 0);
+    scan_all(
+        ends,
+        lengths,
+        edges,
+        heads,
+        heap,
+        next,
+        distances,
+        keys,
+        goal,
+        from,
+        queued,
+    );
+}

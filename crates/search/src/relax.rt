@@ -1,0 +1,103 @@
+// Edges that lower tentative distances, and rounds over all edges until none does.
+use crate::access::get16;
+use crate::access::get32;
+use crate::access::set32;
+use tables::access::of32;
+ghost use mathlib.Core.Path.{_≡_};
+ghost use Prim.Native.Nat.{_<_, min, max};
+ghost use Rattle.search.specs.Search.{Searchable, Within, Grounded, Relaxed, Round, Settled, Counted};
+
+// The answer of a step that lowered nothing: no vertex has this number.
+pub const NONE: u16 = 65535;
+
+fn least(a: u32, b: u32) -> u32
+    ensures { λ r. ⌜ r ≡ min a b ⌝ }
+{
+    if a < b { a } else { b }
+}
+
+fn greatest(a: u32, b: u32) -> u32
+    ensures { λ r. ⌜ r ≡ max a b ⌝ }
+{
+    if a < b { b } else { a }
+}
+
+// Tries edge e: one of its ends may get a lesser distance from the other, where that is below best. The answer is the vertex whose
+// distance is less now. An edge as long as best lowers nothing below it; for the others one test decides, which a confirming round
+// never mispredicts.
+pub fn relax(ends: &[u16], lengths: &[u32], distances: &mut [u32], e: u16, best: u32) -> u16
+    requires { ⌜ Within (now ends) (now lengths) (now distances) e ⌝ }
+    ensures { λ r. ⌜ Relaxed (now (ends .entry)) (now (lengths .entry)) (now (distances .entry)) (now (distances .exit)) best e r ⌝ }
+{
+    let len = get32(lengths, e);
+    if best <= len {
+        return NONE;
+    }
+    let i = 2 * (e as usize);
+    let a = get16(ends, i);
+    let b = get16(ends, i + 1);
+    let da = get32(distances, a);
+    let db = get32(distances, b);
+    let sum = least(da, db) + len;
+    if least(best, greatest(da, db)) <= sum {
+        return NONE;
+    }
+    if da < db {
+        set32(distances, b, sum);
+        return b;
+    }
+    set32(distances, a, sum);
+    a
+}
+
+// One more change, unless the step lowered nothing.
+fn counted(changes: u16, r: u16) -> u16
+    requires { ⌜ changes < 65535 ⌝ }
+    ensures { λ n. ⌜ Counted changes r n ⌝ }
+{
+    if r == NONE { changes } else { changes + 1 }
+}
+
+// A round over all edges. The answer is the number of changes.
+pub fn relax_all(
+    ends: &[u16],
+    lengths: &[u32],
+    distances: &mut [u32],
+    edges: u16,
+    goal: u16,
+    best: u32,
+) -> u16
+    requires { ⌜ Searchable (now ends) (now lengths) edges × Grounded (now ends) (now lengths) edges goal (now distances) ⌝ }
+    ensures { λ r. ⌜ Round (now (ends .entry)) (now (lengths .entry)) edges goal (now (distances .entry)) (now (distances .exit)) best r ⌝ }
+{
+    let mut changes: u16 = 0;
+    let mut e: u16 = 0;
+    while e < edges {
+        let r = relax(ends, lengths, distances, e, best);
+        changes = counted(changes, r);
+        e += 1;
+    }
+    changes
+}
+
+// Rounds until nothing changes: then no edge lowers a distance below that of vertex from. After a search in the right order this is one
+// round, which finds nothing to do. After any other it is more rounds and the same answer: that is why the order needs no proof.
+pub fn settle(
+    ends: &[u16],
+    lengths: &[u32],
+    distances: &mut [u32],
+    edges: u16,
+    goal: u16,
+    from: u16,
+)
+    requires { ⌜ Searchable (now ends) (now lengths) edges × Grounded (now ends) (now lengths) edges goal (now distances) ⌝ }
+    ensures { λ _. ⌜ Settled (now (ends .entry)) (now (lengths .entry)) edges goal from (now (distances .exit)) ⌝ }
+{
+    loop {
+        let best = of32(distances, from);
+        let changes = relax_all(ends, lengths, distances, edges, goal, best);
+        if changes == 0 {
+            return;
+        }
+    }
+}

@@ -1,0 +1,82 @@
+// The least length of a way between two vertices.
+use crate::dijkstra::dijkstra;
+use crate::relax::settle;
+use tables::access::of32;
+use tables::access::put32;
+ghost use mathlib.Core.Path.{_≡_};
+ghost use mathlib.Core.Logic.{_≢_};
+ghost use mathlib.Core.List.{List};
+ghost use Prim.Native.Nat.{ℕ, _≤_, _<_};
+ghost use lib.ListN.{length, getD};
+ghost use Rattle.model.specs.Basics.{maxVertices};
+ghost use Rattle.model.specs.Tables.{edgesIn};
+ghost use Rattle.model.specs.Distance.{distance};
+ghost use Rattle.tables.specs.Steps.{tables};
+ghost use Rattle.search.specs.Search.{Searchable, Started, unreached, measuredIn};
+
+// A distance in millimetres, or that there is no way.
+pub enum Measured {
+    Joined(u32),
+    NotJoined,
+}
+
+// Above every distance, which is at most 409,600,000; with an edge's length more it still fits 32 bits.
+pub const UNREACHED: u32 = 4000000000;
+
+// No vertex is reached but the goal.
+pub fn start(distances: &mut [u32], goal: u16)
+    requires { ⌜ goal < length (now distances) ⌝ }
+    ensures { λ _. ⌜ Started (now (distances .exit)) goal ⌝ }
+{
+    let mut i = 0;
+    while i < distances.len() {
+        distances[i] = UNREACHED;
+        i += 1;
+    }
+    put32(distances, goal as usize, 0);
+}
+
+// The answer for a settled distance.
+fn answer_of(distance: u32) -> Measured
+    ensures { λ r. ⌜ (distance < unreached → r ≡ Measured.Joined distance) × (unreached ≤ distance → r ≡ Measured.NotJoined) ⌝ }
+{
+    if distance < UNREACHED {
+        Measured::Joined(distance)
+    } else {
+        Measured::NotJoined
+    }
+}
+
+// The distance between two vertices. The five scratch tables are all 0 at the start, or the search is slower; they end in any state.
+pub fn search(
+    ends: &[u16],
+    lengths: &[u32],
+    edges: u16,
+    from: u16,
+    to: u16,
+    heads: &mut [u16],
+    heap: &mut [u16],
+    next: &mut [u16],
+    distances: &mut [u32],
+    keys: &mut [u32],
+) -> Measured
+    requires { ⌜ Searchable (now ends) (now lengths) edges × ((from < maxVertices) × ((to < maxVertices) × (maxVertices ≤ length (now distances)))) ⌝ }
+    ensures { λ r. ⌜ ((degrees sides labels : List ℕ) → measuredIn r
+        ≡ distance (edgesIn (tables degrees sides (now (ends .entry)) (now (lengths .entry)) labels) edges) from to) ⌝ }
+{
+    start(distances, to);
+    dijkstra(
+        ends,
+        lengths,
+        edges,
+        heads,
+        heap,
+        next,
+        distances,
+        keys,
+        to,
+        from,
+    );
+    settle(ends, lengths, distances, edges, to, from);
+    answer_of(of32(distances, from))
+}
