@@ -52,12 +52,12 @@ pub fn case_of_other(first: Class, second: Class) -> Case
 {
     match first {
         Class::Regular => case_of_regular(second),
-        Class::Isolated | Class::Leaf | Class::Branch => case_of_junction(second),
+        Class::Isolated | Class::Leaf | Class::Branch => case_of_singular(second),
     }
 }
 
-// The first end is a junction that is no leaf: an isolated one and a branch make the same cases.
-pub fn case_of_junction(second: Class) -> Case
+// The first end is singular and no leaf: an isolated vertex and a branch make the same cases.
+pub fn case_of_singular(second: Class) -> Case
     ensures { λ r. ⌜ caseIn r ≡ caseOf isolated (classIn second) ⌝ }
 {
     match second {

@@ -11,8 +11,8 @@ enum-told c = search needs
 case-of-regular-requires : tie.Need-case-of-regular-requires
 case-of-regular-requires c κs = search needs
 
-case-of-junction-requires : tie.Need-case-of-junction-requires
-case-of-junction-requires c κs = search needs
+case-of-singular-requires : tie.Need-case-of-singular-requires
+case-of-singular-requires c κs = search needs
 
 returns : tie.Need-returns
 unfolding leafless
@@ -21,7 +21,7 @@ returns c = rw (c .before .enum-told .given .1) (c .case-of-regular .ensures)
 returns-2 : tie.Need-returns-2
 returns-2 c =
     let known = c .before .before .args in
-    c .case-of-junction .ensures ∙ not-regular (known .first) (classIn (known .second)) (c .before .match .keys2)
+    c .case-of-singular .ensures ∙ not-regular (known .first) (classIn (known .second)) (c .before .match .keys2)
 
 pub case-of-other-spec : {M : Type 1} → statement M
-case-of-other-spec = tie.close (tie.spec enum-told case-of-regular-requires case-of-junction-requires returns returns-2)
+case-of-other-spec = tie.close (tie.spec enum-told case-of-regular-requires case-of-singular-requires returns returns-2)
