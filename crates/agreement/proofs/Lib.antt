@@ -12,7 +12,6 @@ pub mod Growing
 pub mod Cases
 pub mod Inserting
 pub mod Landing
-pub mod Listing
 pub mod Replay
 pub mod Calls
 pub mod Chaining

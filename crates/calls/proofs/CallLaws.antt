@@ -13,7 +13,8 @@ use Rattle.model.proofs.Series.OnlyHeld.{only-held}
 use Rattle.agreement.proofs.Calls.{all-fit, zeroed-cleared, sizes-refused}
 use Rattle.register.specs.Listing.{ReadIn, landListIn}
 use Rattle.register.specs.Meaning.{lent}
-use Rattle.register.proofs.Grown.{grownFrom, list-leaves, list-lands}
+use Rattle.register.proofs.Listing.{readIn, list-agrees}
+use Rattle.register.proofs.Grown.{list-leaves}
 use Rattle.admission.specs.Gate.{barred, zeroedIf}
 use Rattle.admission.proofs.GateLaws.{gate-bars, gate-admits}
 
@@ -24,7 +25,7 @@ outcomeOf t c s a = record { lent = lent t c s; slice = []; reply = a }
 module _ (t : Tables) (c : Counts) (s : Tables) (bs : List ℕ) where
   -- a list that was read into the register r
   read-out : (call : Call) (r : Register) (g : Read) (d : ReadIn) (s′ : Tables) → gate call (lent t c s) ≡ admits r → effect call r ≡ readEffect g
-      → d ≡ grownFrom g → s′ ≡ scratchAfter (lent t c s) → outcomeOf (d .tables) (d .counts) s′ (d .reply) ≡ step call (lent t c s)
+      → d ≡ readIn g → s′ ≡ scratchAfter (lent t c s) → outcomeOf (d .tables) (d .counts) s′ (d .reply) ≡ step call (lent t c s)
   unfolding step readEffect storedOf
   read-out call r g d s′ p q f e = rw (f, e, p, step, q)
 
@@ -55,7 +56,7 @@ module _ (t : Tables) (c : Counts) (s : Tables) (bs : List ℕ) where
       let both = all-fit (lent t c s) h in
       let i : t′ ≡ cleared = a ∙ rw e (zeroed-cleared t (both .0)) in
       let j : s′ ≡ cleared = b ∙ rw e (zeroed-cleared s (both .1)) in
-      let g : landListIn t′ k bs ≡ grownFrom (growList bs) = rw (i, n) (list-leaves bs) in
+      let g : landListIn t′ k bs ≡ readIn (growList bs) = rw (i, n) (list-leaves bs) in
       read-out (grows bs) empty (growList bs) d s′ (gate-grows h) refl (q ∙ g) (j ∙ scratch-is h)
 
   -- ---- land
@@ -74,5 +75,5 @@ module _ (t : Tables) (c : Counts) (s : Tables) (bs : List ℕ) where
       let o = only-held _ r (k .1) in
       let i : tablesOf r ≡ t = ap (λ (x : Stored). x .tables) (sym (o .stored-is)) in
       let j : countsOf r ≡ c = ap (λ (x : Stored). x .counts) (sym (o .stored-is)) in
-      let g : landListIn t c bs ≡ grownFrom (landList r bs) = rw (i, j) at (list-lands r bs (o .reachable)) in
+      let g : landListIn t c bs ≡ readIn (landList r bs) = rw (i, j) at (list-agrees r bs (o .reachable)) in
       read-out (lands bs) r (landList r bs) d s′ (k .2) refl (q ∙ g) e

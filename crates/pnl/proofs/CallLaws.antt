@@ -18,7 +18,8 @@ use Rattle.agreement.proofs.Growing.{few}
 use Rattle.agreement.proofs.Sheeting.{sheet-agrees}
 use Rattle.agreement.proofs.Finding.{reach-agrees}
 use Rattle.register.specs.Listing.{ReadIn, landListIn}
-use Rattle.register.proofs.Grown.{grownFrom, list-leaves, growList-grown}
+use Rattle.register.proofs.Listing.{readIn}
+use Rattle.register.proofs.Grown.{list-leaves, growList-grown}
 use Rattle.lookups.proofs.AnswerLaws.{find-answers}
 use Rattle.search.specs.Search.{Searchable}
 use Rattle.distance.specs.Measure.{measureIn}
@@ -61,7 +62,7 @@ countsOr k (stoppedIn x) = k
 
 -- a register and the tables, the counts and the stop that a list leaves
 module _ (bs : List ℕ) (t : Tables) (a : GrownIn) (e : growth t a ≡ growthOf (landListIn cleared noCounts bs)) where
-  left : growth t a ≡ growthOf (grownFrom (growList bs))
+  left : growth t a ≡ growthOf (readIn (growList bs))
   left = e ∙ ap growthOf (list-leaves bs)
 
   left-tables : t ≡ tablesOf ((growList bs) .register)

@@ -16,7 +16,8 @@ use Rattle.queries.specs.Chains.{rowsIn, sheetIn}
 use Rattle.agreement.proofs.Growing.{Grown, room}
 use Rattle.agreement.proofs.Sheeting.{sheet-agrees}
 use Rattle.register.specs.Listing.{ReadIn, landListIn}
-use Rattle.register.proofs.Grown.{grownFrom, list-leaves, growList-grown}
+use Rattle.register.proofs.Listing.{readIn}
+use Rattle.register.proofs.Grown.{list-leaves, growList-grown}
 use Rattle.io.specs.Counts.{Counts as Counted}
 use Rattle.text.specs.Pages.{Page, page, write}
 use Rattle.text.proofs.Writing.{write-two, write-at, write-fits, write-room}
@@ -68,7 +69,7 @@ pub prints : (bs out : List ℕ) (d : ReadIn) (c : Counts) (q : Page) → length
     → Counted (q .at) (q .bytes) × (take (q .at) (q .bytes) ≡ printed bs)
 prints bs out d c q h l n e f b =
     let g : Grown ((growList bs) .register) = growList-grown bs in
-    let i : d ≡ grownFrom (growList bs) = e ∙ ap (λ (k : Counts). landListIn cleared k bs) n ∙ list-leaves bs in
+    let i : d ≡ readIn (growList bs) = e ∙ ap (λ (k : Counts). landListIn cleared k bs) n ∙ list-leaves bs in
     let k : d .counts .edges ≡ (countsOf ((growList bs) .register)) .edges = ap (λ (z : ReadIn). z .counts .edges) i in
     let few : q .at ≤ 225384 = omega (arith, k, edges-few ((growList bs) .register) g) in
     let x : listingIn (d .tables) (d .counts) (d .reply) ≡ listing (growList bs) =

@@ -1,4 +1,4 @@
 pub mod Same
 pub mod ListingLaws
-pub mod Ties
+pub mod Listing
 pub mod Grown

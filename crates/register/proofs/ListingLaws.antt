@@ -1,20 +1,18 @@
 -- The ways out of landing one record, and a turn of the loop over records.
-use mathlib.Core.Path.{_≡_, refl, sym, ap, _∙_}
+use mathlib.Core.Path.{_≡_, refl, ap}
 use Prim.Native.Nat.{ℕ, zero, suc, _+_, _-_, _≤_, _<_}
 use native.Mathlib.Nat.{not-suc-le-zero}
 use native.Mathlib.Numerals.{sub-one}
 use mathlib.Core.List.{List}
 use lib.ListN.{length}
 use borrow.Author.Tests.{le-leb, lt-leb}
-use Rattle.model.specs.Basics.{maxVertices}
 use Rattle.model.specs.Graph.{Edge}
-use Rattle.model.specs.Format.{Stop, whole, stopped}
+use Rattle.model.specs.Format.{whole, stopped}
 use Rattle.model.specs.Tables.{Tables, Counts}
 use Rattle.tables.specs.Steps.{more16}
-use Rattle.insertion.specs.Insertion.{AnswerIn, done, refusedIn, LandingIn, landingIn, counts, landIn}
-use Rattle.agreement.specs.Listing.{landVertexIn}
-use Rattle.list.specs.Reading.{HeaderAt, good, badHeader, RecordAt, ends, vertexTo, edgeTo, badRecord, headerAt, recordAt}
-use Rattle.register.specs.Listing.{StepIn, ended, wentOn, stoppedIn, SteppedIn, steppedIn, stepOf, landRecordIn, ReadIn, readIn, landRecordsIn, landListIn}
+use Rattle.insertion.specs.Insertion.{AnswerIn, done, refusedIn, landingIn, counts, landIn}
+use Rattle.list.specs.Reading.{good, badHeader, RecordAt, ends, vertexTo, edgeTo, badRecord, headerAt, recordAt}
+use Rattle.register.specs.Listing.{StepIn, ended, wentOn, stoppedIn, SteppedIn, steppedIn, stepOf, landVertexIn, landRecordIn, ReadIn, readingIn, landRecordsIn, landListIn}
 
 -- ---- a vertex
 
@@ -56,19 +54,19 @@ step-of : {x y : SteppedIn} → x ≡ y → x .step ≡ y .step
 step-of e = ap (λ (s : SteppedIn). s .step) e
 
 module _ (bs : List ℕ) where
-  pub records-none : (n k : ℕ) (t : Tables) (c : Counts) (i : ℕ) → n ≤ 0 → readIn t c whole ≡ landRecordsIn bs n k t c i
+  pub records-none : (n k : ℕ) (t : Tables) (c : Counts) (i : ℕ) → n ≤ 0 → readingIn t c whole ≡ landRecordsIn bs n k t c i
   unfolding landRecordsIn
   records-none zero k t c i h = refl
   records-none (suc n) k t c i h = absurd (not-suc-le-zero h)
 
   pub records-end : (n k : ℕ) (t t′ : Tables) (c : Counts) (i : ℕ) → 0 < n → steppedIn t′ ended ≡ landRecordIn t c (recordAt bs i)
-      → readIn t′ c whole ≡ landRecordsIn bs n k t c i
+      → readingIn t′ c whole ≡ landRecordsIn bs n k t c i
   unfolding landRecordsIn
   records-end zero k t t′ c i h e = absurd (not-suc-le-zero h)
   records-end (suc n) k t t′ c i h e = rw (← step-of e, landRecordsIn, ← tables-of e)
 
   pub records-stop : (n k : ℕ) (t t′ : Tables) (c : Counts) (i x : ℕ) → 0 < n → steppedIn t′ (stoppedIn x) ≡ landRecordIn t c (recordAt bs i)
-      → readIn t′ c (stopped k x) ≡ landRecordsIn bs n k t c i
+      → readingIn t′ c (stopped k x) ≡ landRecordsIn bs n k t c i
   unfolding landRecordsIn
   records-stop zero k t t′ c i x h e = absurd (not-suc-le-zero h)
   records-stop (suc n) k t t′ c i x h e = rw (← step-of e, landRecordsIn, ← tables-of e)
@@ -86,6 +84,6 @@ pub list-records : (t : Tables) (c : Counts) (bs : List ℕ) (i : ℕ) (d : Read
 unfolding landListIn
 list-records t c bs i d e f = rw (← e, landListIn) f
 
-pub list-bad : (t : Tables) (c : Counts) (bs : List ℕ) (x : ℕ) → badHeader x ≡ headerAt bs → readIn t c (stopped 0 x) ≡ landListIn t c bs
+pub list-bad : (t : Tables) (c : Counts) (bs : List ℕ) (x : ℕ) → badHeader x ≡ headerAt bs → readingIn t c (stopped 0 x) ≡ landListIn t c bs
 unfolding landListIn
 list-bad t c bs x e = rw (← e, landListIn)

@@ -2,11 +2,13 @@
 use Prim.Native.Nat.{ℕ, zero, suc, _+_}
 use mathlib.Core.List.{List}
 use lib.ListN.{length}
+use lib.Dec.{leb}
+use Rattle.model.specs.Basics.{if_then_else_, maxVertices}
 use Rattle.model.specs.Format.{Stop, whole, stopped}
 use Rattle.model.specs.Queries.{Reply, read}
 use Rattle.model.specs.Tables.{Tables, Counts}
+use Rattle.tables.specs.Steps.{more16}
 use Rattle.insertion.specs.Insertion.{AnswerIn, done, refusedIn, counts, landIn}
-use Rattle.agreement.specs.Listing.{landVertexIn}
 use Rattle.list.specs.Reading.{good, RecordAt, ends, vertexTo, edgeTo, badHeader, badRecord, headerAt, recordAt}
 
 -- what stands behind a record: the end of the list; the counts and the next index; or the record's refusal
@@ -26,6 +28,12 @@ abbrev pub stepOf : ℕ → AnswerIn → StepIn
 stepOf i (done c) = wentOn c i
 stepOf i (refusedIn x) = stoppedIn x
 
+-- a vertex changes the counts alone
+unfoldable pub landVertexIn : Counts → AnswerIn
+landVertexIn c =
+    if leb maxVertices (c .vertices) then refusedIn 22
+    else done (counts (more16 (c .vertices)) (c .edges) (c .blocks) (c .relabellings))
+
 -- the record at index i
 unfoldable pub landRecordIn : Tables → Counts → RecordAt → SteppedIn
 landRecordIn t c ends = steppedIn t ended
@@ -39,23 +47,23 @@ pub record ReadIn : Type 0 where
   pub counts : Counts
   pub reply : Reply
 
-abbrev pub readIn : Tables → Counts → Stop → ReadIn
-readIn t c s = record { tables = t; counts = c; reply = read s }
+abbrev pub readingIn : Tables → Counts → Stop → ReadIn
+readingIn t c s = record { tables = t; counts = c; reply = read s }
 
 -- the records from number k on, which stands at index i; at most n
 unfoldable pub landRecordsIn : List ℕ → ℕ → ℕ → Tables → Counts → ℕ → ReadIn
-landRecordsIn bs zero k t c i = readIn t c whole
+landRecordsIn bs zero k t c i = readingIn t c whole
 landRecordsIn bs (suc n) k t c i =
     let s = landRecordIn t c (recordAt bs i) in
     elim (s .step) [
-      | ended ↦ readIn (s .tables) c whole
+      | ended ↦ readingIn (s .tables) c whole
       | wentOn c′ i′ ↦ landRecordsIn bs n (k + 1) (s .tables) c′ i′
-      | stoppedIn x ↦ readIn (s .tables) c (stopped k x)
+      | stoppedIn x ↦ readingIn (s .tables) c (stopped k x)
     ]
 
 unfoldable pub landListIn : Tables → Counts → List ℕ → ReadIn
 landListIn t c bs =
     elim (headerAt bs) [
       | good i ↦ landRecordsIn bs (length bs) 0 t c i
-      | badHeader x ↦ readIn t c (stopped 0 x)
+      | badHeader x ↦ readingIn t c (stopped 0 x)
     ]

@@ -15,9 +15,8 @@ ghost use lib.ListN.{length};
 ghost use Rattle.counters.specs.Answers.{countsIn};
 ghost use Rattle.tables.specs.Steps.{tables};
 ghost use Rattle.insertion.specs.Meaning.{answerIn};
-ghost use Rattle.agreement.specs.Listing.{landVertexIn};
 ghost use Rattle.list.specs.Reading.{recordAt};
-ghost use Rattle.register.specs.Listing.{stepOf, steppedIn, landRecordIn, landRecordsIn, landListIn};
+ghost use Rattle.register.specs.Listing.{landVertexIn, stepOf, steppedIn, landRecordIn, landRecordsIn, landListIn};
 ghost use Rattle.register.specs.Meaning.{stepMeans, landingMeans};
 
 // What stands behind a record: the end of the list; the counts and the next record; or the record's refusal.
