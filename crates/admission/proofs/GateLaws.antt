@@ -1,6 +1,6 @@
 -- The ways out of the gate: from the test of sizes and the replay to the refusal before a call and the scratch that is left; and what the
 -- gate tells of the call.
-use mathlib.Core.Path.{_≡_, refl, sym, ap, _∙_}
+use mathlib.Core.Path.{_≡_, refl, sym, ap, _∙_, subst}
 use Prim.Native.Nat.{ℕ}
 use native.Mathlib.Omega.{arith}
 use mathlib.Core.Bool.{Bool, true, false, _&&_}
@@ -9,14 +9,11 @@ use Rattle.model.specs.Register.{Register}
 use Rattle.model.specs.Tables.{Tables, Counts, fits, cleared, held}
 use Rattle.model.specs.Calls.{Call, Lent, admits, allFit, bars, gate, registerFor, scratchAfter}
 use Rattle.tables.specs.Steps.{zeroed}
-use Rattle.insertion.specs.Insertion.{done, landingIn}
-use Rattle.agreement.specs.Replay.{growIn}
 use Rattle.agreement.proofs.Calls.{zeroed-cleared}
-use Rattle.agreement.proofs.Replay.{replay-held, replay-none, stored}
-use Rattle.admission.specs.Replay.{regrowIn, Regrows}
 use Rattle.register.specs.Meaning.{lent}
-use Rattle.admission.proofs.ReplayLaws.{false-true}
-use Rattle.admission.proofs.Ties.{regrow-is}
+use Rattle.holding.specs.Replay.{Regrows}
+use Rattle.holding.proofs.ReplayLaws.{false-true}
+use Rattle.holding.proofs.Held.{replay-held, replay-none, stored}
 use Rattle.admission.specs.Gate.{barred}
 
 module _ (t : Tables) (c : Counts) (s : Tables) where
@@ -40,8 +37,8 @@ module _ (t : Tables) (c : Counts) (s : Tables) where
     scratch-is s′ e = rw (h, k) (e ∙ zeros-are)
 
     -- the replay in cleared scratch is the one that decides refusal 21
-    regrown-is : regrowIn (t .ends) (t .lengths) c (zeroed s) ≡ growIn t c
-    regrown-is = rw zeros-are (regrow-is t c)
+    regrows-cleared : (r : Bool) → Regrows r t c (zeroed s) → Regrows r t c cleared
+    regrows-cleared r g = subst (λ (u : Tables). Regrows r t c u) zeros-are g
 
     held-none : held (stored t c) ≡ none → some 21 ≡ barred (lent t c s)
     unfolding barred allFit
@@ -54,14 +51,14 @@ module _ (t : Tables) (c : Counts) (s : Tables) where
     pub gate-not-grown : (s′ : Tables) (r : Bool) → s′ ≡ zeroed s → Regrows r t c (zeroed s) → r ≡ false
         → (some 21 ≡ barred (lent t c s)) × (s′ ≡ scratchAfter (lent t c s))
     gate-not-grown s′ r b g e =
-        let n : growIn t c ≡ landingIn t (done c) → ⊥ = λ q. false-true (sym e ∙ g .true-if (regrown-is ∙ q)) in
-        (held-none (replay-none t c n), scratch-is s′ b)
+        let k = regrows-cleared r g in
+        (held-none (replay-none t c (λ q. false-true (sym e ∙ k .true-if q))), scratch-is s′ b)
 
     pub gate-open : (s′ : Tables) (r : Bool) → s′ ≡ zeroed s → Regrows r t c (zeroed s) → r ≡ true
         → (none ≡ barred (lent t c s)) × (s′ ≡ scratchAfter (lent t c s))
     gate-open s′ r b g e =
-        let o = replay-held t c (sym regrown-is ∙ g .if-true e) in
-        (held-some (o .0) (o .1 .held-is), scratch-is s′ b)
+        let o = replay-held t c ((regrows-cleared r g) .if-true e) in
+        (held-some (o .0) (o .1), scratch-is s′ b)
 
 some-is : (m n : ℕ) → some m ≡ some n → m ≡ n
 some-is m n e = cc

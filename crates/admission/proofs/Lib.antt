@@ -1,4 +1,2 @@
 pub mod SizeLaws
-pub mod ReplayLaws
-pub mod Ties
 pub mod GateLaws

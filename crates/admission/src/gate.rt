@@ -1,8 +1,8 @@
 // The gate before a call: refusal 25, then 21; for grow 25 alone, and the clearing.
-use crate::replay::is_held;
 use crate::sizes::sizes_fit;
 use counters::counts::Counts;
 use counters::refusals::Refusal;
+use holding::replay::is_held;
 use tables::whole::clear_tables;
 ghost use mathlib.Core.Path.{_≡_};
 ghost use mathlib.Core.Bool.{_&&_};

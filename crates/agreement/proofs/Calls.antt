@@ -12,7 +12,6 @@ use Rattle.model.proofs.Basics.Booleans.{and-true}
 use Rattle.model.proofs.Series.Facts.{step-refused}
 use Rattle.model.proofs.Series.OnlyHeld.{eqList-true}
 use Rattle.agreement.proofs.Landing.{tables-are}
-use Rattle.agreement.proofs.Replay.{stored}
 
 pub all-fit : (l : Lent) → allFit l ≡ true → (fits (l .stored .tables) ≡ true) × (fits (l .scratch) ≡ true)
 unfolding allFit

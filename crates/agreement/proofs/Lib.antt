@@ -1,3 +1,4 @@
+pub mod Same
 pub mod Lists
 pub mod Relabelled
 pub mod Linked
@@ -12,7 +13,6 @@ pub mod Growing
 pub mod Cases
 pub mod Inserting
 pub mod Landing
-pub mod Replay
 pub mod Calls
 pub mod Chaining
 pub mod Lowest

@@ -1,4 +1,3 @@
-pub mod Same
 pub mod ListingLaws
 pub mod Listing
 pub mod Grown

@@ -4,7 +4,7 @@ use Rattle.admission.proofs.GateLaws.{gate-tables, gate-scratch, gate-n
 use borrow.Author.Needs.{needs}
 use Rattle.admission.proofs.gate.pass_gate.Statement.{statement}
 use Rattle.admission.proofs.gate.pass_gate.Tie as tie
-use Rattle.admission.proofs.replay.is_held.Reads as is-held-reads
+use Rattle.holding.proofs.replay.is_held.Reads as is-held-reads
 use Rattle.admission.proofs.sizes.sizes_fit.Reads as sizes-fit-reads
 
 sizes-fit-requires : tie.Need-sizes-fit-requires

@@ -1,5 +1,5 @@
 use Rattle.register.proofs.ListingLaws.{records-none, records-end, records-stop, records-on}
-use Rattle.register.proofs.Same.{Same, same-refl}
+use Rattle.agreement.proofs.Same.{Same, same-refl}
 use Rattle.register.specs.Meaning.{stepMeans}
 use Rattle.register.specs.Listing.{steppedIn, landRecordsIn}
 use Rattle.tables.specs.Steps.{tables}

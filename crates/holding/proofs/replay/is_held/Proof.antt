@@ -1,10 +1,10 @@
 use mathlib.Core.Path.{_∙_}
-use Rattle.admission.proofs.ReplayLaws.{zeroed-again, regrows-on}
+use Rattle.holding.proofs.ReplayLaws.{zeroed-again, regrows-on}
 use borrow.Author.Needs.{needs}
-use Rattle.admission.proofs.replay.is_held.Statement.{statement}
-use Rattle.admission.proofs.replay.is_held.Tie as tie
-use Rattle.admission.proofs.replay.clear_behind.Reads as clear-behind-reads
-use Rattle.admission.proofs.replay.leaves_same.Reads as leaves-same-reads
+use Rattle.holding.proofs.replay.is_held.Statement.{statement}
+use Rattle.holding.proofs.replay.is_held.Tie as tie
+use Rattle.holding.proofs.replay.clear_behind.Reads as clear-behind-reads
+use Rattle.holding.proofs.replay.leaves_same.Reads as leaves-same-reads
 use Rattle.tables.proofs.whole.clear_tables.Reads as clear-tables-reads
 
 clear-tables-requires : tie.Need-clear-tables-requires

@@ -1,8 +1,8 @@
-use Rattle.admission.proofs.ReplayLaws.{counts-differ, counts-last}
+use Rattle.holding.proofs.ReplayLaws.{counts-differ, counts-last}
 use Rattle.model.specs.Tables.{Counts}
 use mathlib.Core.Path.{ap}
-use Rattle.admission.proofs.replay.same_counts.Statement.{statement}
-use Rattle.admission.proofs.replay.same_counts.Tie as tie
+use Rattle.holding.proofs.replay.same_counts.Statement.{statement}
+use Rattle.holding.proofs.replay.same_counts.Tie as tie
 
 returns : tie.Need-returns
 returns c = counts-differ _ _ (λ e. c .if1 .taken (ap (λ (c : Counts). c .vertices) e))

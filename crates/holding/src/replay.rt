@@ -11,9 +11,9 @@ ghost use mathlib.Core.Path.{_≡_};
 ghost use mathlib.Core.Bool.{true};
 ghost use Rattle.counters.specs.Answers.{countsIn};
 ghost use Rattle.tables.specs.Steps.{tables, zeroed};
-ghost use Rattle.insertion.specs.Insertion.{landingIn, done};
+ghost use Rattle.insertion.specs.Insertion.{landingIn};
 ghost use Rattle.insertion.specs.Meaning.{answerIn};
-ghost use Rattle.admission.specs.Replay.{replayIn, regrowIn, Regrows};
+ghost use Rattle.holding.specs.Replay.{replayIn, regrowIn, Regrows};
 
 // The first edges of the tables of ends and lengths, landed on other tables.
 fn replay(

@@ -1,9 +1,9 @@
 use native.Mathlib.Omega.{arith}
-use Rattle.admission.proofs.ReplayLaws.{replay-full, replay-all}
+use Rattle.holding.proofs.ReplayLaws.{replay-full, replay-all}
 use borrow.Author.Needs.{needs}
-use Rattle.admission.proofs.replay.regrow.Statement.{statement}
-use Rattle.admission.proofs.replay.regrow.Tie as tie
-use Rattle.admission.proofs.replay.replay.Reads as replay-reads
+use Rattle.holding.proofs.replay.regrow.Statement.{statement}
+use Rattle.holding.proofs.replay.regrow.Tie as tie
+use Rattle.holding.proofs.replay.replay.Reads as replay-reads
 
 returns : tie.Need-returns
 returns c = replay-full _ _ _ _ (c .if1 .taken)

@@ -1,16 +1,15 @@
-use Rattle.admission.proofs.ReplayLaws.{replay-none, replay-on, replay-refused}
-use Rattle.register.proofs.Same.{Same, same-refl}
-use Rattle.admission.specs.Replay.{replayIn}
+use Rattle.holding.proofs.ReplayLaws.{replay-end, replay-on, replay-refused}
+use Rattle.agreement.proofs.Same.{Same, same-refl}
+use Rattle.holding.specs.Replay.{replayIn}
 use Rattle.insertion.specs.Meaning.{answerIn}
-use Rattle.insertion.specs.Insertion.{landingIn}
 use Rattle.tables.specs.Steps.{tables}
 use Rattle.counters.specs.Answers.{countsIn}
 use native.Mathlib.Omega.{arith}
 use Prim.Native.Nat.{_+_, _*_, _≤_}
 use mathlib.Core.Path.{_≡_, refl, ap, sym, _∙_}
 use borrow.Author.Needs.{needs}
-use Rattle.admission.proofs.replay.replay.Statement.{statement}
-use Rattle.admission.proofs.replay.replay.Tie as tie
+use Rattle.holding.proofs.replay.replay.Statement.{statement}
+use Rattle.holding.proofs.replay.replay.Tie as tie
 use Rattle.insertion.proofs.landing.land_edge.Reads as land-edge-reads
 use Rattle.tables.proofs.access.at16.Reads as at16-reads
 use Rattle.tables.proofs.access.of32.Reads as of32-reads
@@ -147,7 +146,7 @@ same-length-10 : tie.Need-same-length-10 Inv-loop μ-loop
 same-length-10 c = c .before .loop .inv .1 .0 .labels
 
 returns-2 : tie.Need-returns-2 Inv-loop μ-loop
-returns-2 c = replay-none _ _ _ _ _ _ (c .loop-test .left) ∙ c .before .loop .inv .1 .1
+returns-2 c = replay-end _ _ _ _ _ _ (c .loop-test .left) ∙ c .before .loop .inv .1 .1
 
 pub replay-spec : {M : Type 1} → statement M
 replay-spec =

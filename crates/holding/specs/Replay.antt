@@ -1,18 +1,18 @@
 -- The tables' own edges landed again on other tables, as functions that mirror the code.
 use mathlib.Core.Path.{_≡_}
-use Prim.Native.Nat.{ℕ, zero, suc, _+_, _*_}
+use Prim.Native.Nat.{ℕ, zero, suc, _+_}
 use mathlib.Core.Bool.{Bool, true}
-use mathlib.Core.List.{List}
-use lib.ListN.{getD}
+use mathlib.Core.List.{List, []}
 use lib.Dec.{leb}
 use Rattle.model.specs.Basics.{if_then_else_, maxVertices}
 use Rattle.model.specs.Graph.{Edge}
-use Rattle.model.specs.Tables.{Tables, Counts}
-use Rattle.insertion.specs.Insertion.{AnswerIn, done, refusedIn, LandingIn, landingIn, counts, landIn}
+use Rattle.model.specs.Tables.{Tables, Counts, edgeIn}
+use Rattle.tables.specs.Steps.{tables}
+use Rattle.insertion.specs.Insertion.{done, refusedIn, LandingIn, landingIn, counts, landIn}
 
--- the edge number e of the tables of ends and lengths
+-- the edge number e; it stands in the tables of ends and lengths alone
 unfoldable pub ownEdge : List ℕ → List ℕ → ℕ → Edge
-ownEdge ends lengths e = record { first = getD ends (2 * e) 0; second = getD ends (2 * e + 1) 0; len = getD lengths e 0 }
+ownEdge ends lengths e = edgeIn (tables [] [] ends lengths []) e
 
 -- n such edges, from number e on, landed on t
 unfoldable pub replayIn : List ℕ → List ℕ → ℕ → ℕ → Tables → Counts → LandingIn

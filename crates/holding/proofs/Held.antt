@@ -5,21 +5,22 @@ use Prim.Native.Nat.{ℕ, zero, suc, _+_, _≤_, _<_}
 use native.Mathlib.Omega.{arith}
 use native.Mathlib.Decide.{decLe}
 use mathlib.Core.Option.{Option, none, some}
-use mathlib.Core.List.{List, [], _∷_}
+use mathlib.Core.List.{List, map}
 use borrow.Author.Tests.{le-leb, lt-leb}
-use Rattle.model.specs.Basics.{maxVertices}
+use Rattle.model.specs.Basics.{countFrom, maxVertices, upTo}
 use Rattle.model.specs.Graph.{Edge}
 use Rattle.model.specs.Register.{Landed, Register, empty, landEdge, landVertex, landed, refused, withVertex}
-use Rattle.model.specs.Tables.{Counts, Stored, Tables, cleared, countsOf, edgesIn, growFrom, held, landEdges, landVertices, storedOf, tablesOf}
+use Rattle.model.specs.Tables.{Counts, Stored, Tables, cleared, countsOf, edgeIn, edgesIn, growFrom, held, landEdges, landVertices, storedOf, tablesOf}
 use Rattle.model.specs.Notions.{with-edge}
 use Rattle.model.specs.Computing.{computing}
 use Rattle.insertion.specs.Insertion.{LandingIn, counts, done, landingIn, refusedIn}
-use Rattle.agreement.specs.Replay.{growIn, landAllIn}
 use Rattle.model.proofs.Series.Held.{grow-again, grown-from, onVertices, vertices-grow}
 use Rattle.model.proofs.Series.OnlyHeld.{grow-reaches, only-held}
 use Rattle.model.proofs.Series.Reachable.{vertex-lands}
 use Rattle.agreement.proofs.Growing.{Grown, empty-grown, grown-held, grown-regrows, vertices-grown}
 use Rattle.agreement.proofs.Landing.{edge-parts, shownIn}
+use Rattle.holding.specs.Replay.{ownEdge, regrowIn, replayIn}
+use Rattle.holding.proofs.ReplayLaws.{done-is, refused-done}
 
 -- ---- edges one after the other
 
@@ -28,19 +29,32 @@ abbrev pub Agrees : Landed → LandingIn → Type 0
 Agrees (landed r) l = l ≡ landingIn (tablesOf r) (done (countsOf r))
 Agrees (refused x) l = l .answer ≡ refusedIn x
 
-pub all-agree : (es : List Edge) (r : Register) → Grown r → Agrees (landEdges es r) (landAllIn es (tablesOf r) (countsOf r))
-unfolding landAllIn landEdges shownIn
-all-agree [] r g = refl
-all-agree (e ∷ es) r g = go (landEdge r e) refl (λ r′ h. all-agree es r′ h)
-  where
-    go : (l : Landed) → landEdge r e ≡ l → ((r′ : Register) → Grown r′ → Agrees (landEdges es r′) (landAllIn es (tablesOf r′) (countsOf r′)))
-        → Agrees (landEdges (e ∷ es) r) (landAllIn (e ∷ es) (tablesOf r) (countsOf r))
-    go (landed r′) q ih =
-        let p = edge-parts r e (landed r′) g q in
-        rw (q, p .0, landAllIn, landEdges, p .1) (ih r′ (with-edge e g q))
-    go (refused x) q ih =
-        let p = edge-parts r e (refused x) g q in
-        rw (q, p .0, landAllIn, landEdges) (p .0)
+module _ (own : Tables) where
+  own-is : (e : ℕ) → ownEdge (own .ends) (own .lengths) e ≡ edgeIn own e
+  unfolding ownEdge edgeIn
+  own-is e = refl
+
+  -- n edges from number e on
+  abbrev edgesFrom : ℕ → ℕ → List Edge
+  edgesFrom n e = map (edgeIn own) (countFrom e n)
+
+  pub replay-agrees : (n e : ℕ) (r : Register) → Grown r → Agrees (landEdges (edgesFrom n e) r) (replayIn (own .ends) (own .lengths) n e (tablesOf r) (countsOf r))
+  unfolding replayIn landEdges countFrom shownIn
+  replay-agrees zero e r g = refl
+  replay-agrees (suc n) e r g = go (landEdge r (edgeIn own e)) refl (λ r′ h. replay-agrees n (e + 1) r′ h)
+    where
+      next : e + 1 ≡ suc e
+      next = omega arith
+
+      go : (l : Landed) → landEdge r (edgeIn own e) ≡ l
+          → ((r′ : Register) → Grown r′ → Agrees (landEdges (edgesFrom n (e + 1)) r′) (replayIn (own .ends) (own .lengths) n (e + 1) (tablesOf r′) (countsOf r′)))
+          → Agrees (landEdges (edgesFrom (suc n) e) r) (replayIn (own .ends) (own .lengths) (suc n) e (tablesOf r) (countsOf r))
+      go (landed r′) q ih =
+          let p = edge-parts r (edgeIn own e) (landed r′) g q in
+          rw (q, own-is e, p .0, replayIn, landEdges, own-is e, p .1, ← next) (ih r′ (with-edge (edgeIn own e) g q))
+      go (refused x) q ih =
+          let p = edge-parts r (edgeIn own e) (refused x) g q in
+          rw (q, own-is e, p .0, replayIn, landEdges, own-is e) (p .0)
 
 -- ---- vertices alone
 
@@ -89,16 +103,20 @@ grow-over n es h = rw (vertices-over n empty (omega (arith, no-vertices)) (omega
 abbrev pub growing : Tables → Counts → Landed
 growing t c = growFrom (c .vertices) (edgesIn t (c .edges))
 
-pub grow-agrees : (t : Tables) (c : Counts) → Agrees (growing t c) (growIn t c)
-unfolding growIn
-grow-agrees t c = go (decLe (c .vertices) maxVertices)
+abbrev pub regrown : Tables → Counts → LandingIn
+regrown t c = regrowIn (t .ends) (t .lengths) c cleared
+
+pub regrow-agrees : (t : Tables) (c : Counts) → Agrees (growing t c) (regrown t c)
+unfolding regrowIn edgesIn upTo
+regrow-agrees t c = go (decLe (c .vertices) maxVertices)
   where
-    go : Dec (c .vertices ≤ maxVertices) → Agrees (growing t c) (growIn t c)
+    go : Dec (c .vertices ≤ maxVertices) → Agrees (growing t c) (regrown t c)
     go (yes q) =
         let n = c .vertices in
+        let r = onVertices n in
         let es = edgesIn t (c .edges) in
-        let a : Agrees (landEdges es (onVertices n)) (landAllIn es (tablesOf (onVertices n)) (countsOf (onVertices n))) = all-agree es (onVertices n) (on-grown n q) in
-        rw (grown-from n es (onVertices n) (landEdges es (onVertices n)) (vertices-grow n q) refl, le-leb n maxVertices q, ← on-tables n, ← on-counts n) a
+        let a = replay-agrees t (c .edges) 0 r (on-grown n q) in
+        rw (grown-from n es r (landEdges es r) (vertices-grow n q) refl, le-leb n maxVertices q, ← on-tables n, ← on-counts n) a
     go (no q) = rw (grow-over (c .vertices) (edgesIn t (c .edges)) (omega arith), lt-leb (c .vertices) maxVertices (omega arith)) refl
 
 -- ---- the claim
@@ -106,43 +124,33 @@ grow-agrees t c = go (decLe (c .vertices) maxVertices)
 abbrev pub stored : Tables → Counts → Stored
 stored t c = record { tables = t; counts = c }
 
--- the register that tables and counts hold
-pub record Holds (t : Tables) (c : Counts) (r : Register) : Type 0 where
-  pub grown : Grown r
-  pub tables-is : tablesOf r ≡ t
-  pub counts-is : countsOf r ≡ c
-  pub held-is : held (stored t c) ≡ some r
-
-landing-parts : (t u : Tables) (c k : Counts) → landingIn t (done c) ≡ landingIn u (done k) → (t ≡ u) × (c ≡ k)
-landing-parts t u c k e = (ap (λ (l : LandingIn). l .tables) e, let q : done c ≡ done k = ap (λ (l : LandingIn). l .answer) e in cc)
-
 storedOf-is : (r : Register) (t : Tables) (c : Counts) → tablesOf r ≡ t → countsOf r ≡ c → storedOf r ≡ stored t c
 unfolding storedOf
 storedOf-is r t c h k = rw (h, k)
 
 -- a replay that leaves the tables and counts themselves finds the register that they hold
-pub replay-held : (t : Tables) (c : Counts) → growIn t c ≡ landingIn t (done c) → (r : Register) × Holds t c r
-replay-held t c e = go (growing t c) refl (grow-agrees t c)
+pub replay-held : (t : Tables) (c : Counts) → regrown t c ≡ landingIn t (done c) → (r : Register) × (held (stored t c) ≡ some r)
+replay-held t c e = go (growing t c) refl (regrow-agrees t c)
   where
-    go : (l : Landed) → growing t c ≡ l → Agrees (growing t c) (growIn t c) → (r : Register) × Holds t c r
+    go : (l : Landed) → growing t c ≡ l → Agrees (growing t c) (regrown t c) → (r : Register) × (held (stored t c) ≡ some r)
     go (landed r) q a =
-        let a′ : growIn t c ≡ landingIn (tablesOf r) (done (countsOf r)) = rw q at a in
-        let i = landing-parts (tablesOf r) t (countsOf r) c (sym a′ ∙ e) in
+        let a′ : regrown t c ≡ landingIn (tablesOf r) (done (countsOf r)) = rw q at a in
+        let i = done-is (tablesOf r) t (countsOf r) c (sym a′ ∙ e) in
         let g : Grown r = grow-reaches (c .vertices) (edgesIn t (c .edges)) r q in
-        (r, record { grown = g; tables-is = i .0; counts-is = i .1; held-is = rw (← storedOf-is r t c (i .0) (i .1)) (grown-held r g) })
+        (r, rw (← storedOf-is r t c (i .0) (i .1)) (grown-held r g))
     go (refused x) q a =
-        let a′ : (growIn t c) .answer ≡ refusedIn x = rw q at a in
-        absurd (let z : done c ≡ refusedIn x = sym (ap (λ (l : LandingIn). l .answer) e) ∙ a′ in let y : _≡_ {A = ℕ} 0 1 = cc in omega arith)
+        let a′ : (regrown t c) .answer ≡ refusedIn x = rw q at a in
+        absurd (refused-done t t x c (ap (landingIn t) (sym a′ ∙ ap (λ (l : LandingIn). l .answer) e)))
 
 -- what is stored for a grown register is left by its own replay
-pub grown-replays : (r : Register) → Grown r → growIn (tablesOf r) (countsOf r) ≡ landingIn (tablesOf r) (done (countsOf r))
+pub grown-replays : (r : Register) → Grown r → regrown (tablesOf r) (countsOf r) ≡ landingIn (tablesOf r) (done (countsOf r))
 unfolding storedOf
 grown-replays r g =
     let q : growing (tablesOf r) (countsOf r) ≡ landed r = grow-again r (grown-regrows r g) in
-    rw q at (grow-agrees (tablesOf r) (countsOf r))
+    rw q at (regrow-agrees (tablesOf r) (countsOf r))
 
 -- so tables and counts that hold a register are left by their own replay
-pub held-replays : (t : Tables) (c : Counts) (r : Register) → held (stored t c) ≡ some r → growIn t c ≡ landingIn t (done c)
+pub held-replays : (t : Tables) (c : Counts) (r : Register) → held (stored t c) ≡ some r → regrown t c ≡ landingIn t (done c)
 unfolding storedOf
 held-replays t c r e =
     let h = only-held (stored t c) r e in
@@ -150,7 +158,7 @@ held-replays t c r e =
     let j : c ≡ countsOf r = ap (λ (s : Stored). s .counts) (h .stored-is) in
     rw (i, j) (grown-replays r (h .reachable))
 
-pub replay-none : (t : Tables) (c : Counts) → growIn t c ≢ landingIn t (done c) → held (stored t c) ≡ none
+pub replay-none : (t : Tables) (c : Counts) → regrown t c ≢ landingIn t (done c) → held (stored t c) ≡ none
 replay-none t c n = go (held (stored t c)) refl
   where
     go : (o : Option Register) → held (stored t c) ≡ o → held (stored t c) ≡ none

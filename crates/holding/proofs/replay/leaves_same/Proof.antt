@@ -1,12 +1,12 @@
-use Rattle.admission.proofs.ReplayLaws.{regrows-refused, regrows-other, regrows-same, false-true}
+use Rattle.holding.proofs.ReplayLaws.{regrows-refused, regrows-other, regrows-same, false-true}
 use Rattle.insertion.specs.Meaning.{answerIn}
 use borrow.Author.Tests.{not-true, not-false}
-use mathlib.Core.Path.{_≡_, ap, sym, _∙_}
+use mathlib.Core.Path.{ap, sym, _∙_}
 use borrow.Author.Needs.{needs}
-use Rattle.admission.proofs.replay.leaves_same.Statement.{statement}
-use Rattle.admission.proofs.replay.leaves_same.Tie as tie
-use Rattle.admission.proofs.replay.regrow.Reads as regrow-reads
-use Rattle.admission.proofs.replay.same_counts.Reads as same-counts-reads
+use Rattle.holding.proofs.replay.leaves_same.Statement.{statement}
+use Rattle.holding.proofs.replay.leaves_same.Tie as tie
+use Rattle.holding.proofs.replay.regrow.Reads as regrow-reads
+use Rattle.holding.proofs.replay.same_counts.Reads as same-counts-reads
 use Rattle.tables.proofs.whole.same_tables.Reads as same-tables-reads
 
 regrow-requires : tie.Need-regrow-requires

@@ -9,11 +9,11 @@ use mathlib.Core.Bool.{Bool, true, false}
 use lib.ListN.{getD}
 use lib.Dec.{T, eqb}
 use borrow.Author.Tests.{le-leb, lt-leb, eqb-true, eq-eqb}
-use Rattle.model.specs.Tables.{Tables, Counts}
+use Rattle.model.specs.Tables.{Tables, Counts, edgeIn}
 use Rattle.tables.specs.Steps.{tables, zeroed}
 use Rattle.insertion.specs.Insertion.{AnswerIn, done, refusedIn, LandingIn, landingIn, counts, landIn}
-use Rattle.register.proofs.Same.{Same}
-use Rattle.admission.specs.Replay.{ownEdge, replayIn, regrowIn, Regrows}
+use Rattle.agreement.proofs.Same.{Same}
+use Rattle.holding.specs.Replay.{ownEdge, replayIn, regrowIn, Regrows}
 
 module _ (es ls : List ℕ) where
   pub replay-full : (c : Counts) (t : Tables) → 4096 < c .vertices → landingIn t (refusedIn 22) ≡ regrowIn es ls c t
@@ -25,10 +25,10 @@ module _ (es ls : List ℕ) where
   unfolding regrowIn
   replay-all c t l h e = rw (le-leb (c .vertices) 4096 h) e
 
-  pub replay-none : (n e : ℕ) (t : Tables) (c : Counts) → n ≤ 0 → landingIn t (done c) ≡ replayIn es ls n e t c
+  pub replay-end : (n e : ℕ) (t : Tables) (c : Counts) → n ≤ 0 → landingIn t (done c) ≡ replayIn es ls n e t c
   unfolding replayIn
-  replay-none zero e t c h = refl
-  replay-none (suc n) e t c h = absurd (not-suc-le-zero h)
+  replay-end zero e t c h = refl
+  replay-end (suc n) e t c h = absurd (not-suc-le-zero h)
 
 tables-of : {x y : LandingIn} → x ≡ y → x .tables ≡ y .tables
 tables-of e = ap (λ (l : LandingIn). l .tables) e
@@ -39,7 +39,7 @@ answer-of e = ap (λ (l : LandingIn). l .answer) e
 -- the edge that the code reads
 own-edge : (es ls : List ℕ) (e i a b l : ℕ) → i ≡ 2 * e → a ≡ getD es i 0 → b ≡ getD es (i + 1) 0 → l ≡ getD ls e 0
     → record { first = a; second = b; len = l } ≡ ownEdge es ls e
-unfolding ownEdge
+unfolding ownEdge edgeIn
 own-edge es ls e i a b l p q r s = rw (q, r, s, p)
 
 step-on : (es ls : List ℕ) (n e : ℕ) (t t′ : Tables) (c c′ : Counts) → 0 < n → landingIn t′ (done c′) ≡ landIn t c (ownEdge es ls e)
@@ -81,13 +81,13 @@ counts-last a b v e k = (λ h. all (eqb-true _ _ h), λ h. eq-eqb _ _ (ap (λ (c
 pub false-true : false ≡ true → ⊥
 false-true e = subst T (sym e) tt
 
-done-is : (t t′ : Tables) (c c′ : Counts) → landingIn t (done c) ≡ landingIn t′ (done c′) → (t ≡ t′) × (c ≡ c′)
+pub done-is : (t t′ : Tables) (c c′ : Counts) → landingIn t (done c) ≡ landingIn t′ (done c′) → (t ≡ t′) × (c ≡ c′)
 done-is t t′ c c′ e = (tables-of e, of (answer-of e))
   where
     of : done c ≡ done c′ → c ≡ c′
     of e = cc
 
-refused-done : (t t′ : Tables) (x : ℕ) (c : Counts) → landingIn t (refusedIn x) ≡ landingIn t′ (done c) → ⊥
+pub refused-done : (t t′ : Tables) (x : ℕ) (c : Counts) → landingIn t (refusedIn x) ≡ landingIn t′ (done c) → ⊥
 refused-done t t′ x c e = of (answer-of e)
   where
     of : refusedIn x ≡ done c → ⊥

@@ -1,0 +1,2 @@
+pub mod ReplayLaws
+pub mod Held
