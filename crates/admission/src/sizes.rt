@@ -1,7 +1,18 @@
 // Refusal 25: the sizes of lent tables.
+use counters::numbers::MAX_VERTICES;
+use insertion::landing::MAX_EDGES;
 ghost use mathlib.Core.Path.{_≡_};
 ghost use Rattle.model.specs.Tables.{fits};
 ghost use Rattle.tables.specs.Steps.{tables};
+
+// One number for each vertex, or two; one for each edge, or two.
+const VERTICES: usize = MAX_VERTICES as usize;
+
+const SIDES: usize = 2 * VERTICES;
+
+const EDGES: usize = MAX_EDGES as usize;
+
+const ENDS: usize = 2 * EDGES;
 
 pub fn sizes_fit(
     degrees: &[u16],
@@ -12,17 +23,17 @@ pub fn sizes_fit(
 ) -> bool
     ensures { λ r. ⌜ r ≡ fits (tables (now (degrees .entry)) (now (sides .entry)) (now (ends .entry)) (now (lengths .entry)) (now (labels .entry))) ⌝ }
 {
-    if degrees.len() != 4096 {
+    if degrees.len() != VERTICES {
         return false;
     }
-    if sides.len() != 8192 {
+    if sides.len() != SIDES {
         return false;
     }
-    if ends.len() != 8192 {
+    if ends.len() != ENDS {
         return false;
     }
-    if lengths.len() != 4096 {
+    if lengths.len() != EDGES {
         return false;
     }
-    labels.len() == 4096
+    labels.len() == VERTICES
 }

@@ -5,6 +5,9 @@ ghost use Prim.Native.Nat.{_-_, _^_};
 ghost use Rattle.counters.specs.Numbers.{within, vertexIn, labelIn, millimetresIn};
 ghost use Rattle.model.specs.Basics.{maxVertices, maxLength};
 
+// "At most 4,096 of each": a 4,097th is refused.
+pub const MAX_VERTICES: u16 = 4096;
+
 // Document 01's fitting number, from 0.
 pub struct Vertex(pub u16);
 

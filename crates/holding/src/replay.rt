@@ -1,5 +1,6 @@
 // Refusal 21: the register's own edges are landed again, from empty, in scratch, and what that leaves is compared with the register.
 use counters::counts::Counts;
+use counters::numbers::MAX_VERTICES;
 use counters::refusals::Refusal;
 use insertion::landing::Inserted;
 use insertion::landing::land_edge;
@@ -77,7 +78,7 @@ fn regrow(
         ≡ regrowIn (now (ownends .entry)) (now (ownlengths .entry)) (countsIn own)
         (tables (now (degrees .entry)) (now (sides .entry)) (now (ends .entry)) (now (lengths .entry)) (now (labels .entry))) ⌝ }
 {
-    if 4096 < own.vertices {
+    if MAX_VERTICES < own.vertices {
         return Inserted::Refused(Refusal::TooManyVertices);
     }
     let from = Counts {

@@ -6,6 +6,7 @@ use mathlib.Core.List.{List, []}
 use lib.ListN.{length, take}
 use lib.Seq.{take-length}
 use lib.Dec.{ltb}
+use Rattle.model.specs.Basics.{maxVertices}
 use Rattle.model.specs.Register.{Register}
 use Rattle.model.specs.Queries.{Reply, concat, find, reach, sheet, sheetNumbers}
 use Rattle.model.specs.Tables.{Tables, Counts, tablesOf}
@@ -21,17 +22,17 @@ use Rattle.lookups.specs.Answering.{Sheeted, sheeted, sheetedIn}
 use Rattle.lookups.proofs.QueryLaws.{Answers}
 
 -- the table of labels has 4,096 elements, so all are looked at
-labels-whole : (r : Register) → Grown r → (labels : List ℕ) → (tablesOf r) .labels ≡ labels → take 4096 labels ≡ labels
+labels-whole : (r : Register) → Grown r → (labels : List ℕ) → (tablesOf r) .labels ≡ labels → take maxVertices labels ≡ labels
 unfolding tablesOf
 labels-whole r g labels e =
-    let n : 4096 ≡ length labels = sym (labels-long r g) ∙ ap (λ (xs : List ℕ). length xs) e in
-    rw n (take-length labels)
+    let n : maxVertices ≡ length labels = sym (labels-long r g) ∙ ap (λ (xs : List ℕ). length xs) e in
+    ap (λ (k : ℕ). take k labels) n ∙ take-length labels
 
 pub find-answers : (d s e l labels : List ℕ) (c : Counts) (label : ℕ) (a : Reply)
-    → a ≡ findIn (tables d s e l (take 4096 labels)) c label → Answers (finds label) (tables d s e l labels) c [] a
+    → a ≡ findIn (tables d s e l (take maxVertices labels)) c label → Answers (finds label) (tables d s e l labels) c [] a
 unfolding effect answers
 find-answers d s e l labels c label a h r g i j =
-    let w : take 4096 labels ≡ labels = labels-whole r g labels (ap (λ (t : Tables). t .labels) i) in
+    let w : take maxVertices labels ≡ labels = labels-whole r g labels (ap (λ (t : Tables). t .labels) i) in
     let f : findIn (tables d s e l labels) c label ≡ find r label = rw (i, j) at (find-agrees r g label) in
     rw (h, w, f)
 

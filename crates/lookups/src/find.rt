@@ -12,6 +12,7 @@ ghost use mathlib.Core.Path.{_≡_};
 ghost use mathlib.Core.List.{List, []};
 ghost use Prim.Native.Nat.{ℕ};
 ghost use lib.ListN.{take};
+ghost use Rattle.model.specs.Basics.{maxVertices};
 ghost use Rattle.model.specs.Calls.{finds, step};
 ghost use Rattle.counters.specs.Answers.{countsIn};
 ghost use Rattle.tables.specs.Steps.{tables};
@@ -35,7 +36,7 @@ pub fn find_in(
     label: Label,
 ) -> Found
     ensures { λ r. ⌜ ((lengths : List ℕ) → foundReply r
-        ≡ findIn (tables (now (degrees .entry)) (now (sides .entry)) (now (ends .entry)) lengths (take 4096 (now (labels .entry))))
+        ≡ findIn (tables (now (degrees .entry)) (now (sides .entry)) (now (ends .entry)) lengths (take maxVertices (now (labels .entry))))
         (countsIn counts) (label .0)) ⌝ }
 {
     let x = label.0;

@@ -1,5 +1,6 @@
 // The wearer of a label, and the name of an edge's chain.
 use crate::numbers::smaller;
+use counters::numbers::MAX_VERTICES;
 use tables::access::at16;
 use tables::access::of16;
 use tables::access::of32;
@@ -9,6 +10,7 @@ ghost use mathlib.Core.Path.{_≡_};
 ghost use mathlib.Core.List.{List};
 ghost use Prim.Native.Nat.{ℕ};
 ghost use lib.ListN.{take};
+ghost use Rattle.model.specs.Basics.{maxVertices};
 ghost use Rattle.tables.specs.Steps.{tables};
 ghost use Rattle.queries.specs.Chains.{firstAt, lowestIn, nameIn};
 ghost use Rattle.queries.specs.Answers.{foundIn};
@@ -20,10 +22,10 @@ pub enum Found {
 
 // The first of at most 4,096 labels that is this one. A read past the end gives 0, which may be the label, so the length is tested.
 pub fn find_wearer(labels: &[u32], label: u32) -> Found
-    ensures { λ r. ⌜ foundIn r ≡ firstAt label (take 4096 (now (labels .entry))) ⌝ }
+    ensures { λ r. ⌜ foundIn r ≡ firstAt label (take maxVertices (now (labels .entry))) ⌝ }
 {
     let mut v: u16 = 0;
-    while v < 4096 {
+    while v < MAX_VERTICES {
         if labels.len() <= (v as usize) {
             break;
         }

@@ -1,6 +1,7 @@
 // A list landed on the tables, record by record.
 use counters::answers::ListAnswer;
 use counters::counts::Counts;
+use counters::numbers::MAX_VERTICES;
 use counters::refusals::Refusal;
 use insertion::landing::Inserted;
 use insertion::landing::land_edge;
@@ -35,7 +36,7 @@ pub struct Landing {
 pub fn land_vertex(counts: Counts) -> Inserted
     ensures { λ r. ⌜ answerIn r ≡ landVertexIn (countsIn counts) ⌝ }
 {
-    if 4096 <= counts.vertices {
+    if MAX_VERTICES <= counts.vertices {
         return Inserted::Refused(Refusal::TooManyVertices);
     }
     Inserted::Done(Counts {

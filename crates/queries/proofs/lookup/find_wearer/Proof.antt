@@ -1,6 +1,7 @@
 use Rattle.queries.proofs.LookupLaws.{first-past, first-here, first-next}
 use Rattle.queries.specs.Chains.{firstFrom, firstAt}
 use lib.ListN.{take, drop}
+use Rattle.model.specs.Basics.{maxVertices}
 use native.Mathlib.Omega.{arith}
 use Prim.Native.Nat.{_-_, _≤_}
 use mathlib.Core.Path.{_≡_, sym, _∙_}
@@ -10,7 +11,7 @@ use Rattle.queries.proofs.lookup.find_wearer.Tie as tie
 use Rattle.tables.proofs.access.of32.Reads as of32-reads
 
 abbrev Inv-loop : tie.InvT-loop
-Inv-loop labels label v₀ v = (v ≤ 4096) × (firstFrom v label (drop v (take 4096 labels)) ≡ firstAt label (take 4096 labels))
+Inv-loop labels label v₀ v = (v ≤ 4096) × (firstFrom v label (drop v (take maxVertices labels)) ≡ firstAt label (take maxVertices labels))
 
 abbrev μ-loop : tie.MeasureT-loop
 μ-loop labels label v₀ v = 4096 - v
