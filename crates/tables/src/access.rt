@@ -31,19 +31,19 @@ pub fn of32(xs: &[u32], i: u16) -> u32
 }
 
 // The element at i becomes x; past the end nothing changes.
-pub fn put16(xs: &mut [u16], i: usize, x: u16)
-    ensures { λ _. ⌜ now (xs .exit) ≡ set (now (xs .entry)) i x ⌝ }
+pub fn put16(narrow: &mut [u16], i: usize, x: u16)
+    ensures { λ _. ⌜ now (narrow .exit) ≡ set (now (narrow .entry)) i x ⌝ }
 {
-    if i < xs.len() {
-        xs[i] = x;
+    if i < narrow.len() {
+        narrow[i] = x;
     }
 }
 
-pub fn put32(xs: &mut [u32], i: usize, x: u32)
-    ensures { λ _. ⌜ now (xs .exit) ≡ set (now (xs .entry)) i x ⌝ }
+pub fn put32(wide: &mut [u32], i: usize, x: u32)
+    ensures { λ _. ⌜ now (wide .exit) ≡ set (now (wide .entry)) i x ⌝ }
 {
-    if i < xs.len() {
-        xs[i] = x;
+    if i < wide.len() {
+        wide[i] = x;
     }
 }
 

@@ -4,11 +4,11 @@ use lib.Seq.{set-out}
 use Rattle.tables.proofs.access.put16.Statement.{statement}
 use Rattle.tables.proofs.access.put16.Tie as tie
 
-mul-xs : tie.Need-mul-xs
-mul-xs c = search needs
+mul-narrow : tie.Need-mul-narrow
+mul-narrow c = search needs
 
-slice-write-xs : tie.Need-slice-write-xs
-slice-write-xs c = search needs
+slice-write-narrow : tie.Need-slice-write-narrow
+slice-write-narrow c = search needs
 
 same-length : tie.Need-same-length
 same-length c = search needs
@@ -20,4 +20,4 @@ returns-2 : tie.Need-returns-2
 returns-2 c = sym (set-out _ _ _ (c .if1 .left))
 
 pub put16-spec : {M : Type 1} → statement M
-put16-spec = tie.close (tie.spec mul-xs slice-write-xs same-length returns returns-2)
+put16-spec = tie.close (tie.spec mul-narrow slice-write-narrow same-length returns returns-2)
