@@ -67,7 +67,7 @@ pub fn record_edge(ends: &mut [u16], lengths: &mut [u32], e: u16, a: u16, b: u16
     put32(lengths, e as usize, length);
 }
 
-// An edge that passed these. A ring, 24, shows before anything is written.
+// An edge that no refusal of `check_edge` holds of. A ring, 24, shows before anything is written.
 pub fn insert_edge(
     degrees: &mut [u16],
     sides: &mut [u16],

@@ -22,7 +22,7 @@ worn s l n = record { sides = s; labels = l; count = n }
 unfoldable pub after : ℕ → Worn → Worn
 after n w = worn (w .sides) (w .labels) (n + w .count)
 
--- the sides of vertex v: upwards `inner`, the edge behind, is the low one
+-- the sides of vertex v: upwards `inner`, the edge before it, is the low one
 unfoldable pub orientIn : Bool → List ℕ → ℕ → ℕ → ℕ → List ℕ
 orientIn up sides v inner outer = if up then setPair sides v inner outer else setPair sides v outer inner
 

@@ -3,8 +3,8 @@
 // - the greatest key smaller than a label: `label_vertex`. It keeps no dictionary of lowest labels; a find looks for the label itself.
 // - a stored weight that a split makes false: `label_vertex`. It stores none; a reach adds up lengths.
 // - a lone regular vertex always extended upwards: `rises`.
-// - the second split in the chain as it was: `placing::open_both`.
-// - the leaf's own chain split: `placing::place_extend`.
+// - the second split in the chain as it was: `open_both` of insertion.
+// - the leaf's own chain split: `place_open` of insertion.
 use tables::access::at32;
 use tables::access::of16;
 use tables::access::of32;
@@ -24,14 +24,14 @@ ghost use lib.ListN.{getD};
 ghost use Rattle.model.specs.Labels.{base, isRelabelled};
 ghost use Rattle.labels.specs.Labelling.{worn, orientIn, labelIn, relabelIn, extendIn};
 
-// The lowest label of block k: document 01's base of the k-th birth.
+// The first label of block k: document 01's base of the k-th birth.
 pub fn base(k: u16) -> u32
     ensures { λ r. ⌜ r ≡ base k ⌝ }
 {
     8192 * (k as u32)
 }
 
-// The sides of vertex v. Upwards the edge behind it, `inner`, is the low one.
+// The sides of vertex v. Upwards the edge before it, `inner`, is the low one.
 pub fn orient_sides(sides: &mut [u16], v: u16, inner: u16, outer: u16, up: bool)
     ensures { λ _. ⌜ now (sides .exit) ≡ orientIn up (now (sides .entry)) v inner outer ⌝ }
 {

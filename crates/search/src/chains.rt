@@ -1,39 +1,13 @@
-// The lists of edge ends, and the walk along a chain that lowers distances. Edge end k is 2 e or 2 e + 1; a list holds k + 2, so that
-// half of it is e + 1, and 0 is its end. The lists are a hint: what they hold is tested, and nothing is proved of it.
+// The walk along chains that lowers distances. Where it goes on it reads off the incidence lists, and tests what it reads.
 use crate::access::get16;
 use crate::access::get32;
-use crate::access::set16;
 use crate::access::set32;
 use crate::heap::offer;
 use crate::relax::NONE;
 use tables::access::of16;
 use tables::access::of32;
-use tables::access::put16;
-ghost use Prim.Native.Nat.{ℕ, _≤_, _<_, _*_};
-ghost use lib.ListN.{length, getD};
-ghost use Rattle.model.specs.Basics.{maxEdges};
+ghost use Prim.Native.Nat.{_<_};
 ghost use Rattle.search.specs.Search.{Searchable, Grounded};
-
-// Edge end k comes to the front of the list of its vertex.
-fn link(ends: &[u16], heads: &mut [u16], next: &mut [u16], k: usize)
-    requires { ⌜ (k < length (now ends)) × ((k < 2 * maxEdges) × (getD (now ends) k 0 < length (now heads))) ⌝ }
-{
-    let v = get16(ends, k);
-    let front = get16(heads, v as usize);
-    put16(next, k + 2, front);
-    set16(heads, v, (k + 2) as u16);
-}
-
-// From the last end down: the two that find no room in next are the last of their lists, and the 0 that is read there is their end.
-pub fn link_all(ends: &[u16], heads: &mut [u16], next: &mut [u16], edges: u16)
-    requires { ⌜ (edges ≤ maxEdges) × ((2 * edges ≤ length (now ends)) × ((k : ℕ) → k < 2 * edges → getD (now ends) k 0 < length (now heads))) ⌝ }
-{
-    let mut k = 2 * (edges as usize);
-    while 0 < k {
-        k -= 1;
-        link(ends, heads, next, k);
-    }
-}
 
 // Tries the edge of end j - 2 from that end's vertex on: the far vertex may get a lesser distance, where that is below best. The answer
 // is the far vertex where it does.

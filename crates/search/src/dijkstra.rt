@@ -1,9 +1,9 @@
 // Dijkstra's order over the chains, as a hint: the vertices with the least distances come first, and neither leaves nor regular vertices
 // are queued. What is proved is that the distances stay grounded, which they do in every order.
 use crate::chains::follow_both;
-use crate::chains::link_all;
 use crate::heap::pop;
 use crate::heap::push;
+use crate::incidence::link_all;
 use tables::access::of16;
 use tables::access::of32;
 ghost use Rattle.search.specs.Search.{Searchable, Grounded};

@@ -4,5 +4,6 @@ mod access;
 mod chains;
 pub mod dijkstra;
 mod heap;
+mod incidence;
 pub mod relax;
 pub mod shortest;

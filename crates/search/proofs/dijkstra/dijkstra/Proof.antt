@@ -3,7 +3,7 @@ use native.Mathlib.Omega.{arith}
 use Rattle.search.proofs.Relaxing.{end-vertex}
 use Rattle.search.proofs.dijkstra.dijkstra.Statement.{statement}
 use Rattle.search.proofs.dijkstra.dijkstra.Tie as tie
-use Rattle.search.proofs.chains.link_all.Reads as link-all-reads
+use Rattle.search.proofs.incidence.link_all.Reads as link-all-reads
 use Rattle.search.proofs.dijkstra.scan_all.Reads as scan-all-reads
 use Rattle.search.proofs.heap.push.Reads as push-reads
 

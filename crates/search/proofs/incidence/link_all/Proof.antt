@@ -3,9 +3,9 @@ use lib.ListN.{length}
 use Prim.Native.Nat.{_≤_, _<_, _*_, _-_}
 use mathlib.Core.Path.{_≡_, refl, _∙_}
 use borrow.Author.Needs.{needs}
-use Rattle.search.proofs.chains.link_all.Statement.{statement}
-use Rattle.search.proofs.chains.link_all.Tie as tie
-use Rattle.search.proofs.chains.link.Reads as link-reads
+use Rattle.search.proofs.incidence.link_all.Statement.{statement}
+use Rattle.search.proofs.incidence.link_all.Tie as tie
+use Rattle.search.proofs.incidence.link.Reads as link-reads
 
 abbrev Inv-loop : tie.InvT-loop
 Inv-loop ends heads₀ next₀ edges k₀ heads next k = (k ≤ 2 * edges) × ((length heads ≡ length heads₀) × (length next ≡ length next₀))
