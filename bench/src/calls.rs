@@ -1,7 +1,7 @@
 //! Every call from C on full lists, against the plain register, and the stack that each uses.
 
 use crate::plain::Register;
-use crate::{comb, least, line, list, shuffled, stack, tree, Random};
+use crate::{comb, compare, line, list, several, shuffled, stack, tree, Random};
 use std::hint::black_box;
 
 extern "C" {
@@ -71,16 +71,17 @@ fn with_lengths(mut list: Vec<u8>, fittings: usize, random: &mut Random) -> Vec<
     list
 }
 
-fn full_lists(random: &mut Random) -> Vec<(&'static str, Vec<u8>)> {
+/// Lists of each shape: one where the shape is fixed, several where it is random.
+fn full_lists(random: &mut Random) -> Vec<(&'static str, Vec<Vec<u8>>)> {
     let houses = [
-        ("line in order", 4096, line(4096)),
-        ("line in random order", 4096, shuffled(line(4096), random)),
-        ("random tree", 4096, tree(4096, random)),
-        ("comb", 4096, comb(4096)),
-        ("grid", 45 * 45, grid(45)),
+        ("line in order", 4096, vec![line(4096)]),
+        ("line in random order", 4096, several(|| shuffled(line(4096), random))),
+        ("random tree", 4096, several(|| tree(4096, random))),
+        ("comb", 4096, vec![comb(4096)]),
+        ("grid", 45 * 45, vec![grid(45)]),
     ];
-    let lists = houses.into_iter().map(|(name, n, edges)| (name, with_lengths(list(n, &edges), n, random)));
-    lists.collect()
+    let mut lists = |n, houses: Vec<Vec<_>>| houses.iter().map(|edges| with_lengths(list(n, edges), n, random)).collect();
+    houses.into_iter().map(|(name, n, houses)| (name, lists(n, houses))).collect()
 }
 
 /// The calls on a list: find and reach of the last coupling, the distance between the first and the last fitting.
@@ -96,25 +97,25 @@ fn calls_on(list: &[u8]) -> [(&'static str, Call); 4] {
     ]
 }
 
-/// The least times of both, taken by turns, so that a busy machine is busy for both.
-fn least_of_both(mut one: impl FnMut() -> i32, mut other: impl FnMut() -> i32) -> (f64, f64) {
-    let turns = (0..20).map(|_| (least(20, &mut one), least(20, &mut other)));
-    turns.fold((f64::MAX, f64::MAX), |best, turn| (best.0.min(turn.0), best.1.min(turn.1)))
-}
-
 pub fn table(random: &mut Random) {
     println!("calls on full lists");
     println!("{:<14} {:<22} {:>9} {:>9} {:>6} {:>8}", "call", "shape", "proved", "plain", "ratio", "stack");
     let (mut ours, mut theirs) = (vec![0; 81_920], vec![0; 81_920]);
-    for (shape, list) in full_lists(random) {
-        for (name, call) in calls_on(&list) {
-            assert_eq!(proved(call, &list, &mut ours), plain(call, &list, &mut theirs), "{call:?} {shape}");
-            assert_eq!(ours, theirs, "{call:?} {shape}");
-            let stack = stack::used(|| _ = black_box(proved(call, &list, &mut ours)));
-            let (proved, plain) = least_of_both(
-                || proved(black_box(call), black_box(&list), &mut ours),
-                || plain(black_box(call), black_box(&list), &mut theirs),
+    for (shape, lists) in full_lists(random) {
+        for kind in 0..4 {
+            let asked: Vec<_> = lists.iter().map(|list| (calls_on(list)[kind].1, list)).collect();
+            let mut stack = 0;
+            for &(call, list) in &asked {
+                assert_eq!(proved(call, list, &mut ours), plain(call, list, &mut theirs), "{call:?} {shape}");
+                assert_eq!(ours, theirs, "{call:?} {shape}");
+                stack = stack.max(stack::used(|| _ = black_box(proved(call, list, &mut ours))));
+            }
+            let (proved, plain) = compare(
+                &asked,
+                |&(call, list)| proved(call, list, &mut ours),
+                |&(call, list)| plain(call, list, &mut theirs),
             );
+            let name = calls_on(&lists[0])[kind].0;
             println!("{name:<14} {shape:<22} {proved:>9.1} {plain:>9.1} {:>6.2} {stack:>8}", proved / plain);
         }
     }

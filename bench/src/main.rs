@@ -1,5 +1,6 @@
 //! Growing lists of 512 to 4,096 pipes: the proved register, called as from C, against the same algorithm in plain Rust, in one run.
-//! Each figure is the least of many rounds, in microseconds, taken in turns; the ratio is proved / plain.
+//! Each figure is the least of many rounds, in microseconds, taken in turns; for a random shape it is the mean over several lists. The
+//! ratio is proved / plain.
 
 mod calls;
 mod plain;
@@ -112,25 +113,35 @@ fn comb(n: usize) -> Vec<(usize, usize)> {
     edges
 }
 
-/// The least time of a run, in microseconds.
-fn least(rounds: usize, run: &mut impl FnMut() -> i32) -> f64 {
-    let mut best = f64::MAX;
-    for _ in 0..rounds {
-        let start = Instant::now();
-        black_box(run());
-        best = best.min(start.elapsed().as_secs_f64());
-    }
-    best * 1e6
+/// How many lists there are of a random shape, and how many runs each figure takes in all.
+const LISTS: usize = 32;
+const RUNS: usize = 1280;
+
+/// Lists of a random shape.
+fn several<T>(mut make: impl FnMut() -> T) -> Vec<T> {
+    (0..LISTS).map(|_| make()).collect()
 }
 
-/// The least times of two runs. They take turns, so that other load on the machine falls on both.
-fn compare(mut first: impl FnMut() -> i32, mut second: impl FnMut() -> i32) -> (f64, f64) {
-    let mut best = (f64::MAX, f64::MAX);
-    for _ in 0..20 {
-        best.0 = best.0.min(least(40, &mut first));
-        best.1 = best.1.min(least(40, &mut second));
+fn microseconds(run: impl FnOnce() -> i32) -> f64 {
+    let start = Instant::now();
+    black_box(run());
+    start.elapsed().as_secs_f64() * 1e6
+}
+
+/// The least times of two runs, averaged over the lists. The two take turns, so that other load on the machine falls on both; and where
+/// there are several lists each run is followed by one on another, so that the processor cannot learn one list by heart.
+fn compare<T>(lists: &[T], mut first: impl FnMut(&T) -> i32, mut second: impl FnMut(&T) -> i32) -> (f64, f64) {
+    let mut least = vec![(f64::MAX, f64::MAX); lists.len()];
+    for _ in 0..RUNS / lists.len() {
+        for (list, best) in lists.iter().zip(&mut least) {
+            best.0 = best.0.min(microseconds(|| first(black_box(list))));
+        }
+        for (list, best) in lists.iter().zip(&mut least) {
+            best.1 = best.1.min(microseconds(|| second(black_box(list))));
+        }
     }
-    best
+    let sums = least.iter().fold((0.0, 0.0), |sums, best| (sums.0 + best.0, sums.1 + best.1));
+    (sums.0 / lists.len() as f64, sums.1 / lists.len() as f64)
 }
 
 fn grow_table(random: &mut Random) {
@@ -138,17 +149,19 @@ fn grow_table(random: &mut Random) {
     println!("{:<28} {:>6} {:>9} {:>9} {:>6}", "shape", "pipes", "proved", "plain", "ratio");
     for n in [512, 1024, 2048, 4096] {
         let shapes = [
-            ("line in order", line(n)),
-            ("line in random order", shuffled(line(n), random)),
-            ("balanced merges", balanced(n)),
-            ("random tree", tree(n, random)),
-            ("comb", comb(n)),
+            ("line in order", vec![line(n)]),
+            ("line in random order", several(|| shuffled(line(n), random))),
+            ("balanced merges", vec![balanced(n)]),
+            ("random tree", several(|| tree(n, random))),
+            ("comb", vec![comb(n)]),
         ];
-        for (name, edges) in shapes {
-            let bytes = list(n, &edges);
-            assert_eq!(proved(&bytes), plain(&bytes), "{name}");
-            let (proved, plain) = compare(|| proved(black_box(&bytes)), || plain(black_box(&bytes)));
-            println!("{name:<28} {:>6} {proved:>9.1} {plain:>9.1} {:>6.2}", edges.len(), proved / plain);
+        for (name, houses) in shapes {
+            let lists: Vec<_> = houses.iter().map(|edges| list(n, edges)).collect();
+            for list in &lists {
+                assert_eq!(proved(list), plain(list), "{name}");
+            }
+            let (proved, plain) = compare(&lists, |list| proved(list), |list| plain(list));
+            println!("{name:<28} {:>6} {proved:>9.1} {plain:>9.1} {:>6.2}", n - 1, proved / plain);
         }
     }
 }
@@ -161,18 +174,19 @@ fn sheet_table(random: &mut Random) {
         let rising = line(n);
         let falling: Vec<_> = rising.iter().rev().copied().collect();
         let shapes = [
-            ("rising", rising.clone()),
-            ("falling", falling),
-            ("at random", shuffled(rising, random)),
-            ("inside out", inside_out(n)),
+            ("rising", vec![rising.clone()]),
+            ("falling", vec![falling]),
+            ("at random", several(|| shuffled(rising.clone(), random))),
+            ("inside out", vec![inside_out(n)]),
         ];
-        for (name, edges) in shapes {
-            let bytes = list(n, &edges);
-            assert_eq!(proved_sheet(&bytes, &mut ours), plain_sheet(&bytes, &mut theirs), "{name}");
-            assert_eq!(ours, theirs, "{name}");
-            let (proved, plain) =
-                compare(|| proved_sheet(black_box(&bytes), &mut ours), || plain_sheet(black_box(&bytes), &mut theirs));
-            println!("{name:<28} {:>6} {proved:>9.1} {plain:>9.1} {:>6.2}", edges.len(), proved / plain);
+        for (name, houses) in shapes {
+            let lists: Vec<_> = houses.iter().map(|edges| list(n, edges)).collect();
+            for list in &lists {
+                assert_eq!(proved_sheet(list, &mut ours), plain_sheet(list, &mut theirs), "{name}");
+                assert_eq!(ours, theirs, "{name}");
+            }
+            let (proved, plain) = compare(&lists, |list| proved_sheet(list, &mut ours), |list| plain_sheet(list, &mut theirs));
+            println!("{name:<28} {:>6} {proved:>9.1} {plain:>9.1} {:>6.2}", n - 1, proved / plain);
         }
     }
 }
