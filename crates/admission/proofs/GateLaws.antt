@@ -2,17 +2,16 @@
 -- gate tells of the call.
 use mathlib.Core.Path.{_≡_, refl, sym, ap, _∙_, subst}
 use Prim.Native.Nat.{ℕ}
-use native.Mathlib.Omega.{arith}
 use mathlib.Core.Bool.{Bool, true, false, _&&_}
-use mathlib.Core.Option.{Option, none, some}
+use mathlib.Core.Option.{Option, none, some, Option·some-injective, Option·some-ne-none}
 use Rattle.model.specs.Register.{Register}
 use Rattle.model.specs.Tables.{Tables, Counts, fits, cleared, held}
 use Rattle.model.specs.Calls.{Call, Lent, admits, allFit, bars, gate, registerFor, scratchAfter}
+use Rattle.model.proofs.Basics.Booleans.{not-both}
 use Rattle.tables.specs.Steps.{zeroed}
 use Rattle.agreement.proofs.Calls.{zeroed-cleared}
 use Rattle.register.specs.Meaning.{lent}
 use Rattle.holding.specs.Replay.{Regrows}
-use Rattle.holding.proofs.ReplayLaws.{false-true}
 use Rattle.holding.proofs.Held.{replay-held, replay-none, stored}
 use Rattle.admission.specs.Gate.{barred}
 
@@ -52,19 +51,13 @@ module _ (t : Tables) (c : Counts) (s : Tables) where
         → (some 21 ≡ barred (lent t c s)) × (s′ ≡ scratchAfter (lent t c s))
     gate-not-grown s′ r b g e =
         let k = regrows-cleared r g in
-        (held-none (replay-none t c (λ q. false-true (sym e ∙ k .true-if q))), scratch-is s′ b)
+        (held-none (replay-none t c (λ q. not-both r (k .true-if q) e)), scratch-is s′ b)
 
     pub gate-open : (s′ : Tables) (r : Bool) → s′ ≡ zeroed s → Regrows r t c (zeroed s) → r ≡ true
         → (none ≡ barred (lent t c s)) × (s′ ≡ scratchAfter (lent t c s))
     gate-open s′ r b g e =
         let o = replay-held t c ((regrows-cleared r g) .if-true e) in
         (held-some (o .0) (o .1), scratch-is s′ b)
-
-some-is : (m n : ℕ) → some m ≡ some n → m ≡ n
-some-is m n e = cc
-
-some-none : (n : ℕ) → some n ≡ none → ⊥
-some-none n e = let z : _≡_ {A = ℕ} 0 1 = cc in omega arith
 
 -- of every call but grow
 module _ (c : Call) (l : Lent) (q : registerFor c l ≡ held (l .stored)) where
@@ -73,9 +66,9 @@ module _ (c : Call) (l : Lent) (q : registerFor c l ≡ held (l .stored)) where
   gate-bars x h = go (allFit l) refl (held (l .stored)) refl
     where
       go : (b : Bool) → allFit l ≡ b → (o : Option Register) → held (l .stored) ≡ o → gate c l ≡ bars x
-      go false e o f = rw (e, gate) (ap bars (sym (some-is x 25 (rw (e, barred) at h))))
-      go true e none f = rw (e, gate, q, f) (ap bars (sym (some-is x 21 (rw (e, barred, f) at h))))
-      go true e (some r) f = absurd (some-none x (rw (e, barred, f) at h))
+      go false e o f = rw (e, gate) (ap bars (sym (Option·some-injective x 25 (rw (e, barred) at h))))
+      go true e none f = rw (e, gate, q, f) (ap bars (sym (Option·some-injective x 21 (rw (e, barred, f) at h))))
+      go true e (some r) f = absurd (Option·some-ne-none x (rw (e, barred, f) at h))
 
   pub gate-admits : none ≡ barred l → (r : Register) × (held (l .stored) ≡ some r) × (gate c l ≡ admits r)
   unfolding barred gate
@@ -83,6 +76,6 @@ module _ (c : Call) (l : Lent) (q : registerFor c l ≡ held (l .stored)) where
     where
       go : (b : Bool) → allFit l ≡ b → (o : Option Register) → held (l .stored) ≡ o
           → (r : Register) × (held (l .stored) ≡ some r) × (gate c l ≡ admits r)
-      go false e o f = absurd (some-none 25 (sym (rw (e, barred) at h)))
-      go true e none f = absurd (some-none 21 (sym (rw (e, barred, f) at h)))
+      go false e o f = absurd (Option·some-ne-none 25 (sym (rw (e, barred) at h)))
+      go true e none f = absurd (Option·some-ne-none 21 (sym (rw (e, barred, f) at h)))
       go true e (some r) f = (r, f, rw (e, gate, q, f))

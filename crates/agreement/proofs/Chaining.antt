@@ -20,24 +20,15 @@ use Rattle.model.proofs.Walks.Turn.{At}
 use Rattle.model.proofs.Walks.Trail.{proper-at, walk-on, walk-stop}
 use Rattle.model.proofs.Walks.Ended.{Next, next-edge}
 use Rattle.model.proofs.Series.Held.{edge-read}
-use Rattle.agreement.proofs.Lists.{PairAt}
-use Rattle.agreement.proofs.Linked.{far-agrees}
 use Rattle.agreement.proofs.Lockstep.{Shows, shows-regular, shows-singular, shows-turn}
-use Rattle.agreement.proofs.Tables.{shows}
+use Rattle.agreement.proofs.Tables.{far-is, shows}
 use Rattle.agreement.proofs.Growing.{Grown, landed-below, lawful, low-at, proper, room}
 
 -- ---- what the tables say of an edge
 
-pub ends-are : (r : Register) (d : ℕ) → d < length (r .edges) → PairAt ((tablesOf r) .ends) d ((edgeAt (r .edges) d) .first) ((edgeAt (r .edges) d) .second)
-unfolding edgeIn
-ends-are r d h = (ap (λ (e : Edge). e .first) (edge-read r d h), ap (λ (e : Edge). e .second) (edge-read r d h))
-
 pub length-is : (r : Register) (d : ℕ) → d < length (r .edges) → getD ((tablesOf r) .lengths) d 0 ≡ lengthAt (r .edges) d
 unfolding edgeIn lengthAt
 length-is r d h = ap (λ (e : Edge). e .len) (edge-read r d h)
-
-pub far-is : (r : Register) (d v : ℕ) → d < length (r .edges) → farIn ((tablesOf r) .ends) d v ≡ far (r .edges) d v
-far-is r d v h = far-agrees (r .edges) ((tablesOf r) .ends) d v (ends-are r d h)
 
 module _ (r : Register) (g : Grown r) where
   -- an edge lies at its two ends

@@ -6,7 +6,7 @@ use native.Mathlib.Omega.{arith}
 use native.Mathlib.Nat.{not-suc-le-zero}
 use native.Mathlib.Decide.{ℕ-discrete}
 use mathlib.Core.Bool.{Bool, true, false, not}
-use mathlib.Core.Option.{Option, none, some}
+use mathlib.Core.Option.{Option, none, some, Option·none-ne-some, Option·some-injective, Option·some-ne-none}
 use mathlib.Core.List.{List, [], _∷_, map}
 use lib.ListN.{length, getD}
 use lib.Dec.{eqb, ltb}
@@ -23,9 +23,9 @@ use Rattle.model.proofs.Walks.Turn.{At, Turned, TwoEdges, turned, two-edges}
 use Rattle.model.proofs.Walks.Trail.{across}
 use Rattle.model.proofs.Series.Labelled.{Labelled, find-none, find-own, label-not-zero, regular-landed}
 use Rattle.agreement.proofs.Lists.{PairAt}
-use Rattle.agreement.proofs.Tables.{degrees-read, sides-linked}
+use Rattle.agreement.proofs.Tables.{degrees-read, far-is, sides-linked}
 use Rattle.agreement.proofs.Growing.{Grown, few, labelled, labels-long, low-at, no-label, proper}
-use Rattle.agreement.proofs.Chaining.{far-is, length-few, length-is, onwards-sum, sum32-is, walk-agrees}
+use Rattle.agreement.proofs.Chaining.{length-few, length-is, onwards-sum, sum32-is, walk-agrees}
 use Rattle.agreement.proofs.Lowest.{name-agrees, one-name}
 
 -- the sides of a regular vertex
@@ -81,20 +81,14 @@ record Holds (at label v : ℕ) (xs : List ℕ) : Type 0 where
   inside : place < length xs
   label-is : getD xs place 0 ≡ label
 
-some-is : (v w : ℕ) → some v ≡ some w → v ≡ w
-some-is v w e = cc
-
-none-some : (v : ℕ) → none ≡ some v → ⊥
-none-some v e = let z : _≡_ {A = ℕ} 0 1 = cc in omega arith
-
 first-some : (at label v : ℕ) (xs : List ℕ) → firstFrom at label xs ≡ some v → Holds at label v xs
 unfolding firstFrom
-first-some at label v [] e = absurd (none-some v e)
+first-some at label v [] e = absurd (Option·none-ne-some v e)
 first-some at label v (x ∷ xs) e = go (eqb x label) refl (λ h. first-some (suc at) label v xs h)
   where
     go : (b : Bool) → eqb x label ≡ b → (firstFrom (suc at) label xs ≡ some v → Holds (suc at) label v xs) → Holds at label v (x ∷ xs)
     go true q ih =
-        let i : at ≡ v = some-is at v (rw (q, firstFrom) at e) in
+        let i : at ≡ v = Option·some-injective at v (rw (q, firstFrom) at e) in
         record { place = 0; found-at = omega arith; inside = omega arith; label-is = eqb-true x label q }
     go false q ih =
         let k = ih (rw (q, firstFrom) at e) in
@@ -108,7 +102,7 @@ first-none at label (x ∷ xs) e i h = go (eqb x label) refl i h (λ k j l. firs
   where
     go : (b : Bool) → eqb x label ≡ b → (i : ℕ) → i < length (x ∷ xs)
         → (firstFrom (suc at) label xs ≡ none → (j : ℕ) → j < length xs → getD xs j 0 ≢ label) → getD (x ∷ xs) i 0 ≢ label
-    go true q i h ih = absurd (none-some at (sym (rw (q, firstFrom) at e)))
+    go true q i h ih = absurd (Option·some-ne-none at (rw (q, firstFrom) at e))
     go false q zero h ih = eqb-false x label q
     go false q (suc j) h ih = ih (rw (q, firstFrom) at e) j (omega arith)
 

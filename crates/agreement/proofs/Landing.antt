@@ -7,7 +7,7 @@ use mathlib.Core.Bool.{Bool, true, false, not, _&&_, _||_}
 use mathlib.Core.List.{List, [], _∷_, _++_}
 use lib.ListN.{length, getD, set}
 use lib.Dec.{eqb, leb, ltb}
-use borrow.Author.Tests.{eqb-false, leb-false, ltb-true}
+use borrow.Author.Tests.{eqb-false, leb-false, ltb-true, not-false}
 use Rattle.model.specs.Basics.{if_then_else_, maxEdges, maxLength}
 use Rattle.model.specs.Graph.{Edge}
 use Rattle.model.specs.Cases.{caseOf, classOf, closesRing}
@@ -16,7 +16,7 @@ use Rattle.model.specs.Register.{Landed, Register, landEdge, landed, marksOf, r
 use Rattle.model.specs.Tables.{Counts, Tables, countsOf, tablesOf}
 use Rattle.tables.specs.Steps.{more16, setPair, sum32, tables}
 use Rattle.insertion.specs.Insertion.{LandingIn, Placed, counts, done, insertIn, landIn, landingIn, placeIn, refusedIn}
-use Rattle.model.proofs.Basics.Booleans.{and-true, not-false}
+use Rattle.model.proofs.Basics.Booleans.{and-true}
 use Rattle.model.proofs.Walks.NewEdge.{length-new}
 use Rattle.model.proofs.Series.Small.{total-small}
 use Rattle.agreement.proofs.Lists.{ends-stored, lengths-stored}

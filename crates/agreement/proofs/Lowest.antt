@@ -20,7 +20,8 @@ use Rattle.model.proofs.Walks.RingFree.{RingFree}
 use Rattle.model.proofs.Chains.Partition.{On, chain-mem, mem-chain, on, same-name}
 use Rattle.model.proofs.Chains.Own.{chain-inner, inner-chain}
 use Rattle.agreement.proofs.Growing.{Grown, proper, rings}
-use Rattle.agreement.proofs.Chaining.{Step, at-first, at-second, ends-are, steps, stops}
+use Rattle.agreement.proofs.Tables.{ends-are}
+use Rattle.agreement.proofs.Chaining.{Step, at-first, at-second, steps, stops}
 
 -- ---- the least of x and the numbers of a list, x compared first
 

@@ -4,7 +4,7 @@ use mathlib.Core.Logic.{_≢_}
 use Prim.Native.Nat.{ℕ, zero, suc, _+_, _*_, _≤_, _<_, min}
 use native.Mathlib.Omega.{arith}
 use mathlib.Core.Bool.{Bool, true, false}
-use mathlib.Core.List.{List, [], map}
+use mathlib.Core.List.{List, map}
 use lib.ListN.{length, getD}
 use lib.Dec.{eqb, ltb}
 use borrow.Author.Tests.{eq-eqb, ne-eqb, ltb-true, ltb-false}
@@ -17,7 +17,8 @@ use Rattle.queries.specs.Chains.{isNameIn, noLowerIn}
 use Rattle.model.proofs.Walks.Turn.{At}
 use Rattle.model.proofs.Walks.Trail.{walk-on, walk-stop}
 use Rattle.agreement.proofs.Growing.{Grown}
-use Rattle.agreement.proofs.Chaining.{Step, at-first, at-second, ends-are, steps, stops, withLabels}
+use Rattle.agreement.proofs.Tables.{ends-are}
+use Rattle.agreement.proofs.Chaining.{Step, at-first, at-second, steps, stops, withLabels}
 use Rattle.agreement.proofs.Lowest.{lower, lower-min, lower-most, name-is}
 
 -- one step of the test, by which of the two vertices are regular

@@ -15,7 +15,8 @@ use Rattle.tables.specs.Steps.{sum32}
 use Rattle.queries.specs.Chains.{isNameIn, rowIn, rowsIn, sheetIn}
 use Rattle.model.proofs.Basics.Lists.{sum-append, sum-reverse}
 use Rattle.agreement.proofs.Growing.{Grown}
-use Rattle.agreement.proofs.Chaining.{at-first, at-second, ends-are, length-few, length-is, onwards-sum, walk-agrees, walkIn-labels, withLabels}
+use Rattle.agreement.proofs.Tables.{ends-are}
+use Rattle.agreement.proofs.Chaining.{at-first, at-second, length-few, length-is, onwards-sum, walk-agrees, walkIn-labels, withLabels}
 use Rattle.agreement.proofs.Naming.{is-name-agrees, isNameIn-labels}
 
 -- ---- one row

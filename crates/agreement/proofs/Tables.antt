@@ -1,5 +1,5 @@
 -- What the tables of a register show, and which tables are those of a register.
-use mathlib.Core.Path.{_≡_, refl, sym, _∙_}
+use mathlib.Core.Path.{_≡_, refl, sym, ap, _∙_}
 use mathlib.Core.Logic.{_≢_}
 use Prim.Native.Nat.{ℕ, _+_, _*_, _≤_, _<_, min}
 use native.Mathlib.Omega.{arith}
@@ -9,14 +9,14 @@ use lib.ListN.{length, getD, length-set}
 use lib.Seq.{getD-set-other, getD-set-same}
 use borrow.Author.Tests.{eq-eqb, ne-eqb}
 use Rattle.model.specs.Basics.{maxEdges, maxVertices}
-use Rattle.model.specs.Graph.{Edge, degree, endsAt, far, isLeaf, isRegular, onlyEdge, same, turn}
+use Rattle.model.specs.Graph.{Edge, degree, edgeAt, endsAt, far, isLeaf, isRegular, onlyEdge, same, turn}
 use Rattle.model.specs.Register.{Register}
-use Rattle.model.specs.Tables.{endsOf, highSide, lowSide, padded, tablesOf}
+use Rattle.model.specs.Tables.{edgeIn, highSide, lowSide, tablesOf}
 use Rattle.tables.specs.Steps.{farIn, more16, raiseBothIn, raiseIn}
-use Rattle.model.proofs.Walks.Counting.{same-eq, same-ne}
+use Rattle.model.proofs.Walks.Counting.{same-eq, same-most, same-ne}
 use Rattle.model.proofs.Walks.Degree.{Proper, degree-snoc, endsAt-le}
 use Rattle.model.proofs.Walks.Turn.{At}
-use Rattle.model.proofs.Series.Held.{ends-read, length-ends, padded-read}
+use Rattle.model.proofs.Series.Held.{edge-read}
 use Rattle.agreement.proofs.Lists.{PairAt, by-pairs, getD-upTo, is-map, length-sidesOf, length-upTo, sidesOf-read}
 use Rattle.agreement.proofs.Linked.{Linked, far-agrees}
 use Rattle.agreement.proofs.Lockstep.{Shows}
@@ -108,13 +108,6 @@ raise-read degrees x v l h = go (ℕ-discrete v x)
     go (yes e) = rw e (omega (arith, getD-set-same degrees x (min (getD degrees x 0 + 1) 65535) 0 l, same-eq x x refl))
     go (no n) = omega (arith, getD-set-other degrees x v (min (getD degrees x 0 + 1) 65535) 0 n, same-ne x v (λ e. n (sym e)))
 
-same-most : (x v : ℕ) → same x v ≤ 1
-same-most x v = go (ℕ-discrete x v)
-  where
-    go : Dec (x ≡ v) → same x v ≤ 1
-    go (yes e) = omega (arith, same-eq x v e)
-    go (no n) = omega (arith, same-ne x v n)
-
 pub length-raised : (degrees : List ℕ) (a b : ℕ) → length (raiseBothIn degrees a b) ≡ length degrees
 unfolding raiseBothIn
 length-raised degrees a b = length-raise (raiseIn degrees a) b ∙ length-raise degrees a
@@ -139,16 +132,13 @@ raised es n degrees pr room long la lb h v l =
 
 -- ---- ends
 
-fars-read : (r : Register) (d v : ℕ) → d < length (r .edges) → farIn ((tablesOf r) .ends) d v ≡ far (r .edges) d v
-unfolding tablesOf
-fars-read r d v h =
-    let es = r .edges in
-    let p = ends-read es d h in
-    far-agrees es (padded (2 * maxEdges) (endsOf es)) d v (
-      padded-read (2 * maxEdges) (2 * d) (endsOf es) (omega (arith, length-ends es)) ∙ p .0,
-      padded-read (2 * maxEdges) (2 * d + 1) (endsOf es) (omega (arith, length-ends es)) ∙ p .1,
-    )
+pub ends-are : (r : Register) (d : ℕ) → d < length (r .edges) → PairAt ((tablesOf r) .ends) d ((edgeAt (r .edges) d) .first) ((edgeAt (r .edges) d) .second)
+unfolding edgeIn
+ends-are r d h = (ap (λ (e : Edge). e .first) (edge-read r d h), ap (λ (e : Edge). e .second) (edge-read r d h))
+
+pub far-is : (r : Register) (d v : ℕ) → d < length (r .edges) → farIn ((tablesOf r) .ends) d v ≡ far (r .edges) d v
+far-is r d v h = far-agrees (r .edges) ((tablesOf r) .ends) d v (ends-are r d h)
 
 pub shows : (r : Register) → ((v : ℕ) → degree (r .edges) v ≡ 2 → At (r .edges) v (getD (r .lows) v 0)) → ((v d : ℕ) → At (r .edges) v d → v < maxVertices)
     → Shows (r .edges) ((tablesOf r) .degrees) ((tablesOf r) .ends) ((tablesOf r) .sides) (r .lows)
-shows r at below = record { degrees-are = degrees-read r; fars-are = fars-read r; links = sides-linked r at; below = below }
+shows r at below = record { degrees-are = degrees-read r; fars-are = far-is r; links = sides-linked r at; below = below }

@@ -3,14 +3,14 @@ use mathlib.Core.Path.{_≡_, refl, sym, ap, _∙_}
 use Prim.Native.Nat.{ℕ, _*_, _≤_}
 use native.Mathlib.Omega.{arith}
 use mathlib.Core.Bool.{Bool, true, false}
-use mathlib.Core.List.{List, []}
-use mathlib.Core.Option.{Option, none, some}
+use mathlib.Core.List.{[]}
+use mathlib.Core.Option.{Option, none, some, Option·some-ne-none}
 use lib.ListN.{length, replicate, length-replicate}
 use Rattle.model.specs.Basics.{maxEdges, maxVertices}
 use Rattle.model.specs.Queries.{Reply, measure}
 use Rattle.model.specs.Register.{Register}
 use Rattle.model.specs.Notions.{Reachable}
-use Rattle.model.specs.Tables.{Counts, Stored, Tables, cleared, countsOf, fits, held, rightSizes, sizes, storedOf, tablesOf}
+use Rattle.model.specs.Tables.{Counts, Stored, Tables, cleared, countsOf, held, storedOf, tablesOf}
 use Rattle.model.specs.Calls.{Lent, allFit, answers, effect, measures, registerFor, scratchAfter, step}
 use Rattle.model.proofs.Series.OnlyHeld.{only-held}
 use Rattle.model.proofs.Series.Reachable.{full}
@@ -18,14 +18,11 @@ use Rattle.tables.specs.Steps.{tables, zeroed}
 use Rattle.register.specs.Meaning.{lent}
 use Rattle.lookups.specs.Meaning.{answered}
 use Rattle.admission.specs.Gate.{barred}
-use Rattle.lookups.proofs.QueryLaws.{Answers, query-answered, query-refused}
+use Rattle.lookups.proofs.QueryLaws.{Answers, query-answered}
 use Rattle.search.specs.Search.{Searchable}
 use Rattle.distance.specs.Measure.{measureIn}
 use Rattle.distance.proofs.Registers.{searchable}
 use Rattle.distance.proofs.Measuring.{measure-agrees}
-
-some-none : (n : ℕ) → some n ≡ none → ⊥
-some-none n e = let z : _≡_ {A = ℕ} 0 1 = cc in omega arith
 
 -- an open gate: the sizes are right, and the tables hold a register
 record Open (l : Lent) : Type 0 where
@@ -39,8 +36,8 @@ unfolding barred
 opened l h = go (allFit l) refl (held (l .stored)) refl
   where
     go : (b : Bool) → allFit l ≡ b → (o : Option Register) → held (l .stored) ≡ o → Open l
-    go false e o f = absurd (some-none 25 (sym (rw (e, barred) at h)))
-    go true e none f = absurd (some-none 21 (sym (rw (e, barred, f) at h)))
+    go false e o f = absurd (Option·some-ne-none 25 (sym (rw (e, barred) at h)))
+    go true e none f = absurd (Option·some-ne-none 21 (sym (rw (e, barred, f) at h)))
     go true e (some r) f =
         let k = only-held (l .stored) r f in
         record { fit = e; register = r; reachable = k .reachable; stored-is = k .stored-is }

@@ -7,10 +7,11 @@ use mathlib.Core.List.{List}
 use native.Mathlib.Omega.{arith}
 use mathlib.Core.Bool.{Bool, true, false}
 use lib.ListN.{getD}
-use lib.Dec.{T, eqb}
+use lib.Dec.{eqb}
 use borrow.Author.Tests.{le-leb, lt-leb, eqb-true, eq-eqb}
 use Rattle.model.specs.Tables.{Tables, Counts, edgeIn}
 use Rattle.tables.specs.Steps.{tables, zeroed}
+use Rattle.tables.proofs.Lists.{same-no}
 use Rattle.insertion.specs.Insertion.{AnswerIn, done, refusedIn, LandingIn, landingIn, counts, landIn}
 use Rattle.agreement.proofs.Same.{Same}
 use Rattle.holding.specs.Replay.{ownEdge, replayIn, regrowIn, Regrows}
@@ -68,18 +69,12 @@ module _ (es ls : List ℕ) (n e i a b l : ℕ) (t t′ : Tables) (c : Counts) (
 
 -- ---- the comparison
 
-pub counts-differ : (a b : Counts) → (a ≡ b → ⊥) → (false ≡ true → a ≡ b) × (a ≡ b → false ≡ true)
-counts-differ a b h = (λ e. absurd (subst T (sym e) tt), λ e. absurd (h e))
-
 pub counts-last : (a b : Counts) → a .vertices ≡ b .vertices → a .edges ≡ b .edges → a .blocks ≡ b .blocks
     → (eqb (a .relabellings) (b .relabellings) ≡ true → a ≡ b) × (a ≡ b → eqb (a .relabellings) (b .relabellings) ≡ true)
 counts-last a b v e k = (λ h. all (eqb-true _ _ h), λ h. eq-eqb _ _ (ap (λ (c : Counts). c .relabellings) h))
   where
     all : a .relabellings ≡ b .relabellings → a ≡ b
     all n = λ i. counts (v i) (e i) (k i) (n i)
-
-pub false-true : false ≡ true → ⊥
-false-true e = subst T (sym e) tt
 
 pub done-is : (t t′ : Tables) (c c′ : Counts) → landingIn t (done c) ≡ landingIn t′ (done c′) → (t ≡ t′) × (c ≡ c′)
 done-is t t′ c c′ e = (tables-of e, of (answer-of e))
@@ -96,20 +91,15 @@ refused-done t t′ x c e = of (answer-of e)
 -- What the replay left is compared with the register `own` and its counts c: it was refused; the counts differ; or they agree and
 -- the tables decide.
 module _ (own : Tables) (c : Counts) (t t′ : Tables) (answer : AnswerIn) where
+  regrows-not : (regrowIn (own .ends) (own .lengths) c t ≡ landingIn own (done c) → ⊥) → Regrows false own c t
+  regrows-not h = let n = same-no (regrowIn (own .ends) (own .lengths) c t) (landingIn own (done c)) h in record { if-true = n .0; true-if = n .1 }
+
   pub regrows-refused : (x : ℕ) → answer ≡ refusedIn x → landingIn t′ answer ≡ regrowIn (own .ends) (own .lengths) c t → Regrows false own c t
-  regrows-refused x w q =
-      record {
-        if-true = λ e. absurd (false-true e);
-        true-if = λ e. absurd (refused-done t′ own x c (ap (landingIn t′) (sym w) ∙ q ∙ e));
-      }
+  regrows-refused x w q = regrows-not (λ e. refused-done t′ own x c (ap (landingIn t′) (sym w) ∙ q ∙ e))
 
   pub regrows-other : (c′ : Counts) → answer ≡ done c′ → landingIn t′ answer ≡ regrowIn (own .ends) (own .lengths) c t → (c′ ≡ c → ⊥)
       → Regrows false own c t
-  regrows-other c′ w q h =
-      record {
-        if-true = λ e. absurd (false-true e);
-        true-if = λ e. absurd (h ((done-is t′ own c′ c (ap (landingIn t′) (sym w) ∙ q ∙ e)) .1));
-      }
+  regrows-other c′ w q h = regrows-not (λ e. h ((done-is t′ own c′ c (ap (landingIn t′) (sym w) ∙ q ∙ e)) .1))
 
   pub regrows-same : (c′ : Counts) (r : Bool) → answer ≡ done c′ → landingIn t′ answer ≡ regrowIn (own .ends) (own .lengths) c t → c′ ≡ c
       → (r ≡ true → own ≡ t′) × (own ≡ t′ → r ≡ true) → Regrows r own c t

@@ -11,6 +11,7 @@ use lib.Dec.{eqb}
 use lib.ListN.{getD, set}
 use Rattle.model.specs.Basics.{if_then_else_}
 use Rattle.model.specs.Labels.{base, isRelabelled}
+use Rattle.model.proofs.Basics.Booleans.{one-most}
 use Rattle.tables.specs.Steps.{farIn, turnIn, more16, nextIn}
 use Rattle.labels.specs.Labelling.{Worn, worn, after, orientIn, labelIn, relabelIn, extendAt, extendIn}
 
@@ -20,15 +21,11 @@ pub label-law : (s l s′ l′ : List ℕ) (v label inner outer old n : ℕ) (up
 unfolding labelIn
 label-law s l s′ l′ v label inner outer old n up r a b c d e = rw (← a, ← b, ← c, ← d, ← e)
 
-one-le : (b : Bool) → (if b then 1 else 0) ≤ 1
-one-le true = omega arith
-one-le false = omega arith
-
 -- a vertex is relabelled at most once
 pub label-le : (s l s′ l′ : List ℕ) (v label inner outer n : ℕ) (up : Bool)
     → worn s′ l′ n ≡ labelIn s l v label inner outer up → n ≤ 1
 unfolding labelIn
-label-le s l s′ l′ v label inner outer n up e = rw (ap (λ (w : Worn). w .count) e) (one-le (isRelabelled (getD l v 0) label))
+label-le s l s′ l′ v label inner outer n up e = rw (ap (λ (w : Worn). w .count) e) (one-most (isRelabelled (getD l v 0) label))
 
 pub after-none : (w : Worn) → w ≡ after 0 w
 unfolding after
@@ -72,7 +69,7 @@ module _ (degrees ends : List ℕ) (up : Bool) where
       count-if (eqb (getD degrees v 0) 2) _ _ (suc n)
       (omega (
         arith,
-        one-le (isRelabelled (getD l v 0) label),
+        one-most (isRelabelled (getD l v 0) label),
         count-le n (w .sides) (w .labels) c (farIn ends c v) (nextIn up label),
       ))
       (omega arith)

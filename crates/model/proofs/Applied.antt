@@ -1,9 +1,9 @@
 -- Demand 3 of two series: what its claim comes to where lists stop, calls are refused and the register is cleared in between; and
 -- that its bound needs both factors.
-use mathlib.Core.Path.{_≡_, refl, ap, _∙_, subst}
+use mathlib.Core.Path.{_≡_, ap, _∙_, subst}
 use Prim.Native.Nat.{ℕ, _*_, _≤_}
 use native.Mathlib.Omega.{arith}
-use mathlib.Core.Bool.{Bool, true}
+use mathlib.Core.Bool.{Bool}
 use mathlib.Core.List.{List, []}
 use mathlib.Core.Option.{some}
 use lib.ListN.{length, take}
@@ -11,11 +11,11 @@ use Rattle.model.specs.Basics.{floorLog, if_then_else_, sum}
 use Rattle.model.specs.Register.{empty}
 use Rattle.model.specs.Distance.{joined}
 use Rattle.model.specs.Queries.{found, measured, reached, refuses}
-use Rattle.model.specs.Tables.{cleared, fits, held}
+use Rattle.model.specs.Tables.{cleared, held}
 use Rattle.model.specs.Calls.{Call, effect, finds, measures, reaches, sheets}
 use Rattle.model.specs.Series.{AtEnd, Demand3, Made, after, ask, lengthColumn, series, since, start}
-use Rattle.model.specs.Computing.{computing}
 use Rattle.model.proofs.Accepted.{calls, pairs, pairwise, settled}
+use Rattle.model.proofs.Series.Facts.{cleared-fits}
 use Rattle.model.proofs.Series.Whole.{demand3}
 
 -- ---- lists that stop, refused calls, clearings in between
@@ -23,11 +23,6 @@ use Rattle.model.proofs.Series.Whole.{demand3}
 pub at-end : AtEnd (series calls start) (after calls empty) (since calls empty [])
 unfolding Demand3
 at-end = demand3 calls
-
--- scratch of the right sizes
-cleared-fits : fits cleared ≡ true
-unfolding computing
-cleared-fits = refl
 
 asked : (c : Call) → (ask c (series calls start)) .reply ≡ (effect c (after calls empty)) .reply
 unfolding ask

@@ -9,6 +9,7 @@ use native.Mathlib.Omega.{arith}
 use lib.ListN.{length, getD, length-append}
 use Rattle.model.specs.Basics.{if_then_else_, countFrom, upTo}
 use Rattle.model.specs.Tables.{Tables}
+use Rattle.model.proofs.Basics.Booleans.{one-most}
 use Rattle.tables.specs.Steps.{sum32}
 use Rattle.queries.specs.Chains.{walked, walkIn, isNameIn, rowIn, rowsIn}
 
@@ -28,10 +29,6 @@ countFrom-snoc at (suc n) = rw (add-suc, ← suc-add) (ap (λ (xs : List ℕ). a
 upTo-snoc : (n : ℕ) → upTo (n + 1) ≡ upTo n ++ (n ∷ [])
 unfolding upTo
 upTo-snoc n = rw (add-one, countFrom-snoc 0 n, zero-add)
-
-one-most : (b : Bool) → (if b then 1 else 0) ≤ 1
-one-most true = omega arith
-one-most false = omega arith
 
 module _ (t : Tables) (n : ℕ) where
   pub rows-none : rowsIn t n (upTo 0) ≡ []

@@ -38,7 +38,7 @@ concat-snoc [] r = append-nil r
 concat-snoc (x ∷ rs) r = rw (concat-snoc rs r) (sym (append-assoc x (concat rs) r))
 
 module _ (t : Tables) (n : ℕ) where
-  rows-fives : (ds : List ℕ) → length (concat (rowsIn t n ds)) ≡ 5 * length (rowsIn t n ds)
+  pub rows-fives : (ds : List ℕ) → length (concat (rowsIn t n ds)) ≡ 5 * length (rowsIn t n ds)
   unfolding rowsIn rowIn concat
   rows-fives [] = refl
   rows-fives (d ∷ ds) = go (isNameIn t n d) refl (rows-fives ds)

@@ -10,7 +10,7 @@ use Rattle.model.specs.Labels.{base, inwards}
 use Rattle.model.proofs.Walks.Degree.{degree-snoc}
 use Rattle.model.proofs.Walks.Turn.{At}
 use Rattle.model.proofs.Walks.Trail.{across}
-use Rattle.model.proofs.Groups.Shape.{Shape, size, size-none, Between, Courses}
+use Rattle.model.proofs.Groups.Shape.{Shape, size, size-fresh, Between, Courses}
 use Rattle.model.proofs.Groups.Flip.{flipped, flip-group, flip-place, flip-low, flip-courses}
 use Rattle.model.proofs.Groups.Grown.{Growth, After, after, size-x}
 use Rattle.model.proofs.Labels.Following.{Ith, later}
@@ -47,7 +47,7 @@ module _ (jo : Joined) where
     size-now = size-x (growth jo) ∙ plus-none (size h (length es) (length es)) empty-last
       where
         empty-last : size h (length es) (length es) ≡ 0
-        empty-last = size-none h (length es) (length es) (λ a i q. omega (arith, w .below a i, q))
+        empty-last = size-fresh w (length es) (omega arith)
 
         plus-none : (o : ℕ) → o ≡ 0 → size₁ + o + 1 ≡ size₁ + 1
         plus-none o q = omega arith

@@ -10,7 +10,7 @@ use lib.ListN.{length}
 use Rattle.model.specs.Graph.{Edge, Pass, degree, endsAt}
 use Rattle.model.specs.Labels.{Labelling, Marks, labelPath, inwards, relabelCount}
 use Rattle.model.proofs.Walks.Degree.{Proper, degree-snoc, proper-snoc, end-first, end-second, two-ends}
-use Rattle.model.proofs.Walks.Turn.{At, TwoEdges, two-edges}
+use Rattle.model.proofs.Walks.Turn.{At, some-edge}
 use Rattle.model.proofs.Walks.RingFree.{RingFree}
 use Rattle.model.proofs.Groups.Shape.{Shape, size, Courses, no-shape, no-courses}
 use Rattle.model.proofs.Groups.Flip.{flipped, flip-courses}
@@ -57,7 +57,7 @@ module _ (es : List Edge) (p : Edge) (pr : Proper es) (d : p .first ≢ p .secon
   new = es ++ (p ∷ [])
 
   some : (v : ℕ) → degree new v ≡ 2 → (e : ℕ) × At new v e
-  some v c = let t : TwoEdges new v = two-edges new v (proper-snoc es p pr d) c in (t .low, t .low-at)
+  some v c = some-edge new v (proper-snoc es p pr d) c
 
   abbrev P : Shape → Type 0
   P h = Ghost es relabellings m blocks h

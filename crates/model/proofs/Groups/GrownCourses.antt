@@ -12,7 +12,7 @@ use Rattle.model.specs.Graph.{same}
 use Rattle.model.proofs.Walks.Counting.{same-eq, same-ne}
 use Rattle.model.proofs.Chains.Sums.{total, total-same, total-add, total-zero, total-one}
 use Rattle.model.proofs.Walks.NewEdge.{length-new}
-use Rattle.model.proofs.Groups.Shape.{size, pick-yes, pick-no, size-none, Courses}
+use Rattle.model.proofs.Groups.Shape.{size, pick-yes, pick-no, size-none, Courses, spent-fresh}
 use Rattle.model.proofs.Groups.Grown.{grown, Growth, After, after, new-one, in-x, in-y, elsewhere, Look, look, seen-new, seen-y, seen-old, size-x, size-o, below′, old-x, fits′, apart′, ends′, open-gx, open-o}
 use Rattle.model.proofs.Groups.GrownEnds.{leaf′, between′}
 
@@ -58,12 +58,6 @@ module _ (it : Growth) where
       go (no q) (yes r) = rw (r, spent-y, gy-none) (omega arith)
       go (no q) (no r) = rw (size-o it g q r, spent-o g q r) (w .cost-open g (sym (open-o it g q) ∙ t))
 
-  spent-none : (g : ℕ) → length es ≤ g → h .spent g ≡ 0
-  spent-none g l =
-      let z : size h (length es) g ≡ 0 = size-none h (length es) g (λ e i q. omega (arith, w .below e i, q)) in
-      let c : h .spent g ≤ 0 * floorLog 0 = rw z at (w .cost g) in
-      omega (arith, c)
-
   each-spent : (g : ℕ) → h′ .spent g + same gy g * h .spent gy ≡ h .spent g + same gx g * (h .spent gy + k)
   each-spent g = go (ℕ-discrete gx g) (ℕ-discrete gy g)
     where
@@ -79,7 +73,7 @@ module _ (it : Growth) where
       go : Dec (gy < m) → total m (λ g. same gy g * h .spent gy) ≡ h .spent gy
       go (yes q) = total-one m gy (λ g. h .spent gy) q
       go (no q) =
-          let z : h .spent gy ≡ 0 = spent-none gy (omega (arith, length-new es p)) in
+          let z : h .spent gy ≡ 0 = spent-fresh w gy (omega (arith, length-new es p)) in
           rw z (total-same m (λ g. same gy g * 0) (λ g. 0) (λ g i. omega arith) ∙ total-zero m)
 
   sums′ : (m : ℕ) → length new ≤ m → total m (h′ .spent) ≡ relabellings + k

@@ -3,13 +3,12 @@ use mathlib.Core.Path.{_≡_, refl, sym, _∙_, subst}
 use mathlib.Core.Logic.{_≢_, _⊎_, inl, inr}
 use Prim.Native.Nat.{ℕ, zero, suc, _+_, _≤_, _<_}
 use native.Mathlib.Omega.{arith}
-use native.Mathlib.Decide.{ℕ-discrete}
 use mathlib.Core.Bool.{Bool, true, false}
 use mathlib.Core.List.{List, [], _∷_, _++_}
 use lib.ListN.{length}
-use Rattle.model.specs.Graph.{Edge, Pass, degree, far, same}
+use Rattle.model.specs.Graph.{Edge, Pass, degree, far}
 use Rattle.model.specs.Labels.{Labelling, Marks, base}
-use Rattle.model.proofs.Walks.Counting.{same-eq, same-ne}
+use Rattle.model.proofs.Walks.Counting.{same-most}
 use Rattle.model.proofs.Walks.Degree.{Proper, degree-snoc, proper-snoc, two-ends}
 use Rattle.model.proofs.Walks.Turn.{At}
 use Rattle.model.proofs.Walks.Snoc.{far-old}
@@ -26,17 +25,10 @@ use Rattle.model.proofs.Groups.Blocks.{Start, between-or}
 use Rattle.model.proofs.Groups.InPath.{InPath, ith-below, rises-ith, Beside, itself, of-path, before-it, its-end, beside}
 use Rattle.model.proofs.Groups.Relabel.{OnPath}
 
-same-le : (x y : ℕ) → same x y ≤ 1
-same-le x y = go (ℕ-discrete x y)
-  where
-    go : Dec (x ≡ y) → same x y ≤ 1
-    go (yes e) = omega (arith, same-eq x y e)
-    go (no e) = omega (arith, same-ne x y e)
-
 pub size-most : (h : Shape) (n g : ℕ) → size h n g ≤ n
 unfolding size total
 size-most h zero g = omega arith
-size-most h (suc n) g = omega (arith, size-most h n g, same-le (h .group n) g)
+size-most h (suc n) g = omega (arith, size-most h n g, same-most (h .group n) g)
 
 fits-next : (up : Bool) (q b start label i : ℕ) → 1 ≤ q → suc (start + i) ≤ b → Fits up q b start label → Fits up q b (suc (start + i)) (labelOf up label i)
 unfolding labelOf

@@ -14,7 +14,7 @@ use Rattle.model.proofs.Groups.FloorLog.{floorLog-most, floorLog-mono, 
 use Rattle.model.proofs.Walks.Degree.{Proper}
 use Rattle.model.proofs.Walks.Turn.{At}
 use Rattle.model.proofs.Walks.RingFree.{OneEdge, one-edge}
-use Rattle.model.proofs.Groups.Shape.{Shape, size, size-none, Courses}
+use Rattle.model.proofs.Groups.Shape.{Shape, size, Courses, group-fresh, size-fresh, spent-fresh}
 use Rattle.model.proofs.Groups.Grown.{Seam}
 
 -- arithmetic of the four
@@ -37,40 +37,30 @@ grow-two s t c e k a b q r = go (decLe s t)
     go (no l) = omega (arith, floorLog-merge s t (omega arith) (omega arith), q, r)
 
 module _ (es : List Edge) (p : Edge) (pr : Proper es) (relabellings : ℕ) (h : Shape) (w : Courses es relabellings h) where
-  -- groups that are not there yet
-  none : (g : ℕ) → length es ≤ g → (e : ℕ) → e < length es → h .group e ≢ g
-  none g l e i q = omega (arith, w .below e i, q)
-
-  size-fresh : (g : ℕ) → length es ≤ g → size h (length es) g ≡ 0
-  size-fresh g l = size-none h (length es) g (none g l)
-
-  spent-fresh : (g : ℕ) → length es ≤ g → h .spent g ≡ 0
-  spent-fresh g l = let c : h .spent g ≤ 0 * floorLog 0 = rw (size-fresh g l) at (w .cost g) in omega (arith, c)
-
   pub seam-new : (x y : ℕ) → endsAt x p ≡ 1 → endsAt y p ≡ 1 → x ≢ y → degree es x ≢ 1 → degree es y ≢ 1
       → Seam es p h (length es) (suc (length es)) x y 0 true
   seam-new x y ex ey d nx ny =
       let n = length es in
-      let z₁ = size-fresh n (omega arith) in
-      let z₂ = size-fresh (suc n) (omega arith) in
-      let c₁ = spent-fresh n (omega arith) in
-      let c₂ = spent-fresh (suc n) (omega arith) in
+      let z₁ = size-fresh w n (omega arith) in
+      let z₂ = size-fresh w (suc n) (omega arith) in
+      let c₁ = spent-fresh w n (omega arith) in
+      let c₂ = spent-fresh w (suc n) (omega arith) in
       record {
         differ = λ q. omega arith;
         gx-in = omega arith;
         x-end = ex;
         y-end = ey;
         x-y = d;
-        open-x = λ e i q. absurd (none n (omega arith) e i q);
-        open-y = λ e i q. absurd (none (suc n) (omega arith) e i q);
+        open-x = λ e i q. absurd (group-fresh w n (omega arith) e i q);
+        open-y = λ e i q. absurd (group-fresh w (suc n) (omega arith) e i q);
         y-some = λ e i q. refl;
         x-zero = λ q. (refl, z₁);
         y-zero = λ q. (refl, z₂);
         x-one = λ e q a. absurd (nx q);
         y-one = λ e t q a. absurd (ny q);
         y-in = λ e q a. absurd (ny q);
-        x-seam = λ e i q t. absurd (none n (omega arith) e i q);
-        y-seam = λ e i q t. absurd (none (suc n) (omega arith) e i q);
+        x-seam = λ e i q t. absurd (group-fresh w n (omega arith) e i q);
+        y-seam = λ e i q t. absurd (group-fresh w (suc n) (omega arith) e i q);
         shut = inl refl;
         pays = rw (z₁, z₂, c₁, c₂) (omega arith);
         pays-open = λ t. rw (z₁, z₂, c₁, c₂) (omega arith);
@@ -99,8 +89,8 @@ module _ (es : List Edge) (p : Edge) (pr : Proper es) (relabellings : ℕ) (h : 
     pub seam-extend : degree es y ≢ 1 → Seam es p h (h .group e) (length es) x y 0 true
     seam-extend ny =
         let n = length es in
-        let z = size-fresh n (omega arith) in
-        let c = spent-fresh n (omega arith) in
+        let z = size-fresh w n (omega arith) in
+        let c = spent-fresh w n (omega arith) in
         let m : h .spent (h .group e) + (size h n (h .group e) + 1) ≤ (size h n (h .group e) + 1) * floorLog (size h n (h .group e) + 1) + 1 =
         grow-one (size h n (h .group e)) (h .spent (h .group e)) gsize gcost in
         let sz : size h n (h .group e) + size h n n + 1 ≡ size h n (h .group e) + 1 = omega arith in
@@ -111,7 +101,7 @@ module _ (es : List Edge) (p : Edge) (pr : Proper es) (relabellings : ℕ) (h : 
           y-end = ey;
           x-y = d;
           open-x = λ c i q. w .leaf-open x e fx a;
-          open-y = λ c i q. absurd (none n (omega arith) c i q);
+          open-y = λ c i q. absurd (group-fresh w n (omega arith) c i q);
           y-some = λ c i q. refl;
           x-zero = λ q. absurd (omega arith);
           y-zero = λ q. (refl, z);
@@ -119,7 +109,7 @@ module _ (es : List Edge) (p : Edge) (pr : Proper es) (relabellings : ℕ) (h : 
           y-one = λ c t q b. absurd (ny q);
           y-in = λ c q b. absurd (ny q);
           x-seam = x-seam;
-          y-seam = λ c i q t. absurd (none n (omega arith) c i q);
+          y-seam = λ c i q t. absurd (group-fresh w n (omega arith) c i q);
           shut = inl refl;
           pays = rw sz (omega (arith, m));
           pays-open = λ t. rw sz (omega (arith, m));
@@ -167,8 +157,8 @@ module _ (es : List Edge) (p : Edge) (pr : Proper es) (relabellings : ℕ) (h : 
       pub seam-close : (k : ℕ) → h .group c ≡ h .group e → k < size h (length es) (h .group e) → Seam es p h (h .group e) (length es) x y k false
       seam-close k eq k₁ =
           let n = length es in
-          let z = size-fresh n (omega arith) in
-          let f = spent-fresh n (omega arith) in
+          let z = size-fresh w n (omega arith) in
+          let f = spent-fresh w n (omega arith) in
           let m : h .spent (h .group e) + k ≤ (size h n (h .group e) + 1) * floorLog (size h n (h .group e) + 1) =
           grow-shut (size h n (h .group e)) (h .spent (h .group e)) k k₁ gcost in
           let sz : size h n (h .group e) + size h n n + 1 ≡ size h n (h .group e) + 1 = omega arith in
@@ -179,15 +169,15 @@ module _ (es : List Edge) (p : Edge) (pr : Proper es) (relabellings : ℕ) (h : 
             y-end = ey;
             x-y = d;
             open-x = λ b i q. w .leaf-open x e fx a;
-            open-y = λ b i q. absurd (none n (omega arith) b i q);
-            y-some = λ b i q. absurd (none n (omega arith) b i q);
+            open-y = λ b i q. absurd (group-fresh w n (omega arith) b i q);
+            y-some = λ b i q. absurd (group-fresh w n (omega arith) b i q);
             x-zero = λ q. absurd (omega arith);
             y-zero = λ q. absurd (omega arith);
             x-one = x-one;
             y-one = λ b t q r. absurd (let zz : _≡_ {A = ℕ} 0 1 = cc in omega arith);
             y-in = λ b q r. rw (only-y b r) (inl eq);
             x-seam = x-seam;
-            y-seam = λ b i q t. absurd (none n (omega arith) b i q);
+            y-seam = λ b i q t. absurd (group-fresh w n (omega arith) b i q);
             shut = inr (λ b i q t. y-seam b i (q ∙ sym eq) t);
             pays = rw sz (omega (arith, m));
             pays-open = λ t. absurd (let zz : _≡_ {A = ℕ} 0 1 = cc in omega arith);

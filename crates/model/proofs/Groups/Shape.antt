@@ -73,6 +73,17 @@ pub record Courses (es : List Edge) (relabellings : ℕ) (h : Shape) : Type 0 wh
   pub cost-open : (g : ℕ) → h .isOpen g ≡ true → h .spent g + size h (length es) g ≤ size h (length es) g * floorLog (size h (length es) g) + 1
   pub sums : (m : ℕ) → length es ≤ m → total m (h .spent) ≡ relabellings
 
+-- groups that are not there yet
+module _ {es : List Edge} {relabellings : ℕ} {h : Shape} (w : Courses es relabellings h) (g : ℕ) (l : length es ≤ g) where
+  pub group-fresh : (e : ℕ) → e < length es → h .group e ≢ g
+  group-fresh e i q = omega (arith, w .below e i, q)
+
+  pub size-fresh : size h (length es) g ≡ 0
+  size-fresh = size-none h (length es) g group-fresh
+
+  pub spent-fresh : h .spent g ≡ 0
+  spent-fresh = let c : h .spent g ≤ 0 * floorLog 0 = rw size-fresh at (w .cost g) in omega (arith, c)
+
 -- ---- no edges
 
 unfoldable pub no-shape : Shape

@@ -1,14 +1,15 @@
 -- Two regular vertices with the same label are the same vertex, and no label of a regular vertex is 0.
-use mathlib.Core.Path.{_≡_, refl, sym, ap, _∙_, subst}
+use mathlib.Core.Path.{_≡_, sym, ap, _∙_, subst}
 use mathlib.Core.Logic.{_≢_, _⊎_, inl, inr}
 use Prim.Native.Nat.{ℕ, zero, suc, _+_, _-_, _*_, _≤_, _<_}
 use native.Mathlib.Omega.{arith}
 use native.Mathlib.Decide.{ℕ-discrete, decLt}
-use mathlib.Core.Bool.{Bool, true, false}
+use mathlib.Core.Bool.{true, false}
 use mathlib.Core.List.{List}
 use lib.ListN.{length}
 use Rattle.model.specs.Graph.{Edge, degree, same}
 use Rattle.model.specs.Labels.{Marks, base}
+use Rattle.model.proofs.Basics.Booleans.{true-or-false}
 use Rattle.model.proofs.Walks.Counting.{same-eq, same-ne}
 use Rattle.model.proofs.Walks.Degree.{Proper}
 use Rattle.model.proofs.Walks.Turn.{At, TwoEdges, two-edges}
@@ -53,10 +54,6 @@ under-base : (t i n : ℕ) → gap t (base i) + 1 ≤ 8192 → i ≤ n → t ≤
 unfolding gap base
 under-base t i n e l = omega (arith, e, l)
 
-open-or : (b : Bool) → (b ≡ true) ⊎ (b ≡ false)
-open-or true = inl refl
-open-or false = inr refl
-
 module _ (es : List Edge) (pr : Proper es) (relabellings : ℕ) (m : Marks) (blocks : ℕ) (h : Shape) (w : Courses es relabellings h) (l : Origins) (lab : Aligned es m blocks h l)
     (room : length es ≤ 4096) where
   abbrev off : ℕ → ℕ
@@ -71,14 +68,14 @@ module _ (es : List Edge) (pr : Proper es) (relabellings : ℕ) (m : Marks) (blo
       omega (arith, e, k, f)
 
   any-off : (v e : ℕ) → degree es v ≡ 2 → At es v e → off v + 1 ≤ 2 * size h (length es) (h .group e)
-  any-off v e c a = go (open-or (h .isOpen (h .group e)))
+  any-off v e c a = go (true-or-false (h .isOpen (h .group e)))
     where
       go : (h .isOpen (h .group e) ≡ true) ⊎ (h .isOpen (h .group e) ≡ false) → off v + 1 ≤ 2 * size h (length es) (h .group e)
       go (inl o) = omega (arith, open-off v (h .group e) (lab .stands v e c a o))
       go (inr o) = lab .within v e c a o
 
   two-off : (v z e c : ℕ) → degree es v ≡ 2 → degree es z ≡ 2 → At es v e → At es z c → l .block v ≢ l .block z → off v + off z + 1 ≤ 8192
-  two-off v z e c cv cz av az n = go (ℕ-discrete (h .group c) (h .group e)) (open-or (h .isOpen (h .group e)))
+  two-off v z e c cv cz av az n = go (ℕ-discrete (h .group c) (h .group e)) (true-or-false (h .isOpen (h .group e)))
     where
       go : Dec (h .group c ≡ h .group e) → (h .isOpen (h .group e) ≡ true) ⊎ (h .isOpen (h .group e) ≡ false) → off v + off z + 1 ≤ 8192
       go (yes q) (inl o) =
@@ -88,7 +85,7 @@ module _ (es : List Edge) (pr : Proper es) (relabellings : ℕ) (m : Marks) (blo
       go (no q) o = omega (arith, any-off v e cv av, any-off z c cz az, two-sizes h (length es) (h .group c) (h .group e) q, room)
 
   same-block : (v z e c : ℕ) → degree es v ≡ 2 → degree es z ≡ 2 → At es v e → At es z c → l .block v ≡ l .block z → labelAt m v ≡ labelAt m z → v ≡ z
-  same-block v z e c cv cz av az bl tg = go (open-or (h .isOpen (h .group e)))
+  same-block v z e c cv cz av az bl tg = go (true-or-false (h .isOpen (h .group e)))
     where
       q : h .group c ≡ h .group e
       q = sym (lab .owned z c cz az) ∙ ap (l .owner) (sym bl) ∙ lab .owned v e cv av

@@ -13,6 +13,7 @@ use borrow.Author.Tests.{eq-eqb}
 use Rattle.model.specs.Basics.{if_then_else_}
 use Rattle.model.specs.Graph.{Pass}
 use Rattle.model.specs.Labels.{Marks, base, isRelabelled, labelPath, mark, next, relabelCount, relabelled, relabelledFrom}
+use Rattle.model.proofs.Basics.Booleans.{one-most}
 
 -- ---- relabellings
 
@@ -20,13 +21,9 @@ use Rattle.model.specs.Labels.{Marks, base, isRelabelled, labelPath, mar
 unfoldable pub moved : ℕ → ℕ → ℕ
 moved t u = if isRelabelled t u then 1 else 0
 
-choice-le : (b : Bool) → (if b then 1 else 0) ≤ 1
-choice-le true = omega arith
-choice-le false = omega arith
-
 pub moved-le : (t u : ℕ) → moved t u ≤ 1
 unfolding moved
-moved-le t u = choice-le (isRelabelled t u)
+moved-le t u = one-most (isRelabelled t u)
 
 pub moved-old : (t u : ℕ) → t ≡ 0 → moved t u ≡ 0
 unfolding moved isRelabelled

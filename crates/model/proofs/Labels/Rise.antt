@@ -10,7 +10,7 @@ use borrow.Author.Tests.{ne-eqb}
 use Rattle.model.specs.Graph.{Edge, Pass, degree, endsAt, far, isRegular}
 use Rattle.model.specs.Labels.{Labelling, Marks}
 use Rattle.model.proofs.Walks.Degree.{Proper, degree-snoc, endsAt-le, zero-or-one, proper-snoc}
-use Rattle.model.proofs.Walks.Turn.{At, TwoEdges, two-edges}
+use Rattle.model.proofs.Walks.Turn.{At, some-edge}
 use Rattle.model.proofs.Walks.Snoc.{far-old}
 use Rattle.model.proofs.Walks.NewEdge.{at-new, old-edge}
 use Rattle.model.proofs.Labels.Following.{following, labelOf, lowOf, Ith, Wears, given, kept, wears}
@@ -70,9 +70,6 @@ module _ (es : List Edge) (p : Edge) (pr : Proper es) (d : p .first ≢ p .secon
 
   proper-new : Proper new
   proper-new = proper-snoc es p pr d
-
-  some : (v : ℕ) → degree new v ≡ 2 → (e : ℕ) × At new v e
-  some v c = let t : TwoEdges new v = two-edges new v proper-new c in (t .low, t .low-at)
 
   -- no path
   pub sided-fresh : (m′ : Marks) → Bare es p m m′ → ((v : ℕ) → endsAt v p ≡ 1 → degree new v ≡ 2 → ⊥) → Sided new m′
@@ -140,7 +137,7 @@ module _ (es : List Edge) (p : Edge) (pr : Proper es) (d : p .first ≢ p .secon
         c = rw q at (two-path i t j)
 
         s : (e : ℕ) × At new v e
-        s = some v c
+        s = some-edge new v proper-new c
 
         go : After v → Exact i t v
         go (in-path k o n r f g) =
@@ -153,7 +150,7 @@ module _ (es : List Edge) (p : Edge) (pr : Proper es) (d : p .first ≢ p .secon
     pos′ v c = subst (λ (o : Marks). 1 ≤ labelAt o v) (la .marks-is) (pos v c)
 
     low-at′ : (v : ℕ) → degree new v ≡ 2 → At new v (lowAt mN v)
-    low-at′ v c = go (view v ((some v c) .0) c ((some v c) .1))
+    low-at′ v c = let s = some-edge new v proper-new c in go (view v (s .0) c (s .1))
       where
         go : After v → At new v (lowAt mN v)
         go (in-path i t j q f g) =

@@ -1,9 +1,9 @@
 -- What find and reach answer in a register with the invariants.
-use mathlib.Core.Path.{_≡_, refl, sym, _∙_}
+use mathlib.Core.Path.{_≡_, sym, _∙_}
 use mathlib.Core.Logic.{_⊎_, inl, inr}
 use Prim.Native.Nat.{ℕ, _+_, _<_}
 use native.Mathlib.Omega.{arith}
-use mathlib.Core.Bool.{Bool, true, false}
+use mathlib.Core.Bool.{true, false}
 use mathlib.Core.List.{List·Memᴰ as Mem}
 use lib.ListN.{length, getD}
 use lib.Dec.{ltb}
@@ -13,6 +13,7 @@ use Rattle.model.specs.Register.{Register, marksOf}
 use Rattle.model.specs.Queries.{chainAt, lengthTo, reach, reached, refuses}
 use Rattle.model.specs.Series.{OwnChain}
 use Rattle.model.specs.Notions.{FindsOwn, labelOf}
+use Rattle.model.proofs.Basics.Booleans.{true-or-false}
 use Rattle.model.proofs.Walks.Degree.{Proper, is-two}
 use Rattle.model.proofs.Walks.RingFree.{RingFree}
 use Rattle.model.proofs.Chains.Own.{own-chain, only-chain}
@@ -20,10 +21,6 @@ use Rattle.model.proofs.Chains.Reaches.{reaches-sum}
 use Rattle.model.proofs.Groups.Origins.{lowAt}
 use Rattle.model.proofs.Series.Labelled.{Labelled, find-own, label-not-zero, regular-landed}
 use Rattle.model.proofs.Series.Sides.{Full}
-
-regular-or : (b : Bool) → (b ≡ true) ⊎ (b ≡ false)
-regular-or true = inl refl
-regular-or false = inr refl
 
 module _ (r : Register) (f : Full r) where
   l : Labelled r
@@ -49,7 +46,7 @@ module _ (r : Register) (f : Full r) where
 
   pub zero-then : (v : ℕ) → labelOf r v ≡ 0 → isRegular (r .edges) v ≡ false
   unfolding labelOf
-  zero-then v e = go (regular-or (isRegular (r .edges) v))
+  zero-then v e = go (true-or-false (isRegular (r .edges) v))
     where
       go : (isRegular (r .edges) v ≡ true) ⊎ (isRegular (r .edges) v ≡ false) → isRegular (r .edges) v ≡ false
       go (inl c) = absurd (omega (arith, label-not-zero r l v (is-two (r .edges) v c)))
@@ -64,7 +61,7 @@ module _ (r : Register) (f : Full r) where
 
   reach-regular : (v low high : ℕ) → reach r v ≡ reached low high → isRegular (r .edges) v ≡ true
   unfolding reach
-  reach-regular v low high e = go (regular-or (ltb v (r .vertices))) (regular-or (isRegular (r .edges) v))
+  reach-regular v low high e = go (true-or-false (ltb v (r .vertices))) (true-or-false (isRegular (r .edges) v))
     where
       no : (n : ℕ) → refuses n ≡ reached low high → ⊥
       no n q = let z : _≡_ {A = ℕ} 0 1 = cc in omega arith

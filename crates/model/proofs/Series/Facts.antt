@@ -119,7 +119,7 @@ pub kept-fits : (r : Register) → Kept r → fits (tablesOf r) ≡ true
 unfolding fits
 kept-fits r k = rw (sizes-right r (k .labelled .labels-long) (k .labelled .room)) (eqList-refl rightSizes)
 
-cleared-fits : fits cleared ≡ true
+pub cleared-fits : fits cleared ≡ true
 unfolding computing
 cleared-fits = refl
 

@@ -3,7 +3,7 @@ use mathlib.Core.Path.{_≡_, refl, sym, ap, _∙_, subst}
 use Prim.Native.Nat.{ℕ, zero, suc}
 use native.Mathlib.Omega.{arith}
 use mathlib.Core.Bool.{Bool, true, false}
-use mathlib.Core.Option.{none, some}
+use mathlib.Core.Option.{none, some, Option·none-ne-some, Option·some-injective}
 use mathlib.Core.List.{List, [], _∷_}
 use lib.Dec.{eqb}
 use borrow.Author.Tests.{eqb-true}
@@ -100,12 +100,6 @@ pub record HeldOf (s : Stored) (r : Register) : Type 0 where
   pub reachable : Reachable r
   pub stored-is : s ≡ storedOf r
 
-some-is : (r q : Register) → some r ≡ some q → r ≡ q
-some-is r q e = cc
-
-not-none : (r : Register) → none ≡ some r → ⊥
-not-none r e = let z : _≡_ {A = ℕ} 0 1 = cc in omega arith
-
 pub only-held : (s : Stored) (r : Register) → held s ≡ some r → HeldOf s r
 unfolding held
 only-held s r e = go (growFrom n es) refl
@@ -118,10 +112,10 @@ only-held s r e = go (growFrom n es) refl
 
     same : (q : Register) → growFrom n es ≡ landed q → (b : Bool) → eqStored (storedOf q) s ≡ b → (if b then some q else none) ≡ some r → HeldOf s r
     same q f true t h =
-        let i : q ≡ r = some-is q r h in
+        let i : q ≡ r = Option·some-injective q r h in
         record { reachable = subst Reachable i (grow-reaches n es q f); stored-is = sym (eqStored-true (storedOf q) s t) ∙ ap storedOf i }
-    same q f false t h = absurd (not-none r h)
+    same q f false t h = absurd (Option·none-ne-some r h)
 
     go : (l : Landed) → growFrom n es ≡ l → HeldOf s r
     go (landed q) f = same q f (eqStored (storedOf q) s) refl (rw (f, held) at e)
-    go (refused x) f = absurd (not-none r (rw (f, held) at e))
+    go (refused x) f = absurd (Option·none-ne-some r (rw (f, held) at e))

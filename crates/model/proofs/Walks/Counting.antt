@@ -5,10 +5,11 @@ use native.Mathlib.Omega.{arith}
 use native.Mathlib.Decide.{ℕ-discrete, decLt}
 use mathlib.Core.List.{List, [], _∷_}
 use lib.ListN.{length}
-use lib.Dec.{ltb}
+use lib.Dec.{eqb, ltb}
 use borrow.Author.Tests.{eq-eqb, ne-eqb, lt-ltb, le-ltb}
 use Rattle.model.specs.Basics.{if_then_else_}
 use Rattle.model.specs.Graph.{same}
+use Rattle.model.proofs.Basics.Booleans.{one-most}
 
 -- how often k stands in the list
 unfoldable pub occurs : ℕ → List ℕ → ℕ
@@ -38,6 +39,10 @@ same-eq x y e = rw (eq-eqb x y e)
 pub same-ne : (x y : ℕ) → (x ≡ y → ⊥) → same x y ≡ 0
 unfolding same
 same-ne x y h = rw (ne-eqb x y h)
+
+pub same-most : (x y : ℕ) → same x y ≤ 1
+unfolding same
+same-most x y = one-most (eqb x y)
 
 below1-lt : (x n : ℕ) → x < n → below1 x n ≡ 1
 unfolding below1

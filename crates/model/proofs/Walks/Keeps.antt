@@ -8,13 +8,13 @@ use mathlib.Core.Option.{Option, none, some}
 use mathlib.Core.List.{List, [], _∷_}
 use lib.ListN.{length, drop}
 use lib.Dec.{eqb, leb, ltb}
-use borrow.Author.Tests.{ltb-true, ltb-false, leb-false, eqb-false}
+use borrow.Author.Tests.{ltb-true, ltb-false, leb-false, eqb-false, not-false}
 use Rattle.model.specs.Basics.{if_then_else_, maxEdges, maxLength}
 use Rattle.model.specs.Graph.{Edge}
 use Rattle.model.specs.Cases.{closesRing}
 use Rattle.model.specs.Register.{Landed, Register, landEdge, landVertex, landed, refused, withEdge, withVertex}
 use Rattle.model.specs.Format.{Record, bad, edge, firstRecord, headerRefusal, landList, landRecords, vertex}
-use Rattle.model.proofs.Basics.Booleans.{not-false, and-true, or-false}
+use Rattle.model.proofs.Basics.Booleans.{and-true, or-false}
 
 -- one refusal taken off
 unless : (b : Bool) (n : ℕ) (x : Landed) (r : Register) → (if b then refused n else x) ≡ landed r → (b ≡ false) × (x ≡ landed r)

@@ -109,6 +109,9 @@ two-edges es f pr d =
       only = λ p h. two-cases p a b (Memᴰ·cast (omega arith) (rw e at (at-mem 0 es f p pr h)));
     }
 
+pub some-edge : (es : List Edge) (f : ℕ) → Proper es → degree es f ≡ 2 → (e : ℕ) × At es f e
+some-edge es f pr d = let t : TwoEdges es f = two-edges es f pr d in (t .low, t .low-at)
+
 -- turning from one of them gives the other
 turn-is : (es : List Edge) (f a b p : ℕ) → incident es f ≡ a ∷ b ∷ [] → turn es p f ≡ (if eqb a p then b else a)
 unfolding turn

@@ -1,7 +1,8 @@
-use Rattle.holding.proofs.ReplayLaws.{regrows-refused, regrows-other, regrows-same, false-true}
+use Rattle.holding.proofs.ReplayLaws.{regrows-refused, regrows-other, regrows-same}
 use Rattle.insertion.specs.Meaning.{answerIn}
-use borrow.Author.Tests.{not-true, not-false}
-use mathlib.Core.Path.{ap, sym, _∙_}
+use Rattle.tables.proofs.Lists.{not-same}
+use borrow.Author.Tests.{not-false}
+use mathlib.Core.Path.{ap}
 use borrow.Author.Needs.{needs}
 use Rattle.holding.proofs.replay.leaves_same.Statement.{statement}
 use Rattle.holding.proofs.replay.leaves_same.Tie as tie
@@ -36,7 +37,7 @@ same-length-5 c = search needs
 returns : tie.Need-returns
 returns c =
     let at-regrow = c .before .before .before .before .before .before .before .before .before .before .before .before .before .before .before in
-    regrows-other _ _ _ _ _ _ (ap answerIn (c .before .before .before .inserted .given .1)) (at-regrow .regrow .ensures) (λ e. absurd (false-true (sym (not-true _ (c .if1 .taken)) ∙ c .before .same-counts .ensures .1 e)))
+    regrows-other _ _ _ _ _ _ (ap answerIn (c .before .before .before .inserted .given .1)) (at-regrow .regrow .ensures) (not-same _ _ (c .if1 .taken) (c .before .same-counts .ensures .1))
 
 same-tables-requires : tie.Need-same-tables-requires
 same-tables-requires c κs = search needs
