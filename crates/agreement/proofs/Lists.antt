@@ -7,7 +7,7 @@ use native.Mathlib.Nat.{not-suc-le-zero}
 use mathlib.Core.List.{List, [], _∷_, _++_, map}
 use lib.ListN.{length, getD, set, drop, replicate, length-append, length-set, length-replicate}
 use lib.Seq.{getD-set-same, getD-set-other, drop-cons, append-snoc, set-append-seam, ext-getD}
-use Rattle.model.specs.Basics.{countFrom, upTo, maxEdges}
+use Rattle.model.specs.Basics.{countFrom, inFront, upTo, maxEdges}
 use Rattle.model.specs.Graph.{Edge}
 use Rattle.model.specs.Register.{Register}
 use Rattle.model.specs.Tables.{edgeLengths, endsOf, highSide, lowSide, padded, sidesOf}
@@ -112,7 +112,7 @@ sidesOf-read r n v h =
 -- ---- padded tables
 
 padded-snoc : (n : ℕ) (xs : List ℕ) (v : ℕ) → length xs < n → set (padded n xs) (length xs) v ≡ padded n (xs ++ (v ∷ []))
-unfolding padded
+unfolding padded inFront
 padded-snoc n xs v h =
     let zs : List ℕ = replicate n 0 in
     let d : drop (length xs) zs ≡ getD zs (length xs) 0 ∷ drop (suc (length xs)) zs =

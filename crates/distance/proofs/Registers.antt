@@ -5,7 +5,7 @@ use Prim.Native.Nat.{ℕ, _+_, _*_, _≤_, _<_}
 use native.Mathlib.Omega.{arith}
 use mathlib.Core.List.{List}
 use lib.ListN.{length, getD, drop, replicate, length-append}
-use Rattle.model.specs.Basics.{maxVertices, maxEdges, maxLength}
+use Rattle.model.specs.Basics.{inFront, maxVertices, maxEdges, maxLength}
 use Rattle.model.specs.Graph.{Edge, edgeAt}
 use Rattle.model.specs.Register.{Register}
 use Rattle.model.specs.Notions.{Reachable}
@@ -17,7 +17,7 @@ use Rattle.model.proofs.Series.Reachable.{full}
 use Rattle.search.specs.Search.{Searchable}
 
 padded-long : (n : ℕ) (xs : List ℕ) → length xs ≤ length (padded n xs)
-unfolding padded
+unfolding padded inFront
 padded-long n xs = omega (arith, length-append xs (drop (length xs) (replicate n 0)))
 
 module _ (r : Register) (k : Reachable r) where

@@ -6,7 +6,7 @@ use mathlib.Core.List.{List, []}
 use lib.ListN.{length, take}
 use lib.Seq.{take-length}
 use lib.Dec.{ltb}
-use Rattle.model.specs.Basics.{maxVertices}
+use Rattle.model.specs.Basics.{maxVertices, inFront}
 use Rattle.model.specs.Register.{Register}
 use Rattle.model.specs.Queries.{Reply, concat, find, reach, sheet, sheetNumbers}
 use Rattle.model.specs.Tables.{Tables, Counts, tablesOf}
@@ -14,7 +14,6 @@ use Rattle.model.specs.Calls.{finds, reaches, sheets, answers, effect, sheetEff
 use Rattle.model.proofs.Chains.Sheet.{sheet-length}
 use Rattle.tables.specs.Steps.{tables}
 use Rattle.queries.specs.Chains.{findIn, reachIn, sheetIn}
-use Rattle.queries.specs.Answers.{inFront}
 use Rattle.agreement.proofs.Growing.{Grown, labels-long}
 use Rattle.agreement.proofs.Finding.{find-agrees, reach-agrees}
 use Rattle.agreement.proofs.Sheeting.{sheet-agrees}

@@ -5,12 +5,11 @@ use mathlib.Core.Option.{none, some}
 use mathlib.Core.List.{List}
 use lib.ListN.{length, getD}
 use borrow.Author.Tests.{eq-eqb, ne-eqb, lt-ltb, le-ltb}
-use Rattle.model.specs.Basics.{upTo}
+use Rattle.model.specs.Basics.{upTo, inFront}
 use Rattle.model.specs.Queries.{concat, found, reached, listed, refuses}
 use Rattle.model.specs.Tables.{Tables, Counts}
 use Rattle.tables.specs.Steps.{farIn, sum32}
 use Rattle.queries.specs.Chains.{walked, walkIn, rowsIn, sheetIn, firstAt, nameIn, findIn, lengthToIn, reachIn}
-use Rattle.queries.specs.Answers.{inFront}
 use Rattle.lookups.specs.Answering.{sheeted, sheetedIn}
 
 module _ (t : Tables) where

@@ -3,11 +3,10 @@ use Prim.Native.Nat.{ℕ, _*_}
 use mathlib.Core.List.{List}
 use lib.ListN.{length}
 use lib.Dec.{ltb}
-use Rattle.model.specs.Basics.{if_then_else_}
+use Rattle.model.specs.Basics.{if_then_else_, inFront}
 use Rattle.model.specs.Queries.{Reply, concat, listed, refuses}
 use Rattle.model.specs.Tables.{Tables, Counts}
 use Rattle.queries.specs.Chains.{sheetIn}
-use Rattle.queries.specs.Answers.{inFront}
 
 -- a slice, and the answer
 pub record Sheeted : Type 0 where

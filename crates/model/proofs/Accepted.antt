@@ -3,15 +3,15 @@ use mathlib.Core.Path.{_≡_, refl}
 use Prim.Native.Nat.{ℕ, zero, suc, _+_}
 use mathlib.Core.List.{List, [], _∷_, _++_}
 use lib.ListN.{length}
-use Rattle.model.specs.Basics.{floorLog}
+use Rattle.model.specs.Basics.{floorLog, sum}
 use Rattle.model.specs.Graph.{Edge}
 use Rattle.model.specs.Register.{empty}
 use Rattle.model.specs.Format.{stopped}
 use Rattle.model.specs.Distance.{joined}
 use Rattle.model.specs.Queries.{found, measured, reached, read, sheet}
-use Rattle.model.specs.Tables.{Tables, cleared}
+use Rattle.model.specs.Tables.{Tables, cleared, edgeLengths}
 use Rattle.model.specs.Calls.{effect, finds, grows, lands, measures, reaches}
-use Rattle.model.specs.Series.{Made, after, landedBy, lengthsSum, relabelledBy, since}
+use Rattle.model.specs.Series.{Made, after, landedBy, landedEdges, relabelledBy, since}
 use Rattle.model.specs.Values.{edge, house, listOf, lists, loop, ring}
 use Rattle.model.specs.Computing.{computing}
 
@@ -42,7 +42,7 @@ pub record Settled : Type 0 where
   pub grow-stops : (effect (grows ring) empty) .reply ≡ read (stopped 3 24)
   pub land-stops : (effect (lands stops) ((effect (grows house) empty) .leaves)) .reply ≡ read (stopped 1 6)
   pub accepted : length (since calls empty []) ≡ 7
-  pub lengths : lengthsSum (since calls empty []) ≡ 5500
+  pub lengths : sum (edgeLengths (landedEdges (since calls empty []))) ≡ 5500
   pub relabelled : relabelledBy (since calls empty []) ≡ 1
   pub total : (after calls empty) .relabellings ≡ 1
   pub chains : length (sheet (after calls empty)) ≡ 2

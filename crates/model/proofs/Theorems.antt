@@ -11,13 +11,13 @@ use mathlib.Core.Option.{some}
 use lib.ListN.{length}
 use Rattle.model.specs.Basics.{floorLog, sum}
 use Rattle.model.specs.Graph.{Chain, Edge, chainLength, chainOf, edgeAt, endOnwards, endsAt, isRegular, nameOf, onwards, walk}
-use Rattle.model.specs.Register.{Register, empty, landEdge, landVertex, landed, marksOf, refused, withEdge, withVertex}
+use Rattle.model.specs.Register.{Register, empty, labelOf, landEdge, landVertex, landed, marksOf, refused, withEdge, withVertex}
 use Rattle.model.specs.Format.{growList, landList}
 use Rattle.model.specs.Distance.{ChainWay, Distance, IsDistance, LooseWay, Way, distance}
 use Rattle.model.specs.Queries.{chainAt, find, measure, measured, reach, reached, refuses, sheetNumbers}
 use Rattle.model.specs.Tables.{Stored, edgeLengths, held, storedOf}
-use Rattle.model.specs.Series.{Made, after, landedEdges, lengthColumn, relabelledBy}
-use Rattle.model.specs.Notions.{Admissible, FindsOwn, IsChain, Reachable, Ring, SameChain, SheetNames, Upwards, history, labelOf, reversed}
+use Rattle.model.specs.Series.{FindsOwn, Made, after, landedEdges, lengthColumn, relabelledBy}
+use Rattle.model.specs.Notions.{Admissible, IsChain, Reachable, Ring, SameChain, SheetNames, Upwards, history, reversed}
 use Rattle.model.proofs.Walks.Degree.{Proper, is-two, not-two}
 use Rattle.model.proofs.Walks.RingFree.{RingFree}
 use Rattle.model.proofs.Walks.Ring.{ring-none}
@@ -90,7 +90,7 @@ pub record LabelsFind (r : Register) : Type 0 where
   pub consecutive : (d : ℕ) → d < length (r .edges) → Upwards r (chainOf (r .edges) d) ⊎ Upwards r (reversed (chainOf (r .edges) d))
   pub no-label-twice : (v w : ℕ) → isRegular (r .edges) v ≡ true → isRegular (r .edges) w ≡ true → labelOf r v ≡ labelOf r w → v ≡ w
   pub fits-32-bits : (v : ℕ) → labelOf r v < 2 ^ 32
-  pub finds-own : (v : ℕ) → isRegular (r .edges) v ≡ true → FindsOwn r v
+  pub finds-own : (v : ℕ) → isRegular (r .edges) v ≡ true → FindsOwn (r .edges) v (find r (labelOf r v))
   pub others-refused : (label : ℕ) → ((v : ℕ) → isRegular (r .edges) v ≡ true → labelOf r v ≢ label) → find r label ≡ refuses 8
 
 -- ---- 4. Relabellings
@@ -182,7 +182,7 @@ module _ (r : Register) (k : Reachable r) where
   -- ---- 3
 
   pub theorem-3 : LabelsFind r
-  unfolding labelOf marksOf
+  unfolding marksOf
   theorem-3 =
       record {
         singular-zero = λ v c. l .bare v (not-two (r .edges) v c);
@@ -190,7 +190,7 @@ module _ (r : Register) (k : Reachable r) where
         consecutive = chain-upwards r pr rf ((full r k) .sided);
         no-label-twice = λ v w a b e. labels-unique r l v w (is-two (r .edges) v a) (is-two (r .edges) w b) e;
         fits-32-bits = λ v. omega (arith, labels-small r k v);
-        finds-own = finds-chain r (full r k);
+        finds-own = finds-chain r l;
         others-refused = λ label n. find-none r label l n;
       }
 

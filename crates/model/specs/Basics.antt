@@ -1,8 +1,9 @@
--- What the other files share: a choice by a test, numbers in a row, sums, the least of a list, the limits.
+-- What the other files share: a choice by a test, numbers in a row, sums, the least of a list, numbers put into a slice, the limits.
 use Prim.Native.Nat.{ℕ, zero, suc, _+_, _^_, min}
 use lib.Dec.{leb}
 use mathlib.Core.Bool.{Bool, true, false}
-use mathlib.Core.List.{List, [], _∷_}
+use lib.ListN.{length, drop}
+use mathlib.Core.List.{List, [], _∷_, _++_}
 
 infix 5 if_then_else_
 -- Both branches are computed. A recursive call under a test stands in an `elim`, whose cases wait.
@@ -36,6 +37,10 @@ greatest (suc k) n = elim (leb (2 ^ suc k) n) [ true ↦ suc k | false ↦ great
 -- "the whole part of the base-2 logarithm of n": the greatest k with 2 ^ k at most n
 unfoldable pub floorLog : ℕ → ℕ
 floorLog n = greatest n n
+
+-- "into a lent slice of them, the rest of it untouched": these numbers in front, behind them what the slice had
+unfoldable pub inFront : List ℕ → List ℕ → List ℕ
+inFront ns slice = ns ++ drop (length ns) slice
 
 -- "at most 4,096 of each"
 abbrev pub maxVertices : ℕ

@@ -1,11 +1,11 @@
 -- Document 01, "What may be called" and the order of refusals: what each call leaves and answers, whatever it is lent.
-use Prim.Native.Nat.{ℕ, _*_}
-use mathlib.Core.Bool.{Bool, true, false, not, _&&_}
-use mathlib.Core.List.{List, [], _++_}
+use Prim.Native.Nat.{ℕ}
+use mathlib.Core.Bool.{Bool, not, _&&_}
+use mathlib.Core.List.{List, []}
 use mathlib.Core.Option.{Option, none, some}
-use lib.ListN.{length, drop}
+use lib.ListN.{length}
 use lib.Dec.{ltb}
-use Rattle.model.specs.Basics.{if_then_else_}
+use Rattle.model.specs.Basics.{if_then_else_, inFront}
 use Rattle.model.specs.Register.{Register, empty}
 use Rattle.model.specs.Format.{Read, landList, growList}
 use Rattle.model.specs.Queries.{Reply, read, listed, refuses, find, reach, measure, sheet, sheetNumbers}
@@ -43,12 +43,12 @@ readEffect d = record { leaves = d .register; slice = []; reply = read (d .stop)
 unfoldable pub answers : Register → Reply → Effect
 answers r a = record { leaves = r; slice = []; reply = a }
 
--- "Sheet: 9"; the numbers go to the front of the slice, the rest of it is untouched
+-- "Sheet: 9"
 unfoldable pub sheetEffect : Register → List ℕ → Effect
 sheetEffect r slice =
     let ns = sheetNumbers r in
     if ltb (length slice) (length ns) then record { leaves = r; slice = slice; reply = refuses 9 }
-    else record { leaves = r; slice = ns ++ drop (length ns) slice; reply = listed (length (sheet r)) }
+    else record { leaves = r; slice = inFront ns slice; reply = listed (length (sheet r)) }
 
 unfoldable pub effect : Call → Register → Effect
 effect (grows bs) r = readEffect (growList bs)

@@ -1,12 +1,12 @@
 -- Document 01, "What may be called": the calls from C, on numbers and byte slices.
-use Prim.Native.Nat.{ℕ, zero, suc, _/_, _%_}
+use Prim.Native.Nat.{ℕ, _/_, _%_}
 use mathlib.Core.List.{List, [], _∷_, _++_}
-use lib.ListN.{length, drop}
+use lib.ListN.{length}
 use lib.IntN.{ℤ, pos, negℤ}
 use lib.Dec.{ltb}
-use Rattle.model.specs.Basics.{if_then_else_}
+use Rattle.model.specs.Basics.{if_then_else_, inFront}
 use Rattle.model.specs.Register.{Register}
-use Rattle.model.specs.Format.{whole, stopped, Read, growList}
+use Rattle.model.specs.Format.{whole, stopped, growList}
 use Rattle.model.specs.Distance.{Distance, joined, notJoined}
 use Rattle.model.specs.Queries.{Reply, read, found, reached, measured, listed, refuses, find, reach, measure, sheet, sheetNumbers}
 
@@ -32,12 +32,12 @@ pub record Returned : Type 0 where
 unfoldable pub returnsRefusal : List ℕ → ℕ → Returned
 returnsRefusal slice n = record { slice = slice; value = negℤ (pos n) }
 
--- "the count of answer bytes"; the rest of the slice is untouched. 9 comes last.
+-- "the count of answer bytes"; 9 comes last
 unfoldable pub returnsNumbers : List ℕ → List ℕ → Returned
 returnsNumbers slice ns =
     let bs = bytesOf ns in
     if ltb (length slice) (length bs) then returnsRefusal slice 9
-    else record { slice = bs ++ drop (length bs) slice; value = pos (length bs) }
+    else record { slice = inFront bs slice; value = pos (length bs) }
 
 -- the numbers of an answer, or its refusal; a sheet's are those of its rows
 unfoldable pub returnsReply : Register → List ℕ → Reply → Returned

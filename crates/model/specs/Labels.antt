@@ -1,14 +1,14 @@
 -- Document 01, "Tags". Its words here: tag = label, birth = block, re-hanging = relabelling.
 -- A chain with regular vertices has a low and a high end. That is said at each of them by its low edge, the one towards the low end;
 -- a chain without regular vertices has no sides.
-use Prim.Native.Nat.{ℕ, zero, suc, _+_, _-_, _*_}
+use Prim.Native.Nat.{ℕ, suc, _+_, _-_, _*_}
 use mathlib.Core.Bool.{Bool, true, false, not, _||_}
 use mathlib.Core.List.{List, [], _∷_, _++_}
 use lib.ListN.{length, getD, set}
 use lib.Dec.{eqb, leb}
 use Rattle.model.specs.Basics.{if_then_else_}
 use Rattle.model.specs.Graph.{Edge, Pass, far, onlyEdge, onwards}
-use Rattle.model.specs.Cases.{Case, newChain, extends, merges, splitExtends, splitNew, splitBoth, End, vertexAt, opposite, caseAt}
+use Rattle.model.specs.Cases.{Case, newChain, extends, merges, splitExtends, splitNew, splitBoth, vertexAt, opposite, caseAt}
 
 -- what each vertex wears, by its number: its label (0 at a singular vertex), and its low edge (0 there too)
 pub record Marks : Type 0 where

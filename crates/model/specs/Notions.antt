@@ -4,13 +4,13 @@ use mathlib.Core.Logic.{_≢_, _⊎_}
 use Prim.Native.Nat.{ℕ, _≤_, _<_}
 use mathlib.Core.Bool.{true, false}
 use mathlib.Core.List.{List, [], _∷_, _++_, map, reverse, List·Memᴰ as Mem}
-use lib.ListN.{length, getD}
+use lib.ListN.{length}
 use Rattle.model.specs.Basics.{countFrom, maxEdges, maxLength}
 use Rattle.model.specs.Graph.{Chain, Edge, Pass, edgeAt, endOf, endsAt, isRegular, nameOf, walk}
-use Rattle.model.specs.Register.{Register, empty, landed, landEdge, landVertex}
+use Rattle.model.specs.Register.{Register, labelOf, lowEdgeOf, empty, landed, landEdge, landVertex}
 use Rattle.model.specs.Distance.{Joins}
-use Rattle.model.specs.Queries.{find, found, row, sheet}
-use Rattle.model.specs.Series.{Landing, OwnChain}
+use Rattle.model.specs.Queries.{row, sheet}
+use Rattle.model.specs.Series.{Landing}
 
 -- ---- registers
 
@@ -99,14 +99,6 @@ pub record SheetNames (r : Register) : Type 0 where
 
 -- ---- labels
 
--- "A coupling has a tag of 32 bits, a junction tag 0": what a vertex wears
-unfoldable pub labelOf : Register → ℕ → ℕ
-labelOf r v = getD (r .labels) v 0
-
--- the edge of a regular vertex that leads to the low end of its chain
-unfoldable pub lowEdgeOf : Register → ℕ → ℕ
-lowEdgeOf r v = getD (r .lows) v 0
-
 -- "its tags rise by 1 from low to high": the chain is read from its low end to its high end. The low edge of each regular vertex is the
 -- one before it, so with the last edge behind them the low edges are the chain's edges.
 pub record Upwards (r : Register) (c : Chain) : Type 0 where
@@ -114,10 +106,3 @@ pub record Upwards (r : Register) (c : Chain) : Type 0 where
   pub labels : map (labelOf r) (c .inner) ≡ countFrom lowest (length (c .inner))
   pub last : ℕ
   pub low-edges : map (lowEdgeOf r) (c .inner) ++ (last ∷ []) ≡ c .edges
-
--- "a tag gives the run whose couplings include it": the label of v finds the one chain on which v lies
-pub record FindsOwn (r : Register) (v : ℕ) : Type 0 where
-  pub name : ℕ
-  pub reply-is : find r (labelOf r v) ≡ found name
-  pub own : OwnChain (r .edges) v name
-  pub only : (other : ℕ) → OwnChain (r .edges) v other → other ≡ name

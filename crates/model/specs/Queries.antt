@@ -1,5 +1,5 @@
 -- Document 01, "What may be called": the answers to find, reach, distance and sheet, from a register.
-use Prim.Native.Nat.{ℕ, zero, suc, _+_, min, max}
+use Prim.Native.Nat.{ℕ, min, max}
 use mathlib.Core.Bool.{true, false, not, _&&_}
 use mathlib.Core.List.{List, [], _∷_, _++_}
 use mathlib.Core.Option.{Option, none, some}
@@ -7,7 +7,7 @@ use lib.ListN.{length, getD}
 use lib.Dec.{eqb, ltb}
 use Rattle.model.specs.Basics.{if_then_else_, upTo}
 use Rattle.model.specs.Graph.{Edge, isRegular, incident, turn, far, chainOf, nameOf, chainLength}
-use Rattle.model.specs.Register.{Register}
+use Rattle.model.specs.Register.{Register, labelOf, lowEdgeOf}
 use Rattle.model.specs.Format.{Stop}
 use Rattle.model.specs.Distance.{Distance, distance, lengthVia}
 
@@ -36,7 +36,7 @@ chainAt r v = nameOf (r .edges) (getD (incident (r .edges) v) 0 0)
 unfoldable pub wearer : Register → ℕ → List ℕ → Option ℕ
 wearer r label [] = none
 wearer r label (v ∷ vs) =
-    elim (isRegular (r .edges) v && eqb (getD (r .labels) v 0) label) [
+    elim (isRegular (r .edges) v && eqb (labelOf r v) label) [
       | true ↦ some v
       | false ↦ wearer r label vs
     ]
@@ -55,7 +55,7 @@ lengthTo es d v = lengthVia es d (far es d v)
 -- "a coupling gives the lengths to its run's low and high end"; "Reach: 5, 8"
 unfoldable pub reach : Register → ℕ → Reply
 reach r v =
-    let low = getD (r .lows) v 0 in
+    let low = lowEdgeOf r v in
     if not (ltb v (r .vertices)) then refuses 5
     else if not (isRegular (r .edges) v) then refuses 8
     else reached (lengthTo (r .edges) low v) (lengthTo (r .edges) (turn (r .edges) low v) v)

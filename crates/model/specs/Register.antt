@@ -1,13 +1,13 @@
 -- The register as a value, and what one record makes of it: the vertex or the edge landed, or its refusal.
-use Prim.Native.Nat.{ℕ, zero, suc, _+_}
-use mathlib.Core.Bool.{Bool, not, _&&_, _||_}
+use Prim.Native.Nat.{ℕ, _+_}
+use mathlib.Core.Bool.{not, _&&_, _||_}
 use mathlib.Core.List.{List, [], _∷_, _++_}
-use lib.ListN.{length, replicate}
+use lib.ListN.{length, getD, replicate}
 use lib.Dec.{eqb, leb, ltb}
 use Rattle.model.specs.Basics.{if_then_else_, maxVertices, maxEdges, maxLength}
 use Rattle.model.specs.Graph.{Edge}
 use Rattle.model.specs.Cases.{closesRing}
-use Rattle.model.specs.Labels.{Marks, Labelling, labelEdge, relabelCount}
+use Rattle.model.specs.Labels.{Marks, labelEdge, relabelCount}
 
 -- `labels` and `lows` have an element for each vertex that can be landed, so that landing a vertex changes the count alone.
 -- `blocks` counts the births, `relabellings` is the re-hung total:
@@ -19,6 +19,14 @@ pub record Register : Type 0 where
   pub lows : List ℕ
   pub blocks : ℕ
   pub relabellings : ℕ
+
+-- "A coupling has a tag of 32 bits, a junction tag 0": what a vertex wears
+abbrev pub labelOf : Register → ℕ → ℕ
+labelOf r v = getD (r .labels) v 0
+
+-- the edge of a regular vertex that leads to the low end of its chain
+abbrev pub lowEdgeOf : Register → ℕ → ℕ
+lowEdgeOf r v = getD (r .lows) v 0
 
 unfoldable pub empty : Register
 empty =

@@ -1,19 +1,19 @@
 -- Document 01, "What demand 3 speaks of": series of calls on one register, what the calls alone settle, and the claim.
 use mathlib.Core.Path.{_≡_}
 use Prim.Native.Nat.{ℕ, zero, suc, _+_, _*_, _≤_, _<_}
-use mathlib.Core.Bool.{Bool, true, false}
+use mathlib.Core.Bool.{true}
 use mathlib.Core.List.{List, [], _∷_, _++_, List·Memᴰ as Mem}
 use mathlib.Core.Option.{none, some}
-use lib.ListN.{length, getD, take, drop}
+use lib.ListN.{length, take, drop}
 use Rattle.model.specs.Basics.{if_then_else_, sum, floorLog}
 use Rattle.model.specs.Graph.{Edge, isRegular, nameOf, chainOf}
 use Rattle.model.specs.Labels.{relabelCount}
-use Rattle.model.specs.Register.{Register, empty, landed, refused, landVertex, landEdge}
+use Rattle.model.specs.Register.{Register, labelOf, empty, landed, refused, landVertex, landEdge}
 use Rattle.model.specs.Format.{vertex, edge, bad, firstRecord, headerRefusal}
 use Rattle.model.specs.Distance.{Way, ChainWay, LooseWay, IsDistance, Distance}
 use Rattle.model.specs.Queries.{Reply, found, measured, listed, refuses, sheet, sheetNumbers}
-use Rattle.model.specs.Tables.{Tables, Stored, fits, cleared, noCounts, storedOf, held}
-use Rattle.model.specs.Calls.{Call, grows, lands, finds, reaches, measures, sheets, Lent, Outcome, effect, step}
+use Rattle.model.specs.Tables.{Tables, Stored, fits, cleared, noCounts, edgeLengths, storedOf, held}
+use Rattle.model.specs.Calls.{Call, grows, lands, finds, reaches, measures, sheets, Outcome, effect, step}
 
 -- ---- series
 
@@ -86,11 +86,6 @@ unfoldable pub relabelledBy : List Landing → ℕ
 relabelledBy [] = 0
 relabelledBy (l ∷ ls) = relabelCount (l .before) (l .after) + relabelledBy ls
 
--- the sum of the lengths of those edges
-unfoldable pub lengthsSum : List Landing → ℕ
-lengthsSum [] = 0
-lengthsSum (l ∷ ls) = l .edge .len + lengthsSum ls
-
 -- ---- the claim
 
 -- each fifth number of five: the lengths in a sheet's numbers
@@ -119,12 +114,12 @@ pub record OwnChain (es : List Edge) (v d : ℕ) : Type 0 where
   pub names : nameOf es d ≡ d
   pub has : Mem v ((chainOf es d) .inner)
 
--- "a find of each tag in use": the name of the chain on which its wearer v lies, and of no other
-pub record FindAnswer (s : Stored) (r : Register) (v : ℕ) : Type 0 where
+-- "a find of each tag in use": the reply is the name of the chain on which its wearer v lies, and of no other
+pub record FindsOwn (es : List Edge) (v : ℕ) (reply : Reply) : Type 0 where
   pub name : ℕ
-  pub reply-is : (ask (finds (getD (r .labels) v 0)) s) .reply ≡ found name
-  pub own : OwnChain (r .edges) v name
-  pub only : (other : ℕ) → OwnChain (r .edges) v other → other ≡ name
+  pub reply-is : reply ≡ found name
+  pub own : OwnChain es v name
+  pub only : (other : ℕ) → OwnChain es v other → other ≡ name
 
 -- "a distance between any two landed fittings": least over the edges and over the chains, and `notJoined` just where these give no way
 pub record DistanceAnswer (s : Stored) (r : Register) (v w : ℕ) : Type 0 where
@@ -145,8 +140,8 @@ pub record AtEnd (s : Stored) (r : Register) (ls : List Landing) : Type 0 where
   pub accepted : landedEdges ls ≡ r .edges
   pub total : s .counts .relabellings ≡ relabelledBy ls
   pub bound : 1 ≤ length ls → s .counts .relabellings ≤ length ls * floorLog (length ls)
-  pub lengths : (slice : List ℕ) → 5 * length (sheet r) ≤ length slice → SheetAnswer s r slice (lengthsSum ls)
-  pub finds-own : (v : ℕ) → isRegular (r .edges) v ≡ true → FindAnswer s r v
+  pub lengths : (slice : List ℕ) → 5 * length (sheet r) ≤ length slice → SheetAnswer s r slice (sum (edgeLengths (landedEdges ls)))
+  pub finds-own : (v : ℕ) → isRegular (r .edges) v ≡ true → FindsOwn (r .edges) v ((ask (finds (labelOf r v)) s) .reply)
   pub distances : (v w : ℕ) → v < s .counts .vertices → w < s .counts .vertices → DistanceAnswer s r v w
 
 -- Demand 3, as a type: a proof of it is the theorem.

@@ -1,14 +1,14 @@
 -- Document 01, "Values to hold": those marked M, from the bytes of the lists, as one table; and some more that tell readings apart.
 use mathlib.Core.Path.{_≡_, refl}
-use Prim.Native.Nat.{ℕ, zero, suc, _+_, _/_, _%_}
+use Prim.Native.Nat.{ℕ, _/_, _%_}
 use mathlib.Core.List.{List, [], _∷_, _++_}
-use lib.ListN.{length, take, replicate}
-use lib.IntN.{ℤ, pos, negℤ}
+use lib.ListN.{take, replicate}
+use lib.IntN.{pos, negℤ}
 use Rattle.model.specs.Graph.{Edge}
-use Rattle.model.specs.Format.{Stop, whole, stopped, Read, growList}
+use Rattle.model.specs.Format.{Stop, whole, stopped, growList}
 use Rattle.model.specs.Distance.{joined, notJoined}
 use Rattle.model.specs.Queries.{Reply, found, reached, measured, refuses, find, reach, measure}
-use Rattle.model.specs.FromC.{bytes4, Returned, cSheet, cFind, cReach, cDistance}
+use Rattle.model.specs.FromC.{bytes4, cSheet, cFind, cReach, cDistance}
 use Rattle.model.specs.Printing.{ascii, printed}
 use Rattle.model.specs.Computing.{computing}
 

@@ -9,6 +9,7 @@ use lib.ListN.{length, getD, set, drop, length-set, drop-of-length-le}
 use lib.Seq.{sets, sets-eq, drop-cons}
 use lib.IntN.{ℤ, pos, negℤ}
 use borrow.Author.Tests.{lt-ltb, le-ltb}
+use Rattle.model.specs.Basics.{inFront}
 use Rattle.model.specs.FromC.{Returned, bytes4, bytesOf, returnsNumbers, returnsRefusal}
 use Rattle.text.specs.Pages.{Page, page, put, write}
 use Rattle.text.proofs.Writing.{write-append}
@@ -66,7 +67,7 @@ module _ (slice ns : List ℕ) (k : ℕ) (n : k ≡ 4 * length ns) where
 
   pub numbers-fit : (q : Page) (v : ℤ) → k ≤ length slice → q ≡ write (bytesOf ns) (page slice 0) → v ≡ pos k
       → returned (q .bytes) v ≡ returnsNumbers slice ns
-  unfolding returnsNumbers
+  unfolding returnsNumbers inFront
   numbers-fit q v h e f =
       let m : k ≡ length (bytesOf ns) = n ∙ sym (bytesOf-length ns) in
       let l : length (bytesOf ns) ≤ length slice = omega arith in

@@ -7,12 +7,12 @@ use native.Mathlib.Omega.{arith}
 use borrow.Author.Tests.{not-true, not-false}
 use lib.ListN.{length, set, drop, length-append, length-drop}
 use lib.Seq.{sets, sets-eq, take-append-seam, drop-append-add, drop-drop}
-use Rattle.model.specs.Basics.{upTo}
+use Rattle.model.specs.Basics.{inFront, upTo}
 use Rattle.model.specs.Queries.{concat}
 use Rattle.model.specs.Tables.{Tables}
 use Rattle.tables.specs.Steps.{more16}
 use Rattle.queries.specs.Chains.{isNameIn, rowIn, rowsIn}
-use Rattle.queries.specs.Answers.{inFront, Put, put, putIn}
+use Rattle.queries.specs.Answers.{Put, put, putIn}
 use Rattle.queries.proofs.RowLaws.{rows-none, rows-yes, rows-no, rows-few, rows-grow, rows-end, count-more}
 
 -- five stores in a row

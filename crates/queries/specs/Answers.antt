@@ -1,8 +1,7 @@
 -- What the enums and structs of this crate mean, and where the sheet stands in a lent slice.
 use Prim.Native.Nat.{ℕ, _*_}
-use mathlib.Core.List.{List, [], _∷_, _++_}
+use mathlib.Core.List.{List, [], _∷_}
 use mathlib.Core.Option.{Option, none, some}
-use lib.ListN.{length, drop}
 use lib.Seq.{sets}
 use Rattle.model.specs.Basics.{if_then_else_}
 use Rattle.model.specs.Tables.{Tables}
@@ -19,10 +18,6 @@ rowOf r = r .name ∷ r .low ∷ r .high ∷ r .inner ∷ r .length ∷ []
 abbrev pub foundIn : Found → Option ℕ
 foundIn (At v) = some v
 foundIn Nothing = none
-
--- these numbers in front, and behind them what the slice had
-unfoldable pub inFront : List ℕ → List ℕ → List ℕ
-inFront ns xs = ns ++ drop (length ns) xs
 
 -- a slice, and how many rows it has in front
 pub record Put : Type 0 where

@@ -15,11 +15,11 @@ ghost use mathlib.Core.List.{List, []};
 ghost use Prim.Native.Nat.{ℕ, _*_, _≤_};
 ghost use lib.ListN.{length};
 ghost use lib.Seq.{sets};
-ghost use Rattle.model.specs.Basics.{upTo};
+ghost use Rattle.model.specs.Basics.{inFront, upTo};
 ghost use Rattle.model.specs.Queries.{concat};
 ghost use Rattle.tables.specs.Steps.{tables};
 ghost use Rattle.queries.specs.Chains.{rowIn, rowsIn};
-ghost use Rattle.queries.specs.Answers.{rowOf, put, putIn, inFront};
+ghost use Rattle.queries.specs.Answers.{rowOf, put, putIn};
 
 // A chain's name, its end with the lower number, its other end, its regular vertices, its length.
 pub struct Row {

@@ -10,7 +10,7 @@ use mathlib.Core.List.{List, [], _∷_, _++_}
 use lib.ListN.{length, drop, length-append}
 use lib.Dec.{ltb}
 use borrow.Author.Tests.{eq-eqb, ne-eqb, le-ltb}
-use Rattle.model.specs.Basics.{countFrom, if_then_else_, sum, upTo}
+use Rattle.model.specs.Basics.{countFrom, if_then_else_, inFront, sum, upTo}
 use Rattle.model.specs.Graph.{Edge, chainLength, edgeAt, lengthAt, nameOf}
 use Rattle.model.specs.Register.{Register}
 use Rattle.model.specs.Queries.{concat, listed, row, rowsOf, sheet, sheetNumbers}
@@ -117,5 +117,5 @@ sheet-leaves r slice = either-leaves r (ltb (length slice) (length (sheetNumbers
 -- a slice that is long enough
 pub sheet-into : (r : Register) (slice : List ℕ) → 5 * length (sheet r) ≤ length slice → sheetEffect r slice
     ≡ record { leaves = r; slice = sheetNumbers r ++ drop (5 * length (sheet r)) slice; reply = listed (length (sheet r)) }
-unfolding sheetEffect
+unfolding sheetEffect inFront
 sheet-into r slice h = rw (sheet-length r, le-ltb (length slice) (5 * length (sheet r)) h)

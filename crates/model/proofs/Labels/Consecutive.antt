@@ -10,7 +10,7 @@ use Rattle.model.specs.Basics.{countFrom}
 use Rattle.model.specs.Graph.{Chain, Edge, Pass, afterOf, atOf, chainOf, far, isRegular}
 use Rattle.model.specs.Labels.{Marks}
 use Rattle.model.specs.Register.{Register, marksOf}
-use Rattle.model.specs.Notions.{Upwards, labelOf, lowEdgeOf, reversed}
+use Rattle.model.specs.Notions.{Upwards, reversed}
 use Rattle.model.proofs.Basics.Booleans.{not-both}
 use Rattle.model.proofs.Walks.Degree.{Proper, is-two}
 use Rattle.model.proofs.Walks.Turn.{At, two-edges}
@@ -113,7 +113,7 @@ module _ (r : Register) (pr : Proper (r .edges)) (rf : RingFree (r .edges)) (s :
   upwards : (l : Line (r .edges))
       → (isRegular (r .edges) (far (r .edges) (l .first) (l .start)) ≡ true → lowAt (marksOf r) (far (r .edges) (l .first) (l .start)) ≡ l .first)
       → Upwards r (lineChain l)
-  unfolding marksOf labelAt lowAt labelOf lowEdgeOf lineChain
+  unfolding marksOf labelAt lowAt lineChain
   upwards l k =
       let c = line-climbs (r .edges) pr (marksOf r) s l k in
       record {

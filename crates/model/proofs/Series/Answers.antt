@@ -9,10 +9,9 @@ use lib.ListN.{length, getD}
 use lib.Dec.{ltb}
 use borrow.Author.Tests.{lt-ltb}
 use Rattle.model.specs.Graph.{chainLength, chainOf, isRegular, turn}
-use Rattle.model.specs.Register.{Register, marksOf}
-use Rattle.model.specs.Queries.{chainAt, lengthTo, reach, reached, refuses}
-use Rattle.model.specs.Series.{OwnChain}
-use Rattle.model.specs.Notions.{FindsOwn, labelOf}
+use Rattle.model.specs.Register.{Register, labelOf, marksOf}
+use Rattle.model.specs.Queries.{chainAt, find, lengthTo, reach, reached, refuses}
+use Rattle.model.specs.Series.{FindsOwn, OwnChain}
 use Rattle.model.proofs.Basics.Booleans.{true-or-false}
 use Rattle.model.proofs.Walks.Degree.{Proper, is-two}
 use Rattle.model.proofs.Walks.RingFree.{RingFree}
@@ -21,6 +20,18 @@ use Rattle.model.proofs.Chains.Reaches.{reaches-sum}
 use Rattle.model.proofs.Groups.Origins.{lowAt}
 use Rattle.model.proofs.Series.Labelled.{Labelled, find-own, label-not-zero, regular-landed}
 use Rattle.model.proofs.Series.Sides.{Full}
+
+-- ---- find
+
+pub finds-chain : (r : Register) → Labelled r → (v : ℕ) → isRegular (r .edges) v ≡ true → FindsOwn (r .edges) v (find r (labelOf r v))
+unfolding chainAt
+finds-chain r l v c =
+    record {
+      name = chainAt r v;
+      reply-is = find-own r l v c;
+      own = own-chain (r .edges) (l .sound .proper) (l .sound .rings) v c;
+      only = only-chain (r .edges) (l .sound .proper) (l .sound .rings) v c;
+    }
 
 module _ (r : Register) (f : Full r) where
   l : Labelled r
@@ -32,20 +43,7 @@ module _ (r : Register) (f : Full r) where
   rf : RingFree (r .edges)
   rf = l .sound .rings
 
-  -- ---- find
-
-  pub finds-chain : (v : ℕ) → isRegular (r .edges) v ≡ true → FindsOwn r v
-  unfolding labelOf chainAt
-  finds-chain v c =
-      record {
-        name = chainAt r v;
-        reply-is = find-own r l v c;
-        own = own-chain (r .edges) pr rf v c;
-        only = only-chain (r .edges) pr rf v c;
-      }
-
   pub zero-then : (v : ℕ) → labelOf r v ≡ 0 → isRegular (r .edges) v ≡ false
-  unfolding labelOf
   zero-then v e = go (true-or-false (isRegular (r .edges) v))
     where
       go : (isRegular (r .edges) v ≡ true) ⊎ (isRegular (r .edges) v ≡ false) → isRegular (r .edges) v ≡ false

@@ -6,7 +6,7 @@ use mathlib.Core.Bool.{Bool, true, false}
 use mathlib.Core.Option.{some}
 use mathlib.Core.List.{List, [], _∷_}
 use lib.ListN.{length, drop, replicate, length-append, length-drop, length-replicate, length-map}
-use Rattle.model.specs.Basics.{if_then_else_, maxEdges, maxVertices, upTo}
+use Rattle.model.specs.Basics.{if_then_else_, inFront, maxEdges, maxVertices, upTo}
 use Rattle.model.specs.Graph.{Edge, degree}
 use Rattle.model.specs.Register.{Register, empty}
 use Rattle.model.specs.Format.{growList}
@@ -93,7 +93,7 @@ length-sides r [] = refl
 length-sides r (v ∷ vs) = omega (arith, length-sides r vs)
 
 length-padded : (n : ℕ) (xs : List ℕ) → length xs ≤ n → length (padded n xs) ≡ n
-unfolding padded
+unfolding padded inFront
 length-padded n xs h =
     omega (
       arith,

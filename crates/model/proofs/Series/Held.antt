@@ -9,7 +9,7 @@ use mathlib.Core.List.{List, [], _∷_, _++_, map}
 use lib.ListN.{length, getD, drop, replicate, List·getD-append}
 use lib.Seq.{drop-cons, drop-length}
 use borrow.Author.Tests.{eq-eqb, ne-eqb, lt-ltb, le-ltb, lt-leb}
-use Rattle.model.specs.Basics.{countFrom, if_then_else_, maxEdges, maxLength, maxVertices, upTo}
+use Rattle.model.specs.Basics.{countFrom, if_then_else_, inFront, maxEdges, maxLength, maxVertices, upTo}
 use Rattle.model.specs.Graph.{Edge, edgeAt, noEdge}
 use Rattle.model.specs.Cases.{closesRing}
 use Rattle.model.specs.Register.{Landed, Register, empty, landEdge, landVertex, landed, refused, withEdge, withVertex}
@@ -171,7 +171,7 @@ lengths-read (e ∷ es) zero h = refl
 lengths-read (e ∷ es) (suc d) h = lengths-read es d (omega arith)
 
 pub padded-read : (n i : ℕ) (xs : List ℕ) → i < length xs → getD (padded n xs) i 0 ≡ getD xs i 0
-unfolding padded
+unfolding padded inFront
 padded-read n i xs h = List·getD-append xs _ 0 i h
 
 pub edge-read : (r : Register) (d : ℕ) → d < length (r .edges) → edgeIn (tablesOf r) d ≡ edgeAt (r .edges) d

@@ -7,13 +7,13 @@ use mathlib.Core.List.{List, [], _∷_, _++_, append-nil}
 use mathlib.Core.Option.{Option, none, some}
 use lib.ListN.{length, drop}
 use lib.Seq.{append-snoc}
-use Rattle.model.specs.Basics.{if_then_else_, sum}
+use Rattle.model.specs.Basics.{if_then_else_}
 use Rattle.model.specs.Graph.{Edge}
 use Rattle.model.specs.Register.{Landed, Register, empty, landEdge, landVertex, landed, refused, withEdge, withVertex}
 use Rattle.model.specs.Format.{Record, bad, edge, firstRecord, growList, headerRefusal, landList, landRecords, vertex}
-use Rattle.model.specs.Tables.{edgeLengths, fits}
+use Rattle.model.specs.Tables.{fits}
 use Rattle.model.specs.Calls.{Call, answers, effect, finds, grows, lands, measures, reaches, readEffect, sheets}
-use Rattle.model.specs.Series.{Landing, Made, accepts, after, afterCall, landedBy, landedEdges, landings, lengthsSum, relabelledBy, since}
+use Rattle.model.specs.Series.{Landing, Made, accepts, after, afterCall, landedBy, landedEdges, landings, relabelledBy, since}
 use Rattle.model.proofs.Walks.Keeps.{Accepted, accepted, Added, added}
 use Rattle.model.proofs.Chains.Sheet.{sheet-leaves}
 
@@ -37,11 +37,6 @@ pub edges-count : (ls : List Landing) → length (landedEdges ls) ≡ length ls
 unfolding landedEdges
 edges-count [] = refl
 edges-count (l ∷ ls) = ap suc (edges-count ls)
-
-pub lengths-are : (ls : List Landing) → sum (edgeLengths (landedEdges ls)) ≡ lengthsSum ls
-unfolding sum edgeLengths landedEdges lengthsSum
-lengths-are [] = refl
-lengths-are (l ∷ ls) = omega (arith, lengths-are ls)
 
 -- ---- one record
 

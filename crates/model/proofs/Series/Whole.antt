@@ -4,25 +4,25 @@ use Prim.Native.Nat.{ℕ, _*_, _≤_, _<_}
 use native.Mathlib.Omega.{arith}
 use mathlib.Core.Bool.{Bool, true, false}
 use mathlib.Core.List.{List, [], _∷_, _++_}
-use lib.ListN.{length, getD, take, drop}
+use lib.ListN.{length, take, drop}
 use lib.Seq.{take-append-seam, drop-append-seam}
 use borrow.Author.Tests.{lt-ltb}
 use Rattle.model.specs.Basics.{floorLog, if_then_else_, sum}
 use Rattle.model.specs.Graph.{isRegular}
-use Rattle.model.specs.Register.{Register, empty}
+use Rattle.model.specs.Register.{Register, empty, labelOf}
 use Rattle.model.specs.Distance.{distance}
-use Rattle.model.specs.Queries.{chainAt, listed, measure, measured, refuses, sheet, sheetNumbers}
+use Rattle.model.specs.Queries.{Reply, find, listed, measure, measured, refuses, sheet, sheetNumbers}
 use Rattle.model.specs.Tables.{Stored, countsOf, edgeLengths, fits, storedOf}
 use Rattle.model.specs.Calls.{Effect, Lent, Outcome, allFit, answers, effect, finds, measures, sheetEffect, sheets, step}
-use Rattle.model.specs.Series.{AtEnd, Demand3, DistanceAnswer, FindAnswer, Landing, Made, SheetAnswer, after, afterCall, ask, lengthColumn, lengthsSum, series, since}
+use Rattle.model.specs.Series.{AtEnd, Demand3, DistanceAnswer, FindsOwn, Landing, Made, SheetAnswer, after, afterCall, ask, landedEdges, lengthColumn, series, since}
 use Rattle.model.proofs.Walks.Degree.{Proper}
 use Rattle.model.proofs.Walks.RingFree.{RingFree}
 use Rattle.model.proofs.Chains.Sheet.{sheet-sum, sheet-length, sheet-into}
-use Rattle.model.proofs.Chains.Own.{own-chain, only-chain}
 use Rattle.model.proofs.Distances.Distance.{is-distance}
 use Rattle.model.proofs.Distances.Hops.{chains-distance, loose-distance}
-use Rattle.model.proofs.Series.Labelled.{labelled-bound, find-own}
-use Rattle.model.proofs.Series.Told.{Told, told, edges-count, lengths-are}
+use Rattle.model.proofs.Series.Labelled.{labelled-bound}
+use Rattle.model.proofs.Series.Answers.{finds-chain}
+use Rattle.model.proofs.Series.Told.{Told, told, edges-count}
 use Rattle.model.proofs.Series.Facts.{Kept, kept-empty, kept-made, kept-after, kept-held, kept-fits, start-is, outcomeOf, step-fits, step-refused, ask-is}
 
 -- ---- a series does to what is stored what it does to the register
@@ -99,15 +99,11 @@ module _ (r : Register) (k : Kept r) where
       front : take n ((ask (sheets slice) (storedOf r)) .slice) ≡ ns
       front = ap (λ (xs : List ℕ). take n xs) written ∙ parts .0
 
-  find-answer : (v : ℕ) → isRegular (r .edges) v ≡ true → FindAnswer (storedOf r) r v
-  unfolding effect outcomeOf answers chainAt
+  find-answer : (v : ℕ) → isRegular (r .edges) v ≡ true → FindsOwn (r .edges) v ((ask (finds (labelOf r v)) (storedOf r)) .reply)
+  unfolding effect outcomeOf answers
   find-answer v c =
-      record {
-        name = chainAt r v;
-        reply-is = ap (λ (o : Outcome). o .reply) (ask-is (finds (getD (r .labels) v 0)) r k) ∙ find-own r (k .labelled) v c;
-        own = own-chain (r .edges) proper rings v c;
-        only = only-chain (r .edges) proper rings v c;
-      }
+      let told : (ask (finds (labelOf r v)) (storedOf r)) .reply ≡ find r (labelOf r v) = ap (λ (o : Outcome). o .reply) (ask-is (finds (labelOf r v)) r k) in
+      subst (λ (a : Reply). FindsOwn (r .edges) v a) (sym told) (finds-chain r (k .labelled) v c)
 
   distance-answer : (v w : ℕ) → v < r .vertices → w < r .vertices → DistanceAnswer (storedOf r) r v w
   unfolding effect outcomeOf answers
@@ -135,7 +131,7 @@ module _ (r : Register) (k : Kept r) where
         accepted = t .edges-are;
         total = t .total-is;
         bound = λ l. omega (arith, few);
-        lengths = λ slice h. sheet-answer slice (lengthsSum ls) (rw (← t .edges-are) (lengths-are ls)) h;
+        lengths = λ slice h. sheet-answer slice (sum (edgeLengths (landedEdges ls))) (rw (t .edges-are)) h;
         finds-own = find-answer;
         distances = distance-answer;
       }

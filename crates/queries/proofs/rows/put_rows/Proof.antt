@@ -1,10 +1,9 @@
 use Rattle.queries.proofs.SheetLaws.{put-start, put-end, put-count, put-room, put-slice}
 use Rattle.queries.proofs.RowLaws.{rows-none}
-use Rattle.queries.specs.Answers.{inFront}
 use Rattle.queries.specs.Chains.{rowsIn}
 use Rattle.tables.specs.Steps.{tables}
 use Rattle.model.specs.Queries.{concat}
-use Rattle.model.specs.Basics.{upTo}
+use Rattle.model.specs.Basics.{inFront, upTo}
 use lib.ListN.{length}
 use native.Mathlib.Omega.{arith}
 use Prim.Native.Nat.{ℕ, _-_, _≤_, _<_}
