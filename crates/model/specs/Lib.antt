@@ -1,4 +1,4 @@
--- Document 01 as definitions, in its order.
+-- Document 01 as definitions, each after what it needs.
 pub mod Basics
 pub mod Graph
 pub mod Cases

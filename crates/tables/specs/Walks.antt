@@ -1,4 +1,4 @@
--- Walks along a chain, of at most `fuel` steps. A walker stands at vertex v, which it reached by edge d.
+-- Walks along a chain, of at most n steps. A walker stands at vertex v, which it reached by edge d.
 use Prim.Native.Nat.{ℕ, zero, suc, _+_}
 use mathlib.Core.List.{List}
 use lib.ListN.{getD}
