@@ -12,7 +12,7 @@ use Rattle.model.specs.Basics.{maxVertices}
 use Rattle.model.specs.Graph.{Edge, Pass, degree, endsAt, far, isRegular, onlyEdge, onwards, turn, walk}
 use Rattle.model.specs.Labels.{Labelling, Marks, attach, base, extend, labelPath, next}
 use Rattle.tables.specs.Steps.{farIn, more16, nextIn}
-use Rattle.labels.specs.Labelling.{after, extendAt, extendIn, labelIn, worn}
+use Rattle.labels.specs.Labelling.{after, extendAt, extendIn, labelVertexIn, worn}
 use Rattle.model.proofs.Walks.Degree.{Proper, degree-snoc, is-two, not-two, proper-snoc}
 use Rattle.model.proofs.Walks.Turn.{At}
 use Rattle.model.proofs.Walks.Trail.{across, walk-on, walk-stop}
@@ -50,13 +50,13 @@ more16-agrees n h = omega arith
 module _ (degrees ends sides labels : List ℕ) (blocks x e d u : ℕ) (a : getD sides (2 * x) 0 ≡ d) (b : farIn ends d x ≡ u) where
   extend-after : (up : Bool) (label : ℕ) → getD degrees u 0 ≡ 2 → not (eqb (getD sides (2 * u) 0) d) ≡ up → nextIn up (getD labels u 0) ≡ label
       → extendIn degrees ends sides labels blocks x e
-      ≡ worn (labelIn sides labels x label d e up .sides) (labelIn sides labels x label d e up .labels) blocks
+      ≡ worn (labelVertexIn sides labels x label d e up .sides) (labelVertexIn sides labels x label d e up .labels) blocks
   unfolding extendIn extendAt
   extend-after up label h i j = rw (a, b, eq-eqb _ _ h, i, j)
 
   extend-new : (k : ℕ) → getD degrees u 0 ≢ 2 → more16 blocks ≡ k
       → extendIn degrees ends sides labels blocks x e
-      ≡ worn (labelIn sides labels x (base k) d e true .sides) (labelIn sides labels x (base k) d e true .labels) k
+      ≡ worn (labelVertexIn sides labels x (base k) d e true .sides) (labelVertexIn sides labels x (base k) d e true .labels) k
   unfolding extendIn extendAt
   extend-new k h i = rw (a, b, ne-eqb _ _ h, i)
 
@@ -114,7 +114,7 @@ module _ (es : List Edge) (n : Edge) (pr : Proper es) (df : n .first ≢ n .seco
       u-below = below u d (at-new es n ((across es d x pr a) .at))
 
       -- the one vertex is labelled
-      laid : (up : Bool) (label : ℕ) → let w = labelIn sides labels x label d (length es) up in Kept new Everywhere (w .sides) (w .labels) (labelPath up label path m)
+      laid : (up : Bool) (label : ℕ) → let w = labelVertexIn sides labels x label d (length es) up in Kept new Everywhere (w .sides) (w .labels) (labelPath up label path m)
       laid up label = lay-kept new below up label path sides labels m (leaf-between es n pr df x one o, tt) (kept-where (Off path) off-path (q .kept))
 
       go : (c : Bool) → isRegular new u ≡ c → let w = extendIn degrees ends sides labels blocks x (length es) in

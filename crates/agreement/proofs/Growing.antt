@@ -16,7 +16,7 @@ use Rattle.model.proofs.Walks.Degree.{Proper}
 use Rattle.model.proofs.Walks.Turn.{At}
 use Rattle.model.proofs.Walks.RingFree.{RingFree}
 use Rattle.model.proofs.Groups.Origins.{lowAt}
-use Rattle.model.proofs.Series.Held.{Regrows}
+use Rattle.model.proofs.Series.Held.{GrowsAgain}
 use Rattle.model.proofs.Series.Labelled.{Labelled, ends-landed}
 use Rattle.model.proofs.Series.Facts.{kept-held}
 use Rattle.model.proofs.Series.Lawful.{AllLawful, edges-lawful}
@@ -94,5 +94,5 @@ pub grown-held : (r : Register) → Grown r → held (storedOf r) ≡ some r
 grown-held r g = kept-held r ((reachable.full r g) .kept)
 
 -- and growing its own vertices and edges leaves it again
-pub grown-regrows : (r : Register) → Grown r → Regrows r
+pub grown-regrows : (r : Register) → Grown r → GrowsAgain r
 grown-regrows r g = (reachable.full r g) .kept .regrows

@@ -11,7 +11,7 @@ use Rattle.model.specs.Basics.{maxVertices, maxEdges}
 use Rattle.model.specs.Graph.{Edge, Pass, degree, endsAt, far, isRegular, onlyEdge}
 use Rattle.model.specs.Labels.{Labelling, Marks, attach, base, inwards, joinPath, labelPath, next, relabelCount}
 use Rattle.tables.specs.Steps.{farIn, nextIn}
-use Rattle.labels.specs.Labelling.{Worn, after, beginIn, joinIn, labelIn, relabelIn}
+use Rattle.labels.specs.Labelling.{Worn, after, beginIn, joinIn, labelVertexIn, relabelIn}
 use Rattle.model.proofs.Walks.Degree.{Proper, endsAt-le, is-two, two-ends, zero-or-one}
 use Rattle.model.proofs.Walks.Turn.{At}
 use Rattle.model.proofs.Walks.Trail.{across}
@@ -31,10 +31,10 @@ module _ (degrees ends sides labels : List ℕ) (x y e n dx dy u w l₁ l₂ l�
     (c : farIn ends dx x ≡ u) (f : farIn ends dy y ≡ w) (g : not (eqb (getD sides (2 * u) 0) dx) ≡ up)
     (i : nextIn up (getD labels u 0) ≡ l₁) (j : nextIn up l₁ ≡ l₂) (k : nextIn up l₂ ≡ l₃) where
   abbrev one : Worn
-  one = labelIn sides labels x l₁ dx e up
+  one = labelVertexIn sides labels x l₁ dx e up
 
   abbrev two : Worn
-  two = labelIn (one .sides) (one .labels) y l₂ e dy up
+  two = labelVertexIn (one .sides) (one .labels) y l₂ e dy up
 
   join-is : joinIn degrees ends sides labels x y e n ≡ after (one .count) (after (two .count) (relabelIn degrees ends up n (two .sides) (two .labels) dy w l₃))
   unfolding joinIn
@@ -163,10 +163,10 @@ module _ (es : List Edge) (n : Edge) (degrees ends sides labels : List ℕ) (m :
   abbrev label : ℕ → ℕ
   label u = next (up u) (getD (m .labels) u 0)
 
-  turns : (l₁ l₂ : ℕ) (b : Bool) → let w = labelIn sides labels x l₁ dx (length es) b in
-      Turns (labelIn (w .sides) (w .labels) y l₂ (length es) dy b .sides) (inwards es y)
+  turns : (l₁ l₂ : ℕ) (b : Bool) → let w = labelVertexIn sides labels x l₁ dx (length es) b in
+      Turns (labelVertexIn (w .sides) (w .labels) y l₂ (length es) dy b .sides) (inwards es y)
   turns l₁ l₂ b i s j =
-      let w = labelIn sides labels x l₁ dx (length es) b in
+      let w = labelVertexIn sides labels x l₁ dx (length es) b in
       let t : Between es (s .at) (s .before) (s .after) = between-ith (inwards es y) walk-between i s j in
       turn-other (w .sides) (w .labels) y l₂ (length es) dy b (s .before) (s .at) (walk-off y ly i s j)
       ∙ turn-other sides labels x l₁ dx (length es) b (s .before) (s .at) (walk-off x lx i s j)
@@ -186,8 +186,8 @@ module _ (es : List Edge) (n : Edge) (degrees ends sides labels : List ℕ) (m :
       let b₁ : l₁ ≤ getD (m .labels) u 0 + 1 = next-most (up u) (getD (m .labels) u 0) in
       let b₂ : l₂ ≤ l₁ + 1 = next-most (up u) l₁ in
       let b₃ : l₃ ≤ l₂ + 1 = next-most (up u) l₂ in
-      let w₁ = labelIn sides labels x l₁ dx (length es) (up u) in
-      let w₂ = labelIn (w₁ .sides) (w₁ .labels) y l₂ (length es) dy (up u) in
+      let w₁ = labelVertexIn sides labels x l₁ dx (length es) (up u) in
+      let w₂ = labelVertexIn (w₁ .sides) (w₁ .labels) y l₂ (length es) dy (up u) in
       join-is degrees ends sides labels x y (length es) (length es) dx dy u (far es dy y) l₁ l₂ l₃ (up u) (side-is x lx (sh .below x dx ax)) (side-is y ly (sh .below y dy ay))
       (sh .fars-are dx x (ax .inside) ∙ sym e) (sh .fars-are dy y (ay .inside)) (ap (λ (z : ℕ). not (eqb z dx)) ((q .regular (is-two es u c)) .0))
       (rw t (next-agrees (up u) (getD (m .labels) u 0) (omega arith))) (next-agrees (up u) l₁ (omega arith)) (next-agrees (up u) l₂ (omega arith))
@@ -220,7 +220,7 @@ module _ (es : List Edge) (n : Edge) (degrees ends sides labels : List ℕ) (m :
   begin-lays i e = rw e (refl, refl)
 
   begin-counts : (i : ℕ) → getD labels x 0 ≡ 0 → getD labels y 0 ≡ 0 → relabelCount labels (beginIn sides labels x dx y dy (length es) i .labels) ≡ 0
-  unfolding beginIn labelIn
+  unfolding beginIn labelVertexIn
   begin-counts i zx zy = omega (arith, re-bare labels (set labels x (base i)) y (base i + 1) zy, re-bare labels labels x (base i) zx, re-same labels)
 
   pub begins : (blocks : ℕ) → inwards es x ≡ [] → inwards es y ≡ [] → getD labels x 0 ≡ 0 → getD labels y 0 ≡ 0

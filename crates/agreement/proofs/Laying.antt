@@ -14,7 +14,7 @@ use Rattle.model.specs.Basics.{if_then_else_, maxVertices}
 use Rattle.model.specs.Graph.{Edge, Pass, degree, endsAt, far, isRegular, turn}
 use Rattle.model.specs.Labels.{Marks, labelPath, mark, next, relabelCount}
 use Rattle.tables.specs.Steps.{farIn, more32, nextIn, setPair, turnIn}
-use Rattle.labels.specs.Labelling.{Worn, after, labelIn, orientIn, relabelIn, worn}
+use Rattle.labels.specs.Labelling.{Worn, after, labelVertexIn, orientIn, relabelIn, worn}
 use Rattle.model.proofs.Walks.Degree.{Proper, is-two}
 use Rattle.model.proofs.Walks.Turn.{At, two-edges}
 use Rattle.model.proofs.Walks.Trail.{Trail, done, pass}
@@ -121,8 +121,8 @@ module _ (es : List Edge) (X Y : ℕ → Type 0) (sides labels : List ℕ) (m : 
       go v b y (no n) = linked-other es sides (m .lows) v x low high low n (k .links v b (wider v y n))
 
   pub kept-label : (c d : ℕ) (up : Bool) → Between es x c d
-      → Kept es Y (labelIn sides labels x label c d up .sides) (labelIn sides labels x label c d up .labels) (mark x label (if up then c else d) m)
-  unfolding labelIn orientIn
+      → Kept es Y (labelVertexIn sides labels x label c d up .sides) (labelVertexIn sides labels x label c d up .labels) (mark x label (if up then c else d) m)
+  unfolding labelVertexIn orientIn
   kept-label c d true b = kept-pair c d (b .regular) (b .before-at) (b .forth)
   kept-label c d false b = kept-pair d c (b .regular) (b .after-at) (b .back)
 
@@ -132,7 +132,7 @@ module _ (es : List Edge) (X Y : ℕ → Type 0) (sides labels : List ℕ) (m : 
 unfoldable pub layIn : Bool → ℕ → List Pass → List ℕ → List ℕ → Worn
 layIn up label [] sides labels = worn sides labels 0
 layIn up label (s ∷ ss) sides labels =
-    let w = labelIn sides labels (s .at) label (s .before) (s .after) up in
+    let w = labelVertexIn sides labels (s .at) label (s .before) (s .after) up in
     after (w .count) (layIn up (next up label) ss (w .sides) (w .labels))
 
 off-cons : (s : Pass) (ss : List Pass) (v : ℕ) → Off ss v → v ≢ s .at → Off (s ∷ ss) v
@@ -145,7 +145,7 @@ pub lay-kept : (es : List Edge) → ((v d : ℕ) → At es v d → v < maxVertic
 unfolding layIn labelPath after
 lay-kept es below up label [] sides labels m b k = kept-where Everywhere (λ v _. no-nil v) k
 lay-kept es below up label (s ∷ ss) sides labels m b k =
-    let w = labelIn sides labels (s .at) label (s .before) (s .after) up in
+    let w = labelVertexIn sides labels (s .at) label (s .before) (s .after) up in
     lay-kept es below up (next up label) ss (w .sides) (w .labels) (mark (s .at) label (if up then s .before else s .after) m) (b .1)
     (kept-label es (Off (s ∷ ss)) (Off ss) sides labels m (s .at) label (off-cons s ss) k (below _ _ (b .0 .before-at)) (s .before) (s .after) up (b .0))
 
@@ -168,10 +168,10 @@ once-cons s ss h o (suc i) (suc j) t u (later m) (later n) q = ap suc (o i j t u
 pub lay-counts : (ts : List ℕ) (up : Bool) (label : ℕ) (path : List Pass) (sides labels : List ℕ) → length ts ≡ length labels → Once path
     → ((i : ℕ) (s : Pass) → Ith s i path → getD labels (s .at) 0 ≡ getD ts (s .at) 0)
     → relabelCount ts (layIn up label path sides labels .labels) ≡ relabelCount ts labels + layIn up label path sides labels .count
-unfolding layIn after labelIn moved
+unfolding layIn after labelVertexIn moved
 lay-counts ts up label [] sides labels l o h = omega arith
 lay-counts ts up label (s ∷ ss) sides labels l o h =
-    let w = labelIn sides labels (s .at) label (s .before) (s .after) up in
+    let w = labelVertexIn sides labels (s .at) label (s .before) (s .after) up in
     let ih = lay-counts ts up (next up label) ss (w .sides) (w .labels) (l ∙ sym (length-set labels (s .at) label)) (once-tail s ss o)
     (λ i t j. getD-set-other labels (s .at) (t .at) label 0 (once-head s ss o i t j) ∙ h (suc i) t (later j)) in
     omega (arith, ih, relabelled-set ts labels (s .at) label l (h 0 s here))
@@ -195,8 +195,8 @@ abbrev pub Turns : List ℕ → List Pass → Type 0
 Turns sides path = (i : ℕ) (s : Pass) → Ith s i path → turnIn sides (s .before) (s .at) ≡ s .after
 
 pub turn-other : (sides labels : List ℕ) (v label c d : ℕ) (up : Bool) (e w : ℕ) → w ≢ v
-    → turnIn (labelIn sides labels v label c d up .sides) e w ≡ turnIn sides e w
-unfolding turnIn labelIn orientIn
+    → turnIn (labelVertexIn sides labels v label c d up .sides) e w ≡ turnIn sides e w
+unfolding turnIn labelVertexIn orientIn
 turn-other sides labels v label c d true e w n = let p = pair-other sides v w c d n in rw (p .0, p .1)
 turn-other sides labels v label c d false e w n = let p = pair-other sides v w d c n in rw (p .0, p .1)
 
@@ -207,7 +207,7 @@ module _ (degrees ends : List ℕ) (up : Bool) where
   relabel-end (suc k) sides labels d v label h = rw (ne-eqb _ _ h)
 
   relabel-on : (k : ℕ) (sides labels : List ℕ) (d v label c w label′ : ℕ) → getD degrees v 0 ≡ 2 → turnIn sides d v ≡ c → farIn ends c v ≡ w → nextIn up label ≡ label′
-      → let h = labelIn sides labels v label d c up in
+      → let h = labelVertexIn sides labels v label d c up in
       relabelIn degrees ends up (suc k) sides labels d v label ≡ after (h .count) (relabelIn degrees ends up k (h .sides) (h .labels) c w label′)
   unfolding relabelIn after
   relabel-on k sides labels d v label c w label′ h a b e = rw (eq-eqb _ _ h, a, b, e)
@@ -222,7 +222,7 @@ module _ (es : List Edge) (pr : Proper es) (degrees ends sides₀ lows : List �
   relabel-lays zero sides labels label a (pass c r e u) j l b o t = absurd (not-suc-le-zero l)
   relabel-lays {d} {v} (suc k) sides labels label a (pass {ss = ss} c r e u) j l b o t =
       let x : Next es d v c = next-edge es d v c pr a r e in
-      let h = labelIn sides labels v label d c up in
+      let h = labelVertexIn sides labels v label d c up in
       let n = next-most up label in
       relabel-on degrees ends up k sides labels d v label c (far es c v) (next up label) (shows-regular es pr degrees ends sides₀ lows sh v d a r) (t 0 _ here)
       (sh .fars-are c v (x .at .inside)) (next-agrees up label (omega arith))

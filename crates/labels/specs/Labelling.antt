@@ -27,8 +27,8 @@ unfoldable pub orientIn : Bool → List ℕ → ℕ → ℕ → ℕ → List ℕ
 orientIn up sides v inner outer = if up then setPair sides v inner outer else setPair sides v outer inner
 
 -- vertex v with a label and its sides; the count is 1 where it is relabelled
-unfoldable pub labelIn : List ℕ → List ℕ → ℕ → ℕ → ℕ → ℕ → Bool → Worn
-labelIn sides labels v label inner outer up =
+unfoldable pub labelVertexIn : List ℕ → List ℕ → ℕ → ℕ → ℕ → ℕ → Bool → Worn
+labelVertexIn sides labels v label inner outer up =
     worn (orientIn up sides v inner outer) (set labels v label) (if isRelabelled (getD labels v 0) label then 1 else 0)
 
 -- the regular vertices from v on, reached by edge d, get the labels from `label` on; the count is that of the relabelled
@@ -36,7 +36,7 @@ unfoldable pub relabelIn : List ℕ → List ℕ → Bool → ℕ → List ℕ �
 relabelIn degrees ends up zero sides labels d v label = worn sides labels 0
 relabelIn degrees ends up (suc n) sides labels d v label =
     let c = turnIn sides d v in
-    let w = labelIn sides labels v label d c up in
+    let w = labelVertexIn sides labels v label d c up in
     let rest = relabelIn degrees ends up n (w .sides) (w .labels) c (farIn ends c v) (nextIn up label) in
     let all = worn (rest .sides) (rest .labels) (w .count + rest .count) in
     if eqb (getD degrees v 0) 2 then all else worn sides labels 0
@@ -45,8 +45,8 @@ relabelIn degrees ends up (suc n) sides labels d v label =
 unfoldable pub extendAt : List ℕ → List ℕ → List ℕ → ℕ → ℕ → ℕ → ℕ → ℕ → Worn
 extendAt degrees sides labels blocks x e d u =
     let up = not (eqb (getD sides (2 * u) 0) d) in
-    let h = labelIn sides labels x (nextIn up (getD labels u 0)) d e up in
-    let g = labelIn sides labels x (base (more16 blocks)) d e true in
+    let h = labelVertexIn sides labels x (nextIn up (getD labels u 0)) d e up in
+    let g = labelVertexIn sides labels x (base (more16 blocks)) d e true in
     if eqb (getD degrees u 0) 2 then worn (h .sides) (h .labels) blocks else worn (g .sides) (g .labels) (more16 blocks)
 
 unfoldable pub extendIn : List ℕ → List ℕ → List ℕ → List ℕ → ℕ → ℕ → ℕ → Worn
@@ -63,16 +63,16 @@ joinIn degrees ends sides labels x y e n =
     let up = not (eqb (getD sides (2 * u) 0) dx) in
     let lx = nextIn up (getD labels u 0) in
     let ly = nextIn up lx in
-    let h = labelIn sides labels x lx dx e up in
-    let g = labelIn (h .sides) (h .labels) y ly e dy up in
+    let h = labelVertexIn sides labels x lx dx e up in
+    let g = labelVertexIn (h .sides) (h .labels) y ly e dy up in
     after (h .count) (after (g .count)
     (relabelIn degrees ends up n (g .sides) (g .labels) dy (farIn ends dy y) (nextIn up ly)))
 
 -- two chains without regular vertices become one with two, a and b, in block k
 unfoldable pub beginIn : List ℕ → List ℕ → ℕ → ℕ → ℕ → ℕ → ℕ → ℕ → Worn
 beginIn sides labels a da b db e k =
-    let h = labelIn sides labels a (base k) da e true in
-    labelIn (h .sides) (h .labels) b (base k + 1) e db true
+    let h = labelVertexIn sides labels a (base k) da e true in
+    labelVertexIn (h .sides) (h .labels) b (base k + 1) e db true
 
 -- what becomes of the chains: a ring is refused
 pub record Merged : Type 0 where

@@ -22,7 +22,7 @@ ghost use Prim.Native.Nat.{_*_};
 ghost use lib.Dec.{eqb};
 ghost use lib.ListN.{getD};
 ghost use Rattle.model.specs.Labels.{base, isRelabelled};
-ghost use Rattle.labels.specs.Labelling.{worn, orientIn, labelIn, relabelIn, extendIn};
+ghost use Rattle.labels.specs.Labelling.{worn, orientIn, labelVertexIn, relabelIn, extendIn};
 
 // The first label of block k: document 01's base of the k-th birth.
 pub fn base(k: u16) -> u32
@@ -66,7 +66,7 @@ pub fn label_vertex(
     up: bool,
 ) -> u32
     ensures { λ r. ⌜ worn (now (sides .exit)) (now (labels .exit)) r
-        ≡ labelIn (now (sides .entry)) (now (labels .entry)) v label inner outer up ⌝ }
+        ≡ labelVertexIn (now (sides .entry)) (now (labels .entry)) v label inner outer up ⌝ }
 {
     let i = v as usize;
     let old = at32(labels, i);

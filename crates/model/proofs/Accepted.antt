@@ -37,7 +37,7 @@ calls =
     record { call = grows loop; scratch = none } ∷
     record { call = lands (listOf 0 (edge 0 6 100 ∷ [])); scratch = none } ∷ []
 
-pub record Settled : Type 0 where
+pub record Called : Type 0 where
   pub before-stop : length (landedBy empty ring) ≡ 1
   pub grow-stops : (effect (grows ring) empty) .reply ≡ read (stopped 3 24)
   pub land-stops : (effect (lands stops) ((effect (grows house) empty) .leaves)) .reply ≡ read (stopped 1 6)
@@ -76,9 +76,9 @@ unfoldable pub made : Unit {0}
 unfolding none stops calls every pairwise
 made = tt
 
-pub settled : Settled
+pub called : Called
 unfolding computing lists made
-settled =
+called =
     record {
       before-stop = refl;
       grow-stops = refl;

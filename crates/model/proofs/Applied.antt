@@ -14,7 +14,7 @@ use Rattle.model.specs.Queries.{found, measured, reached, refuses}
 use Rattle.model.specs.Tables.{cleared, held}
 use Rattle.model.specs.Calls.{Call, effect, finds, measures, reaches, sheets}
 use Rattle.model.specs.Series.{AtEnd, Demand3, Made, after, ask, lengthColumn, series, since, start}
-use Rattle.model.proofs.Accepted.{calls, pairs, pairwise, settled}
+use Rattle.model.proofs.Accepted.{called, calls, pairs, pairwise}
 use Rattle.model.proofs.Series.Facts.{cleared-fits}
 use Rattle.model.proofs.Series.Whole.{demand3}
 
@@ -43,15 +43,15 @@ pub shown : Shown
 shown =
     record {
       never-21 = at-end .holds;
-      total = at-end .total ∙ settled .relabelled;
-      bound = subst (λ (n : ℕ). (series calls start) .counts .relabellings ≤ n * floorLog n) (settled .accepted)
-          (at-end .bound (omega (arith, settled .accepted)));
+      total = at-end .total ∙ called .relabelled;
+      bound = subst (λ (n : ℕ). (series calls start) .counts .relabellings ≤ n * floorLog n) (called .accepted)
+          (at-end .bound (omega (arith, called .accepted)));
       lengths = λ slice h.
-          subst (λ (n : ℕ). sum (lengthColumn (take (5 * n) ((ask (sheets slice) (series calls start)) .slice))) ≡ 5500) (settled .chains)
-          ((at-end .lengths slice (omega (arith, settled .chains))) .adds-up ∙ settled .lengths);
-      find-8195 = asked (finds 8195) ∙ settled .find-8195;
-      reach-4 = asked (reaches 4) ∙ settled .reach-4;
-      distance = asked (measures 0 6) ∙ settled .distance;
+          subst (λ (n : ℕ). sum (lengthColumn (take (5 * n) ((ask (sheets slice) (series calls start)) .slice))) ≡ 5500) (called .chains)
+          ((at-end .lengths slice (omega (arith, called .chains))) .adds-up ∙ called .lengths);
+      find-8195 = asked (finds 8195) ∙ called .find-8195;
+      reach-4 = asked (reaches 4) ∙ called .reach-4;
+      distance = asked (measures 0 6) ∙ called .distance;
     }
 
 -- ---- neither factor of the bound can be left out

@@ -22,7 +22,7 @@ edgeBytes [] = []
 edgeBytes (e ∷ es) =
     0x50 ∷ e .first % 256 ∷ e .first / 256 ∷ e .second % 256 ∷ e .second / 256 ∷ bytes4 (e .len) ++ edgeBytes es
 
--- the bytes of a list: the header, n fittings, then pipes
+-- the bytes of a list: the header, n vertices, then edges
 unfoldable pub listOf : ℕ → List Edge → List ℕ
 listOf n es = ascii "PNL" ++ (1 ∷ 0 ∷ replicate n 0x46) ++ edgeBytes es
 
@@ -63,8 +63,8 @@ loop = listOf 5 (edge 0 3 5 ∷ edge 0 4 5 ∷ edge 0 1 10 ∷ edge 1 2 20 ∷ e
 unfoldable pub tapped : List ℕ
 tapped = listOf 7 (edge 0 1 1 ∷ edge 1 2 1 ∷ edge 2 3 1 ∷ edge 3 4 1 ∷ edge 2 5 1 ∷ edge 0 6 1 ∷ [])
 
-unfoldable pub onePipe : ℕ → ℕ → ℕ → List ℕ
-onePipe a b len = listOf 2 (edge a b len ∷ [])
+unfoldable pub oneEdge : ℕ → ℕ → ℕ → List ℕ
+oneEdge a b len = listOf 2 (edge a b len ∷ [])
 
 pub record Marked : Type 0 where
   pub listing : printed house ≡ ascii "7 6 3 1\n0 0 3 2 3300\n2 3 5 1 1200\n5 3 6 0 900\n"
@@ -77,38 +77,38 @@ pub record Marked : Type 0 where
   pub loop-chain : printed loop ≡ ascii "5 5 3 0\n0 0 3 0 5\n1 0 4 0 5\n2 0 0 2 60\n"
   pub loop-distance : distanceAfter loop 1 2 ≡ measured (joined 20)
   pub low-end : labelsAfter 7 tapped ≡ 8191 ∷ 8192 ∷ 0 ∷ 8194 ∷ 0 ∷ 0 ∷ 0 ∷ []
-  pub longest : stopAfter (onePipe 0 1 100000) ≡ whole
-  pub too-long : stopAfter (onePipe 0 1 100001) ≡ stopped 2 7
-  pub too-short : stopAfter (onePipe 0 1 0) ≡ stopped 2 7
-  pub one-fitting : stopAfter (onePipe 0 0 1) ≡ stopped 2 6
+  pub longest : stopAfter (oneEdge 0 1 100000) ≡ whole
+  pub too-long : stopAfter (oneEdge 0 1 100001) ≡ stopped 2 7
+  pub too-short : stopAfter (oneEdge 0 1 0) ≡ stopped 2 7
+  pub one-vertex : stopAfter (oneEdge 0 0 1) ≡ stopped 2 6
 
 -- ---- values that tell readings apart
 
--- runs 0-1-2 and 3-4-5-6 are joined by the pipe 2-3: the second named has more couplings and keeps its tags, at its low end
+-- chains 0-1-2 and 3-4-5-6 are joined by the edge 2-3: the second named has more regular vertices and keeps its labels, at its low end
 unfoldable pub secondLonger : List ℕ
 secondLonger = listOf 7 (edge 0 1 1 ∷ edge 1 2 1 ∷ edge 3 4 1 ∷ edge 4 5 1 ∷ edge 5 6 1 ∷ edge 2 3 1 ∷ [])
 
--- runs 0-1-2 and 3-4-5, one coupling each, are joined by a pipe between 2 and 3
+-- chains 0-1-2 and 3-4-5, one regular vertex each, are joined by an edge between 2 and 3
 unfoldable pub tie : ℕ → ℕ → List ℕ
 tie a b = listOf 6 (edge 0 1 1 ∷ edge 1 2 1 ∷ edge 3 4 1 ∷ edge 4 5 1 ∷ edge a b 1 ∷ [])
 
--- two runs without couplings, 0-1 and 2-3, are joined by the pipe 3-0: a birth, the first named gets the base
+-- two chains without regular vertices, 0-1 and 2-3, are joined by the edge 3-0: a new block, the first named gets the base
 unfoldable pub bothBare : List ℕ
 bothBare = listOf 4 (edge 0 1 1 ∷ edge 2 3 1 ∷ edge 3 0 1 ∷ [])
 
--- a line 0-1-2-3 and a pipe from its free end 3 to the coupling 1 of the same run
-unfoldable pub ownRun : List ℕ
-ownRun = listOf 4 (edge 0 1 1 ∷ edge 1 2 2 ∷ edge 2 3 4 ∷ edge 3 1 8 ∷ [])
+-- a line 0-1-2-3 and an edge from its leaf 3 to the regular vertex 1 of the same chain
+unfoldable pub ownChain : List ℕ
+ownChain = listOf 4 (edge 0 1 1 ∷ edge 1 2 2 ∷ edge 2 3 4 ∷ edge 3 1 8 ∷ [])
 
--- a line 0-1-2 and a pipe from its free end 2 to its own neighbour 1
+-- a line 0-1-2 and an edge from its leaf 2 to its own neighbour 1
 unfoldable pub ownNeighbour : List ℕ
 ownNeighbour = listOf 3 (edge 0 1 1 ∷ edge 1 2 2 ∷ edge 2 1 4 ∷ [])
 
--- a line 0-1-2-3-4-5 and a pipe between two couplings of it
+-- a line 0-1-2-3-4-5 and an edge between two regular vertices of it
 unfoldable pub twoOfOne : List ℕ
 twoOfOne = listOf 6 (edge 0 1 1 ∷ edge 1 2 2 ∷ edge 2 3 4 ∷ edge 3 4 8 ∷ edge 4 5 16 ∷ edge 1 4 32 ∷ [])
 
--- the tapped line, and a pipe more at the free end 4 of its other piece: a lone coupling extended at its high end
+-- the tapped line, and an edge more at the leaf 4 of its other piece: a lone regular vertex, whose chain is extended at its high end
 unfoldable pub tappedHigh : List ℕ
 tappedHigh = listOf 6 (edge 0 1 1 ∷ edge 1 2 1 ∷ edge 2 3 1 ∷ edge 3 4 1 ∷ edge 2 0 1 ∷ edge 4 5 1 ∷ [])
 
@@ -118,8 +118,8 @@ pub record Readings : Type 0 where
   pub tie-first : labelsAfter 6 (tie 2 3) ≡ 0 ∷ 8192 ∷ 8193 ∷ 8194 ∷ 8195 ∷ 0 ∷ []
   pub tie-other : labelsAfter 6 (tie 3 2) ≡ 0 ∷ 16381 ∷ 16382 ∷ 16383 ∷ 16384 ∷ 0 ∷ []
   pub both-bare : labelsAfter 4 bothBare ≡ 8193 ∷ 0 ∷ 0 ∷ 8192 ∷ []
-  pub own-run : labelsAfter 4 ownRun ≡ 0 ∷ 0 ∷ 8193 ∷ 8194 ∷ []
-  pub own-run-sheet : printed ownRun ≡ ascii "4 4 2 0\n0 0 1 0 1\n1 1 1 2 14\n"
+  pub own-chain : labelsAfter 4 ownChain ≡ 0 ∷ 0 ∷ 8193 ∷ 8194 ∷ []
+  pub own-chain-sheet : printed ownChain ≡ ascii "4 4 2 0\n0 0 1 0 1\n1 1 1 2 14\n"
   pub own-neighbour : labelsAfter 3 ownNeighbour ≡ 0 ∷ 0 ∷ 16384 ∷ []
   pub own-neighbour-sheet : printed ownNeighbour ≡ ascii "3 3 2 0\n0 0 1 0 1\n1 1 1 1 6\n"
   pub two-of-one : labelsAfter 6 twoOfOne ≡ 0 ∷ 0 ∷ 8193 ∷ 8194 ∷ 0 ∷ 0 ∷ []
@@ -129,10 +129,10 @@ pub record Readings : Type 0 where
   pub reach-1 : reachAfter house 1 ≡ reached 1000 2300
   pub reach-4 : reachAfter house 4 ≡ reached 500 700
   pub reach-down : reachAfter secondLonger 1 ≡ reached 1 5
-  pub reach-junction : reachAfter house 3 ≡ refuses 8
+  pub reach-singular : reachAfter house 3 ≡ refuses 8
   pub reach-not-landed : reachAfter house 7 ≡ refuses 5
   pub find-zero : findAfter house 0 ≡ refuses 8
-  pub distance-over-runs : distanceAfter house 1 6 ≡ measured (joined 3200)
+  pub distance-over-chains : distanceAfter house 1 6 ≡ measured (joined 3200)
   pub distance-self : distanceAfter house 4 4 ≡ measured (joined 0)
   pub distance-none : distanceAfter (listOf 2 []) 0 1 ≡ measured notJoined
   pub distance-not-landed : distanceAfter house 0 7 ≡ refuses 5
@@ -143,11 +143,11 @@ pub record Readings : Type 0 where
   pub version : stopAfter (ascii "PNL" ++ (1 ∷ 1 ∷ [])) ≡ stopped 0 2
   pub kind-before-cut : stopAfter (listOf 1 [] ++ (0 ∷ [])) ≡ stopped 1 4
   pub cut : stopAfter (listOf 2 [] ++ (0x50 ∷ 0 ∷ 0 ∷ 1 ∷ 0 ∷ 1 ∷ 0 ∷ 0 ∷ [])) ≡ stopped 2 3
-  pub not-landed-before-same : stopAfter (onePipe 2 2 1) ≡ stopped 2 5
-  pub same-before-length : stopAfter (onePipe 0 0 0) ≡ stopped 2 6
+  pub not-landed-before-same : stopAfter (oneEdge 2 2 1) ≡ stopped 2 5
+  pub same-before-length : stopAfter (oneEdge 0 0 0) ≡ stopped 2 6
   pub header-refused : printed (ascii "PNL") ≡ ascii "0 0 0 0\nstopped 0 3\n"
-  pub fitting-4096 : stopAfter (listOf 4096 []) ≡ whole
-  pub fitting-4097 : stopAfter (listOf 4097 []) ≡ stopped 4096 22
+  pub vertex-4096 : stopAfter (listOf 4096 []) ≡ whole
+  pub vertex-4097 : stopAfter (listOf 4097 []) ≡ stopped 4096 22
   -- calls from C
   pub c-find : cFind house 8195 (7 ∷ 7 ∷ 7 ∷ 7 ∷ 7 ∷ []) ≡ record { slice = 2 ∷ 0 ∷ 0 ∷ 0 ∷ 7 ∷ []; value = pos 4 }
   pub c-reach : cReach house 1 (replicate 8 7) ≡ record { slice = 0xE8 ∷ 3 ∷ 0 ∷ 0 ∷ 0xFC ∷ 8 ∷ 0 ∷ 0 ∷ []; value = pos 8 }
@@ -155,13 +155,13 @@ pub record Readings : Type 0 where
   pub c-own-before-short : cReach house 3 [] ≡ record { slice = []; value = negℤ (pos 8) }
   pub c-stopped : cSheet ring [] ≡ record { slice = []; value = negℤ (pos 24) }
   pub c-none : cDistance (listOf 2 []) 0 1 (replicate 4 7) ≡ record { slice = replicate 4 255; value = pos 4 }
-  pub c-sheet : cSheet (onePipe 1 0 3) (replicate 21 7)
+  pub c-sheet : cSheet (oneEdge 1 0 3) (replicate 21 7)
       ≡ record { slice = bytes4 0 ++ bytes4 0 ++ bytes4 1 ++ bytes4 0 ++ bytes4 3 ++ (7 ∷ []); value = pos 20 }
 
 -- ---- computed
 
 unfoldable pub lists : Unit {0}
-unfolding edge edgeBytes listOf labelsAfter relabelledAfter stopAfter findAfter reachAfter distanceAfter house ring loop tapped onePipe secondLonger tie bothBare ownRun ownNeighbour twoOfOne tappedHigh
+unfolding edge edgeBytes listOf labelsAfter relabelledAfter stopAfter findAfter reachAfter distanceAfter house ring loop tapped oneEdge secondLonger tie bothBare ownChain ownNeighbour twoOfOne tappedHigh
 lists = tt
 
 pub values : Marked
@@ -181,7 +181,7 @@ values =
       longest = refl;
       too-long = refl;
       too-short = refl;
-      one-fitting = refl;
+      one-vertex = refl;
     }
 
 pub readings : Readings
@@ -193,8 +193,8 @@ readings =
       tie-first = refl;
       tie-other = refl;
       both-bare = refl;
-      own-run = refl;
-      own-run-sheet = refl;
+      own-chain = refl;
+      own-chain-sheet = refl;
       own-neighbour = refl;
       own-neighbour-sheet = refl;
       two-of-one = refl;
@@ -203,10 +203,10 @@ readings =
       reach-1 = refl;
       reach-4 = refl;
       reach-down = refl;
-      reach-junction = refl;
+      reach-singular = refl;
       reach-not-landed = refl;
       find-zero = refl;
-      distance-over-runs = refl;
+      distance-over-chains = refl;
       distance-self = refl;
       distance-none = refl;
       distance-not-landed = refl;
@@ -219,8 +219,8 @@ readings =
       not-landed-before-same = refl;
       same-before-length = refl;
       header-refused = refl;
-      fitting-4096 = refl;
-      fitting-4097 = refl;
+      vertex-4096 = refl;
+      vertex-4097 = refl;
       c-find = refl;
       c-reach = refl;
       c-short = refl;

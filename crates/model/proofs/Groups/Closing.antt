@@ -16,7 +16,7 @@ use Rattle.model.proofs.Groups.Flip.{Spot, Rises, climb}
 use Rattle.model.proofs.Walks.NewEdge.{last-at, old-edge}
 use Rattle.model.proofs.Groups.Grown.{Growth, After, after, Seam, old-x, Look, look, new-one, in-x, in-y, elsewhere, seen-old}
 use Rattle.model.proofs.Groups.GrownEnds.{end-group}
-use Rattle.model.proofs.Labels.Following.{labelOf, Ith}
+use Rattle.model.proofs.Labels.Following.{ithLabel, Ith}
 use Rattle.model.proofs.Labels.Laid.{Laid}
 use Rattle.model.proofs.Groups.Origins.{Stand, Fits, labelAt}
 use Rattle.model.proofs.Groups.Blocks.{Start}
@@ -171,7 +171,7 @@ module _ (jo : Joined) where
         go : Now relabelled v → Held v
         go (in-path i t j z f g bl) = record {
           at = size₁ + i;
-          fits = rw (bl, st .now-rising, f) (subst (λ (n : ℕ). Fits (la .up) (l .origin (st .now)) (base (st .now)) n (labelOf (la .up) (la .label) i)) (let n : suc (h .place e + i) ≡ size₁ + i = omega (arith, top) in n) (r .now-fits i t j));
+          fits = rw (bl, st .now-rising, f) (subst (λ (n : ℕ). Fits (la .up) (l .origin (st .now)) (base (st .now)) n (ithLabel (la .up) (la .label) i)) (let n : suc (h .place e + i) ≡ size₁ + i = omega (arith, top) in n) (r .now-fits i t j));
           first = rw bl (st .now-first);
           last = rw bl (st .now-last);
           who = of-path i t j z refl bl;

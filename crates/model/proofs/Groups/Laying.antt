@@ -18,7 +18,7 @@ use Rattle.model.proofs.Groups.Flip.{Spot, Rises, Climb, climb}
 use Rattle.model.proofs.Walks.NewEdge.{length-new, at-new}
 use Rattle.model.proofs.Groups.Grown.{grown, Growth, Seam, old-x, old-end, open-gx}
 use Rattle.model.proofs.Groups.GrownCourses.{grown-courses}
-use Rattle.model.proofs.Labels.Following.{labelOf, Ith}
+use Rattle.model.proofs.Labels.Following.{ithLabel, Ith}
 use Rattle.model.proofs.Labels.Laid.{Laid}
 use Rattle.model.proofs.Groups.Origins.{Fits}
 use Rattle.model.proofs.Groups.Blocks.{Start, between-or}
@@ -30,8 +30,8 @@ unfolding size total
 size-most h zero g = omega arith
 size-most h (suc n) g = omega (arith, size-most h n g, same-most (h .group n) g)
 
-fits-next : (up : Bool) (q b start label i : ℕ) → 1 ≤ q → suc (start + i) ≤ b → Fits up q b start label → Fits up q b (suc (start + i)) (labelOf up label i)
-unfolding labelOf
+fits-next : (up : Bool) (q b start label i : ℕ) → 1 ≤ q → suc (start + i) ≤ b → Fits up q b start label → Fits up q b (suc (start + i)) (ithLabel up label i)
+unfolding ithLabel
 fits-next true q b start label i f l e = omega (arith, e)
 fits-next false q b start label i f l e = omega (arith, e, f, l)
 

@@ -13,7 +13,7 @@ use Rattle.model.proofs.Walks.Turn.{At}
 use Rattle.model.proofs.Groups.Shape.{Shape, size, pick, pick-yes, pick-no}
 use Rattle.model.proofs.Groups.Flip.{Spot}
 use Rattle.model.proofs.Walks.NewEdge.{last-at, old-edge}
-use Rattle.model.proofs.Labels.Following.{following, labelOf, lowOf, Ith, Wears, given, kept, wears}
+use Rattle.model.proofs.Labels.Following.{following, ithLabel, lowOf, Ith, Wears, given, kept, wears}
 use Rattle.model.proofs.Groups.Origins.{Origins, Aligned, Fits, labelAt, lowAt}
 use Rattle.model.proofs.Groups.InPath.{InPath, pathBlock, given-in, given-out}
 use Rattle.model.proofs.Labels.Splits.{Bare}
@@ -38,7 +38,7 @@ pub record OnPath (es : List Edge) (p : Edge) (h h′ : Shape) (l : Origins) (gx
   pub now-rising : (i : ℕ) (t : Pass) → Ith t i path → l .rising now ≡ up
   pub now-first : (i : ℕ) (t : Pass) → Ith t i path → 1 ≤ l .origin now
   pub now-last : (i : ℕ) (t : Pass) → Ith t i path → l .origin now ≤ size h (length es) gx
-  pub now-fits : (i : ℕ) (t : Pass) → Ith t i path → Fits up (l .origin now) (base now) (suc (start + i)) (labelOf up label i)
+  pub now-fits : (i : ℕ) (t : Pass) → Ith t i path → Fits up (l .origin now) (base now) (suc (start + i)) (ithLabel up label i)
   pub path-has : (v : ℕ) → endsAt v p ≡ 1 → degree (es ++ (p ∷ [])) v ≡ 2 → InPath path v
 
 -- One more edge, and the labels: the marks m before it, m′ after the splits, and the path that is labelled from there
@@ -77,7 +77,7 @@ module _ (re : Relabelled) where
 
   -- a regular vertex of the new list: on the path, or an old one that stays as it was
   pub data Now (v : ℕ) : Type 0 where
-    in-path : (i : ℕ) (t : Pass) → Ith t i path → t .at ≡ v → labelAt mN v ≡ labelOf up label i → lowAt mN v ≡ lowOf up t → l′ .block v ≡ now → Now v
+    in-path : (i : ℕ) (t : Pass) → Ith t i path → t .at ≡ v → labelAt mN v ≡ ithLabel up label i → lowAt mN v ≡ lowOf up t → l′ .block v ≡ now → Now v
     as-was : degree es v ≡ 2 → endsAt v p ≡ 0 → ((i : ℕ) (t : Pass) → Ith t i path → t .at ≢ v) → labelAt mN v ≡ labelAt m v → lowAt mN v ≡ lowAt m v → l′ .block v ≡ l .block v → Now v
 
   block-in : (v i : ℕ) (t : Pass) → Ith t i path → t .at ≡ v → l′ .block v ≡ now

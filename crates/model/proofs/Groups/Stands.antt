@@ -11,7 +11,7 @@ use Rattle.model.specs.Labels.{base}
 use Rattle.model.proofs.Walks.Turn.{At}
 use Rattle.model.proofs.Groups.Shape.{size}
 use Rattle.model.proofs.Walks.NewEdge.{last-at, old-edge}
-use Rattle.model.proofs.Labels.Following.{labelOf, lowOf, Ith}
+use Rattle.model.proofs.Labels.Following.{ithLabel, lowOf, Ith}
 use Rattle.model.proofs.Groups.Origins.{Stand, Fits, LowIs, labelAt, lowAt}
 use Rattle.model.proofs.Groups.Grown.{Growth, After, after, Look, new-one, in-x, in-y, elsewhere, look, seen-y, seen-old, old-x, size-x, size-o, open-gx, open-o}
 use Rattle.model.proofs.Groups.GrownEnds.{Moved, between-old, stays}
@@ -33,7 +33,7 @@ module _ (re : Relabelled) where
   open Renewed (renewed re) using (l′, mN)
 
   -- where regular vertices stand
-  stand-path : b ≡ true → (v i : ℕ) (t : Pass) → Ith t i path → t .at ≡ v → labelAt mN v ≡ labelOf up label i → lowAt mN v ≡ lowOf up t → l′ .block v ≡ now → Stand new mN h′ l′ v gx
+  stand-path : b ≡ true → (v i : ℕ) (t : Pass) → Ith t i path → t .at ≡ v → labelAt mN v ≡ ithLabel up label i → lowAt mN v ≡ lowOf up t → l′ .block v ≡ now → Stand new mN h′ l′ v gx
   stand-path tr v i t j q f g bl =
       let sp = r .path-spot tr i t j in
       let o : l′ .origin now ≡ l .origin now = origin-o re now (λ z. s .differ (sym (r .now-owner i t j) ∙ z)) in

@@ -112,24 +112,24 @@ unfolding following next
 from-base k path m = rw (base-before k)
 
 -- the label of the i-th of the path, from 0
-unfoldable pub labelOf : Bool → ℕ → ℕ → ℕ
-labelOf true label i = label + suc i
-labelOf false label i = label - suc i
+unfoldable pub ithLabel : Bool → ℕ → ℕ → ℕ
+ithLabel true label i = label + suc i
+ithLabel false label i = label - suc i
 
 unfoldable pub lowOf : Bool → Pass → ℕ
 lowOf true s = s .before
 lowOf false s = s .after
 
 pub following-cons : (up : Bool) (label : ℕ) (s : Pass) (ss : List Pass) (m : Marks)
-    → following up label (s ∷ ss) m ≡ following up (labelOf up label 0) ss (mark (s .at) (labelOf up label 0) (lowOf up s) m)
-unfolding following labelPath next labelOf lowOf
+    → following up label (s ∷ ss) m ≡ following up (ithLabel up label 0) ss (mark (s .at) (ithLabel up label 0) (lowOf up s) m)
+unfolding following labelPath next ithLabel lowOf
 following-cons true label s ss m = refl
 following-cons false label s ss m = refl
 
-labelOf-suc : (up : Bool) (label i : ℕ) → labelOf up (labelOf up label 0) i ≡ labelOf up label (suc i)
-unfolding labelOf
-labelOf-suc true label i = omega arith
-labelOf-suc false label i = omega arith
+ithLabel-suc : (up : Bool) (label i : ℕ) → ithLabel up (ithLabel up label 0) i ≡ ithLabel up label (suc i)
+unfolding ithLabel
+ithLabel-suc true label i = omega arith
+ithLabel-suc false label i = omega arith
 
 pub re-path : (ts : List ℕ) (up : Bool) (label : ℕ) (path : List Pass) (m : Marks)
     → relabelCount ts ((following up label path m) .labels) ≤ relabelCount ts (m .labels) + length path
@@ -137,14 +137,14 @@ unfolding following labelPath mark
 re-path ts true label [] m = omega arith
 re-path ts false label [] m = omega arith
 re-path ts up label (s ∷ ss) m =
-    rw (following-cons up label s ss m) (omega (arith, re-path ts up (labelOf up label 0) ss (mark (s .at) (labelOf up label 0) (lowOf up s) m), re-set ts (m .labels) (s .at) (labelOf up label 0)))
+    rw (following-cons up label s ss m) (omega (arith, re-path ts up (ithLabel up label 0) ss (mark (s .at) (ithLabel up label 0) (lowOf up s) m), re-set ts (m .labels) (s .at) (ithLabel up label 0)))
 
 -- the first of a path, where it wore no label
 pub re-first : (ts : List ℕ) (up : Bool) (label : ℕ) (s : Pass) (ss : List Pass) (m : Marks) (k : ℕ) → getD ts (s .at) 0 ≡ 0
-    → relabelCount ts ((following up (labelOf up label 0) ss (mark (s .at) (labelOf up label 0) (lowOf up s) m)) .labels) ≤ relabelCount ts ((mark (s .at) (labelOf up label 0) (lowOf up s) m) .labels) + k
+    → relabelCount ts ((following up (ithLabel up label 0) ss (mark (s .at) (ithLabel up label 0) (lowOf up s) m)) .labels) ≤ relabelCount ts ((mark (s .at) (ithLabel up label 0) (lowOf up s) m) .labels) + k
     → relabelCount ts ((following up label (s ∷ ss) m) .labels) ≤ relabelCount ts (m .labels) + k
 unfolding mark
-re-first ts up label s ss m k e h = rw (following-cons up label s ss m) (omega (arith, h, re-bare ts (m .labels) (s .at) (labelOf up label 0) e))
+re-first ts up label s ss m k e h = rw (following-cons up label s ss m) (omega (arith, h, re-bare ts (m .labels) (s .at) (ithLabel up label 0) e))
 
 -- the i-th of a path, from 0
 pub data Ith (s : Pass) : ℕ → List Pass → Type 0 where
@@ -153,7 +153,7 @@ pub data Ith (s : Pass) : ℕ → List Pass → Type 0 where
 
 -- what vertex v wears then: label t, low edge l
 pub data Wears (up : Bool) (label : ℕ) (path : List Pass) (m : Marks) (v t l : ℕ) : Type 0 where
-  given : (i : ℕ) (s : Pass) → Ith s i path → s .at ≡ v → t ≡ labelOf up label i → l ≡ lowOf up s → Wears up label path m v t l
+  given : (i : ℕ) (s : Pass) → Ith s i path → s .at ≡ v → t ≡ ithLabel up label i → l ≡ lowOf up s → Wears up label path m v t l
   kept : ((i : ℕ) (s : Pass) → Ith s i path → s .at ≢ v) → t ≡ getD (m .labels) v 0 → l ≡ getD (m .lows) v 0 → Wears up label path m v t l
 
 no-here : (s : Pass) (ss : List Pass) (v : ℕ) → s .at ≢ v → ((i : ℕ) (t : Pass) → Ith t i ss → t .at ≢ v) → (i : ℕ) (t : Pass) → Ith t i (s ∷ ss) → t .at ≢ v
@@ -168,13 +168,13 @@ pub set-at : (xs : List ℕ) (f v a : ℕ) → f ≡ v → v < length xs → get
 set-at xs f v a e l = rw e (getD-set-same xs v a 0 l)
 
 wears-on : (up : Bool) (label : ℕ) (s : Pass) (ss : List Pass) (m : Marks) (v t l : ℕ) → v < length (m .labels) → v < length (m .lows) → Dec (s .at ≡ v)
-    → Wears up (labelOf up label 0) ss (mark (s .at) (labelOf up label 0) (lowOf up s) m) v t l → Wears up label (s ∷ ss) m v t l
+    → Wears up (ithLabel up label 0) ss (mark (s .at) (ithLabel up label 0) (lowOf up s) m) v t l → Wears up label (s ∷ ss) m v t l
 unfolding mark
-wears-on up label s ss m v t l a b d (given i s′ j e f g) = given (suc i) s′ (later j) e (f ∙ labelOf-suc up label i) g
+wears-on up label s ss m v t l a b d (given i s′ j e f g) = given (suc i) s′ (later j) e (f ∙ ithLabel-suc up label i) g
 wears-on up label s ss m v t l a b (yes e) (kept k f g) =
-    given 0 s here e (f ∙ set-at (m .labels) (s .at) v (labelOf up label 0) e a) (g ∙ set-at (m .lows) (s .at) v (lowOf up s) e b)
+    given 0 s here e (f ∙ set-at (m .labels) (s .at) v (ithLabel up label 0) e a) (g ∙ set-at (m .lows) (s .at) v (lowOf up s) e b)
 wears-on up label s ss m v t l a b (no e) (kept k f g) =
-    kept (no-here s ss v e k) (f ∙ getD-set-other (m .labels) (s .at) v (labelOf up label 0) 0 (λ z. e (sym z))) (g ∙ getD-set-other (m .lows) (s .at) v (lowOf up s) 0 (λ z. e (sym z)))
+    kept (no-here s ss v e k) (f ∙ getD-set-other (m .labels) (s .at) v (ithLabel up label 0) 0 (λ z. e (sym z))) (g ∙ getD-set-other (m .lows) (s .at) v (lowOf up s) 0 (λ z. e (sym z)))
 
 pub wears : (up : Bool) (label : ℕ) (path : List Pass) (m : Marks) (v : ℕ) → v < length (m .labels) → v < length (m .lows)
     → Wears up label path m v (getD ((following up label path m) .labels) v 0) (getD ((following up label path m) .lows) v 0)
@@ -184,8 +184,8 @@ wears false label [] m v a b = kept (no-nil v) refl refl
 wears up label (s ∷ ss) m v a b =
     rw (following-cons up label s ss m)
     (wears-on up label s ss m v _ _ a b (ℕ-discrete (s .at) v)
-    (wears up (labelOf up label 0) ss (mark (s .at) (labelOf up label 0) (lowOf up s) m) v
-    (omega (arith, a, length-set (m .labels) (s .at) (labelOf up label 0))) (omega (arith, b, length-set (m .lows) (s .at) (lowOf up s)))))
+    (wears up (ithLabel up label 0) ss (mark (s .at) (ithLabel up label 0) (lowOf up s) m) v
+    (omega (arith, a, length-set (m .labels) (s .at) (ithLabel up label 0))) (omega (arith, b, length-set (m .lows) (s .at) (lowOf up s)))))
 
 pub record Long (m m′ : Marks) : Type 0 where
   pub labels-long : length (m′ .labels) ≡ length (m .labels)
@@ -196,8 +196,8 @@ unfolding following labelPath mark
 following-long true label [] m = record { labels-long = refl; lows-long = refl }
 following-long false label [] m = record { labels-long = refl; lows-long = refl }
 following-long up label (s ∷ ss) m =
-    let i = following-long up (labelOf up label 0) ss (mark (s .at) (labelOf up label 0) (lowOf up s) m) in
+    let i = following-long up (ithLabel up label 0) ss (mark (s .at) (ithLabel up label 0) (lowOf up s) m) in
     rw (following-cons up label s ss m) (record {
-      labels-long = i .labels-long ∙ length-set (m .labels) (s .at) (labelOf up label 0);
+      labels-long = i .labels-long ∙ length-set (m .labels) (s .at) (ithLabel up label 0);
       lows-long = i .lows-long ∙ length-set (m .lows) (s .at) (lowOf up s);
     })

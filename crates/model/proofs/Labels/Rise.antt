@@ -13,7 +13,7 @@ use Rattle.model.proofs.Walks.Degree.{Proper, degree-snoc, endsAt-le, z
 use Rattle.model.proofs.Walks.Turn.{At, some-edge}
 use Rattle.model.proofs.Walks.Snoc.{far-old}
 use Rattle.model.proofs.Walks.NewEdge.{at-new, old-edge}
-use Rattle.model.proofs.Labels.Following.{following, labelOf, lowOf, Ith, Wears, given, kept, wears}
+use Rattle.model.proofs.Labels.Following.{following, ithLabel, lowOf, Ith, Wears, given, kept, wears}
 use Rattle.model.proofs.Labels.Laid.{Laid, Near, none-near, near}
 use Rattle.model.proofs.Groups.Origins.{labelAt, lowAt}
 use Rattle.model.proofs.Groups.InPath.{InPath, ith-one}
@@ -39,16 +39,16 @@ not-regular : (es : List Edge) (f : ℕ) → degree es f ≢ 2 → isRegular es 
 unfolding isRegular
 not-regular es f n = ne-eqb (degree es f) 2 n
 
-next-in-path : (m : Marks) (up : Bool) (label i v w e : ℕ) (s t : Pass) → labelAt m v ≡ labelOf up label i → lowAt m v ≡ lowOf up s → labelAt m w ≡ labelOf up label (suc i) → lowAt m w ≡ lowOf up t
+next-in-path : (m : Marks) (up : Bool) (label i v w e : ℕ) (s t : Pass) → labelAt m v ≡ ithLabel up label i → lowAt m v ≡ lowOf up s → labelAt m w ≡ ithLabel up label (suc i) → lowAt m w ≡ lowOf up t
     → 1 ≤ labelAt m w → s .before ≢ s .after → t .before ≢ t .after → s .after ≡ e → t .before ≡ e → Rise m v w e
-unfolding labelOf lowOf
+unfolding ithLabel lowOf
 next-in-path m true label i v w e s t tv lv tw lw pos ds dt se te = up-to (λ q. ds (sym lv ∙ q ∙ sym se)) (lw ∙ te) (omega (arith, tv, tw))
 next-in-path m false label i v w e s t tv lv tw lw pos ds dt se te = down-to (lv ∙ se) (λ q. dt (te ∙ sym q ∙ lw)) (omega (arith, tv, tw, pos))
 
 -- the first of the path and its neighbour, whose label it follows
-first-beside : (m : Marks) (up : Bool) (label v w e : ℕ) (s : Pass) → labelAt m v ≡ labelOf up label 0 → lowAt m v ≡ lowOf up s → labelAt m w ≡ label
+first-beside : (m : Marks) (up : Bool) (label v w e : ℕ) (s : Pass) → labelAt m v ≡ ithLabel up label 0 → lowAt m v ≡ lowOf up s → labelAt m w ≡ label
     → ((up ≡ true) × (lowAt m w ≢ e)) ⊎ ((up ≡ false) × (lowAt m w ≡ e)) → 1 ≤ labelAt m v → s .before ≢ s .after → s .before ≡ e → Rise m v w e
-unfolding labelOf lowOf
+unfolding ithLabel lowOf
 first-beside m true label v w e s tv lv tw (inl k) pos ds se = down-to (lv ∙ se) (k .1) (omega (arith, tv, tw))
 first-beside m false label v w e s tv lv tw (inr k) pos ds se = up-to (λ q. ds (se ∙ sym q ∙ lv)) (k .1) (omega (arith, tv, tw, pos))
 first-beside m true label v w e s tv lv tw (inr k) pos ds se = absurd (let z : _≡_ {A = ℕ} 0 1 = let f = k .0 in cc in omega arith)
@@ -96,7 +96,7 @@ module _ (es : List Edge) (p : Edge) (pr : Proper es) (d : p .first ≢ p .secon
     mN = following (la .up) (la .label) path (la .m′)
 
     data After (v : ℕ) : Type 0 where
-      in-path : (i : ℕ) (t : Pass) → Ith t i path → t .at ≡ v → labelAt mN v ≡ labelOf (la .up) (la .label) i → lowAt mN v ≡ lowOf (la .up) t → After v
+      in-path : (i : ℕ) (t : Pass) → Ith t i path → t .at ≡ v → labelAt mN v ≡ ithLabel (la .up) (la .label) i → lowAt mN v ≡ lowOf (la .up) t → After v
       as-was : degree es v ≡ 2 → endsAt v p ≡ 0 → ((i : ℕ) (t : Pass) → Ith t i path → t .at ≢ v) → labelAt mN v ≡ labelAt m v → lowAt mN v ≡ lowAt m v → After v
 
     view : (v e : ℕ) → degree new v ≡ 2 → At new v e → After v
@@ -127,7 +127,7 @@ module _ (es : List Edge) (p : Edge) (pr : Proper es) (d : p .first ≢ p .secon
 
     -- the i-th wears the i-th label
     record Exact (i : ℕ) (t : Pass) (v : ℕ) : Type 0 where
-      label-is : labelAt mN v ≡ labelOf (la .up) (la .label) i
+      label-is : labelAt mN v ≡ ithLabel (la .up) (la .label) i
       low-is : lowAt mN v ≡ lowOf (la .up) t
 
     exact : (i : ℕ) (t : Pass) (v : ℕ) → Ith t i path → t .at ≡ v → Exact i t v
@@ -143,7 +143,7 @@ module _ (es : List Edge) (p : Edge) (pr : Proper es) (d : p .first ≢ p .secon
         go (in-path k o n r f g) =
             let i-is : k ≡ i = at-once new proper-new e-at (la .trail) singular k i o t n j (r ∙ sym q) in
             let t-is : o ≡ t = ith-one n (subst (λ (z : ℕ). Ith t z path) (sym i-is) j) in
-            record { label-is = f ∙ ap (λ (z : ℕ). labelOf (la .up) (la .label) z) i-is; low-is = g ∙ ap (λ (z : Pass). lowOf (la .up) z) t-is }
+            record { label-is = f ∙ ap (λ (z : ℕ). ithLabel (la .up) (la .label) z) i-is; low-is = g ∙ ap (λ (z : Pass). lowOf (la .up) z) t-is }
         go (as-was a b n f g) = absurd (n i t j q)
 
     pos′ : (v : ℕ) → degree new v ≡ 2 → 1 ≤ labelAt mN v

@@ -9,7 +9,7 @@ use lib.ListN.{length, getD, List·getD-eq-default}
 use Rattle.model.specs.Graph.{Edge, Pass, degree, endsAt}
 use Rattle.model.specs.Labels.{Labelling, Marks, relabelCount}
 use Rattle.model.proofs.Walks.Degree.{degree-snoc, endsAt-le, zero-or-one}
-use Rattle.model.proofs.Labels.Following.{following, labelOf, Wears, given, kept, wears, re-path, re-first, following-long}
+use Rattle.model.proofs.Labels.Following.{following, ithLabel, Wears, given, kept, wears, re-path, re-first, following-long}
 use Rattle.model.proofs.Labels.Laid.{Laid}
 use Rattle.model.proofs.Labels.Splits.{Bare}
 use Rattle.model.proofs.Labels.Inwards.{trail-regular}
@@ -44,7 +44,7 @@ module _ (es : List Edge) (p : Edge) (d : p .first ≢ p .second) (blocks : ℕ)
   unfolding following
   moves-extend res x y e s q l =
       let bx : getD (m .labels) (s .at) 0 ≡ 0 = rw q (z x (λ c. omega (arith, l .x-leaf))) in
-      let r = re-first (m .labels) (l .up) (l .label) s [] (l .m′) 0 bx (re-path (m .labels) (l .up) (labelOf (l .up) (l .label) 0) [] _) in
+      let r = re-first (m .labels) (l .up) (l .label) s [] (l .m′) 0 bx (re-path (m .labels) (l .up) (ithLabel (l .up) (l .label) 0) [] _) in
       rw (l .marks-is) (omega (arith, r, l .bare .no-move))
 
   pub moves-merge : (res : Labelling) (x y e : ℕ) (s t : Pass) (ss : List Pass) → s .at ≡ x → t .at ≡ y → degree es y ≡ 1 → Laid es p blocks m res x y e (s ∷ t ∷ ss)
@@ -52,6 +52,6 @@ module _ (es : List Edge) (p : Edge) (d : p .first ≢ p .second) (blocks : ℕ)
   moves-merge res x y e s t ss q r cy l =
       let bx : getD (m .labels) (s .at) 0 ≡ 0 = rw q (z x (λ c. omega (arith, l .x-leaf))) in
       let by : getD (m .labels) (t .at) 0 ≡ 0 = rw r (z y (λ c. omega arith)) in
-      let r₂ = re-first (m .labels) (l .up) (labelOf (l .up) (l .label) 0) t ss _ (length ss) by (re-path (m .labels) (l .up) _ ss _) in
+      let r₂ = re-first (m .labels) (l .up) (ithLabel (l .up) (l .label) 0) t ss _ (length ss) by (re-path (m .labels) (l .up) _ ss _) in
       let r₁ = re-first (m .labels) (l .up) (l .label) s (t ∷ ss) (l .m′) (length ss) bx r₂ in
       rw (l .marks-is) (omega (arith, r₁, l .bare .no-move))

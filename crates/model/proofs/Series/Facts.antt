@@ -18,7 +18,7 @@ use Rattle.model.specs.Computing.{computing}
 use Rattle.model.proofs.Basics.Lists.{length-upTo}
 use Rattle.model.proofs.Walks.Keeps.{Accepted, Added, list-keeps}
 use Rattle.model.proofs.Chains.Sheet.{sheet-leaves}
-use Rattle.model.proofs.Series.Held.{Regrows, is-held, empty-regrows, vertex-regrows, edge-regrows, length-ends, length-lengths, eqList-refl}
+use Rattle.model.proofs.Series.Held.{GrowsAgain, is-held, empty-regrows, vertex-regrows, edge-regrows, length-ends, length-lengths, eqList-refl}
 use Rattle.model.proofs.Series.Labelled.{Labelled, labelled-empty, labelled-vertex, labelled-edge}
 
 -- ---- what every landing keeps, every series keeps
@@ -52,7 +52,7 @@ module _ (P : Register → Type 0) (on-empty : P empty)
 
 pub record Kept (r : Register) : Type 0 where
   pub labelled : Labelled r
-  pub regrows : Regrows r
+  pub regrows : GrowsAgain r
 
 pub kept-empty : Kept empty
 kept-empty = record { labelled = labelled-empty; regrows = empty-regrows }

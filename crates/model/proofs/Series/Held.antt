@@ -31,7 +31,7 @@ onVertices n =
     }
 
 -- growing its own vertices and edges leaves the register again
-pub record Regrows (r : Register) : Type 0 where
+pub record GrowsAgain (r : Register) : Type 0 where
   pub few : r .vertices ≤ maxVertices
   pub again : landEdges (r .edges) (onVertices (r .vertices)) ≡ landed r
 
@@ -237,34 +237,34 @@ pub held-from : (s : Stored) (r : Register) → growFrom (s .counts .vertices) (
 unfolding held
 held-from s r h k = rw (h, held) (rw k)
 
-pub grow-again : (r : Register) → Regrows r
+pub grow-again : (r : Register) → GrowsAgain r
     → growFrom ((storedOf r) .counts .vertices) (edgesIn ((storedOf r) .tables) ((storedOf r) .counts .edges)) ≡ landed r
 unfolding storedOf countsOf
 grow-again r g =
     rw (edges-read r)
     (grown-from (r .vertices) (r .edges) (onVertices (r .vertices)) (landed r) (vertices-grow (r .vertices) (g .few)) (g .again))
 
-pub is-held : (r : Register) → Regrows r → held (storedOf r) ≡ some r
+pub is-held : (r : Register) → GrowsAgain r → held (storedOf r) ≡ some r
 is-held r g = held-from (storedOf r) r (grow-again r g) (eqStored-refl (storedOf r))
 
 -- ---- every landing keeps it
 
-pub empty-regrows : Regrows empty
+pub empty-regrows : GrowsAgain empty
 unfolding empty onVertices landEdges
 empty-regrows = record { few = omega arith; again = refl }
 
-pub vertex-regrows : (r r′ : Register) → Regrows r → Added r r′ → Regrows r′
+pub vertex-regrows : (r r′ : Register) → GrowsAgain r → Added r r′ → GrowsAgain r′
 unfolding withVertex onVertices
 vertex-regrows r r′ g a =
-    subst Regrows (a .result) (record {
+    subst GrowsAgain (a .result) (record {
       few = omega (arith, a .room);
       again = edges-more (r .edges) (onVertices (r .vertices)) r (g .again);
     })
 
-pub edge-regrows : (r : Register) (e : Edge) (r′ : Register) → Regrows r → Accepted r e r′ → Regrows r′
+pub edge-regrows : (r : Register) (e : Edge) (r′ : Register) → GrowsAgain r → Accepted r e r′ → GrowsAgain r′
 unfolding withEdge
 edge-regrows r e r′ g a =
-    subst Regrows (a .result) (record {
+    subst GrowsAgain (a .result) (record {
       few = g .few;
       again = edges-snoc (r .edges) e (onVertices (r .vertices)) r (withEdge r e) (g .again)
           (a .lands ∙ ap {B = Landed} landed (sym (a .result)));

@@ -12,7 +12,7 @@ use Rattle.model.specs.Tables.{landEdges}
 use Rattle.model.specs.Series.{Made, after}
 use Rattle.model.specs.Notions.{Reachable, from-empty, with-edge, with-vertex, history}
 use Rattle.model.proofs.Walks.Keeps.{Accepted, accepted, Added, added, landed-is, list-keeps}
-use Rattle.model.proofs.Series.Held.{Regrows, lands-more, onVertices}
+use Rattle.model.proofs.Series.Held.{GrowsAgain, lands-more, onVertices}
 use Rattle.model.proofs.Series.Told.{Told, told-empty, told-edge, told-vertex, landingOf}
 use Rattle.model.proofs.Series.Facts.{after-keeps}
 use Rattle.model.proofs.Series.Sides.{Full, full-empty, full-vertex, full-edge}
@@ -62,8 +62,8 @@ history-told r (with-edge {r = s} e k h) = told-edge s e r (history k) (history-
 
 pub same-contents : (r s : Register) → Reachable r → Reachable s → r .vertices ≡ s .vertices → r .edges ≡ s .edges → r ≡ s
 same-contents r s k l v e =
-    let g : Regrows r = (full r k) .kept .regrows in
-    let h : Regrows s = (full s l) .kept .regrows in
+    let g : GrowsAgain r = (full r k) .kept .regrows in
+    let h : GrowsAgain s = (full s l) .kept .regrows in
     landed-is r s (sym (g .again) ∙ ap₂ (λ (es : List Edge) (n : ℕ). landEdges es (onVertices n)) e v ∙ h .again)
 
 -- ---- a vertex and an edge land in either order, with the same register
