@@ -1,5 +1,5 @@
 // The wearer of a label, and the name of an edge's chain.
-use crate::numbers::smaller;
+use crate::numbers::lesser;
 use counters::numbers::MAX_VERTICES;
 use tables::access::at16;
 use tables::access::of16;
@@ -58,7 +58,7 @@ fn lowest_onwards(
             break;
         }
         w = step_over(sides, ends, w);
-        lowest = smaller(w.edge, lowest);
+        lowest = lesser(w.edge, lowest);
         left -= 1;
     }
     lowest

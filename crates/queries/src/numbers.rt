@@ -3,13 +3,13 @@ ghost use mathlib.Core.Path.{_≡_};
 ghost use Prim.Native.Nat.{min, max};
 ghost use Rattle.model.specs.Basics.{if_then_else_};
 
-pub fn smaller(m: u16, n: u16) -> u16
+pub fn lesser(m: u16, n: u16) -> u16
     ensures { λ r. ⌜ r ≡ min m n ⌝ }
 {
     if m < n { m } else { n }
 }
 
-pub fn larger(m: u16, n: u16) -> u16
+pub fn greater(m: u16, n: u16) -> u16
     ensures { λ r. ⌜ r ≡ max m n ⌝ }
 {
     if m < n { n } else { m }

@@ -1,8 +1,8 @@
 // Rows of the sheet: of one chain, and of all.
 use crate::names::is_name;
-use crate::numbers::larger;
+use crate::numbers::greater;
+use crate::numbers::lesser;
 use crate::numbers::one_if;
-use crate::numbers::smaller;
 use crate::numbers::wide;
 use crate::walks::walk_chain;
 use tables::access::add32;
@@ -48,8 +48,8 @@ pub fn row_at(
     let own = of32(lengths, edge);
     Row {
         name: wide(edge),
-        low: wide(smaller(a.at, b.at)),
-        high: wide(larger(a.at, b.at)),
+        low: wide(lesser(a.at, b.at)),
+        high: wide(greater(a.at, b.at)),
         inner: wide(a.inner) + wide(b.inner),
         length: add32(a.length, add32(own, b.length)),
     }

@@ -10,13 +10,13 @@ ghost use Rattle.search.specs.Search.{Searchable, Within, Grounded, Rela
 // The answer of a step that lowered nothing: no vertex has this number.
 pub const NONE: u16 = 65535;
 
-fn least(a: u32, b: u32) -> u32
+fn lesser(a: u32, b: u32) -> u32
     ensures { λ r. ⌜ r ≡ min a b ⌝ }
 {
     if a < b { a } else { b }
 }
 
-fn greatest(a: u32, b: u32) -> u32
+fn greater(a: u32, b: u32) -> u32
     ensures { λ r. ⌜ r ≡ max a b ⌝ }
 {
     if a < b { b } else { a }
@@ -38,8 +38,8 @@ pub fn relax(ends: &[u16], lengths: &[u32], distances: &mut [u32], e: u16, best:
     let b = get16(ends, i + 1);
     let da = get32(distances, a);
     let db = get32(distances, b);
-    let sum = least(da, db) + len;
-    if least(best, greatest(da, db)) <= sum {
+    let sum = lesser(da, db) + len;
+    if lesser(best, greater(da, db)) <= sum {
         return NONE;
     }
     if da < db {

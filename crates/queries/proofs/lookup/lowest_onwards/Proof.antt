@@ -8,7 +8,7 @@ use mathlib.Core.Path.{_≡_, refl, sym, _∙_}
 use borrow.Author.Needs.{needs}
 use Rattle.queries.proofs.lookup.lowest_onwards.Statement.{statement}
 use Rattle.queries.proofs.lookup.lowest_onwards.Tie as tie
-use Rattle.queries.proofs.numbers.smaller.Reads as smaller-reads
+use Rattle.queries.proofs.numbers.lesser.Reads as lesser-reads
 use Rattle.tables.proofs.access.of16.Reads as of16-reads
 use Rattle.tables.proofs.walks.step_over.Reads as step-over-reads
 
@@ -27,8 +27,8 @@ of16-requires c κs = search needs
 step-over-requires : tie.Need-step-over-requires Inv-loop μ-loop
 step-over-requires c κs = search needs
 
-smaller-requires : tie.Need-smaller-requires Inv-loop μ-loop
-smaller-requires c κs = search needs
+lesser-requires : tie.Need-lesser-requires Inv-loop μ-loop
+lesser-requires c κs = search needs
 
 sub-left : tie.Need-sub-left Inv-loop μ-loop
 sub-left c = omega arith
@@ -40,7 +40,7 @@ loop-again : tie.Need-loop-again Inv-loop μ-loop
 loop-again c =
     let at-loop-test = c .before .before .before .before in
     let at-loop = at-loop-test .before in
-    λ lengths labels. sym (lowest-step (tables _ _ _ lengths labels) _ _ _ _ _ _ _ (at-loop-test .loop-test .taken) (sym (c .before .before .before .of16 .ensures) ∙ c .before .before .if1 .left) (c .before .step-over .ensures .0) (c .before .step-over .ensures .1) (c .smaller .ensures)) ∙ at-loop .loop .inv lengths labels
+    λ lengths labels. sym (lowest-step (tables _ _ _ lengths labels) _ _ _ _ _ _ _ (at-loop-test .loop-test .taken) (sym (c .before .before .before .of16 .ensures) ∙ c .before .before .if1 .left) (c .before .step-over .ensures .0) (c .before .step-over .ensures .1) (c .lesser .ensures)) ∙ at-loop .loop .inv lengths labels
 
 returns : tie.Need-returns Inv-loop μ-loop
 returns c = λ lengths labels. lowest-none _ _ _ _ _ (c .loop-test .left) ∙ c .before .loop .inv lengths labels
@@ -57,7 +57,7 @@ lowest-onwards-spec =
     loop-holds
     of16-requires
     step-over-requires
-    smaller-requires
+    lesser-requires
     sub-left
     loop-less
     loop-again

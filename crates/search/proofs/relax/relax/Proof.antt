@@ -9,8 +9,8 @@ use Rattle.search.proofs.relax.relax.Tie as tie
 use Rattle.search.proofs.access.get16.Reads as get16-reads
 use Rattle.search.proofs.access.get32.Reads as get32-reads
 use Rattle.search.proofs.access.set32.Reads as set32-reads
-use Rattle.search.proofs.relax.greatest.Reads as greatest-reads
-use Rattle.search.proofs.relax.least.Reads as least-reads
+use Rattle.search.proofs.relax.greater.Reads as greater-reads
+use Rattle.search.proofs.relax.lesser.Reads as lesser-reads
 
 get32-requires : tie.Need-get32-requires
 get32-requires c κs = c .before .before .before .pre .lens-room
@@ -44,8 +44,8 @@ get32-requires-3 c κs =
     let at-pre = c .before .before .before .before .before .before .before .before .before .before in
     rw (c .before .before .before .get162 .ensures) (at-pre .pre .second-room)
 
-least-requires : tie.Need-least-requires
-least-requires c κs = search needs
+lesser-requires : tie.Need-lesser-requires
+lesser-requires c κs = search needs
 
 add-sum : tie.Need-add-sum
 add-sum c =
@@ -53,13 +53,13 @@ add-sum c =
     let at-get32 = at-get16 .before .before in
     let at-pre = at-get32 .before .before .before .before in
     let v : c .before .before .before .get322 .result ≤ unreached = rw (c .before .before .before .get322 .ensures, at-get16 .get16 .ensures) (at-pre .pre .first-distance) in
-    omega (arith, v, c .least .ensures, at-get32 .get32 .ensures, at-pre .pre .short)
+    omega (arith, v, c .lesser .ensures, at-get32 .get32 .ensures, at-pre .pre .short)
 
-greatest-requires : tie.Need-greatest-requires
-greatest-requires c κs = search needs
+greater-requires : tie.Need-greater-requires
+greater-requires c κs = search needs
 
-least-requires-2 : tie.Need-least-requires-2
-least-requires-2 c κs = search needs
+lesser-requires-2 : tie.Need-lesser-requires-2
+lesser-requires-2 c κs = search needs
 
 same-length : tie.Need-same-length
 same-length c = search needs
@@ -72,8 +72,8 @@ returns-2 c =
     let at-get16 = at-get162 .before in
     let at-get32 = at-get16 .before .before in
     let at-args = at-get32 .before .before .before .before in
-    let s : c .before .before .before .least .result + at-get32 .get32 .result ≡ min (at-get322 .get322 .result) (at-get323 .get323 .result) + at-get32 .get32 .result = omega (arith, c .before .before .before .least .ensures) in
-    let x : min (at-args .args .best) (max (at-get322 .get322 .result) (at-get323 .get323 .result)) ≤ c .before .before .before .least .result + at-get32 .get32 .result = omega (arith, c .before .before .greatest .ensures, c .before .least2 .ensures, c .if2 .taken) in
+    let s : c .before .before .before .lesser .result + at-get32 .get32 .result ≡ min (at-get322 .get322 .result) (at-get323 .get323 .result) + at-get32 .get32 .result = omega (arith, c .before .before .before .lesser .ensures) in
+    let x : min (at-args .args .best) (max (at-get322 .get322 .result) (at-get323 .get323 .result)) ≤ c .before .before .before .lesser .result + at-get32 .get32 .result = omega (arith, c .before .before .greater .ensures, c .before .lesser2 .ensures, c .if2 .taken) in
     rests refl refl (still-of _ _ _ _ _ _ _ _ _ _ _ (at-get16 .get16 .ensures) (at-get162 .get162 .ensures) (at-get32 .get32 .ensures) (at-get322 .get322 .ensures) (at-get323 .get323 .ensures) s x)
 
 set32-requires : tie.Need-set32-requires
@@ -89,17 +89,17 @@ returns-3 : tie.Need-returns-3
 returns-3 c =
     let at-if3 = c .before .before .before .before in
     let at-if2 = at-if3 .before in
-    let at-least2 = at-if2 .before in
-    let at-greatest = at-least2 .before in
-    let at-least = at-greatest .before in
-    let at-get323 = at-least .before in
+    let at-lesser2 = at-if2 .before in
+    let at-greater = at-lesser2 .before in
+    let at-lesser = at-greater .before in
+    let at-get323 = at-lesser .before in
     let at-get322 = at-get323 .before .before in
     let at-get162 = at-get322 .before .before in
     let at-get16 = at-get162 .before in
     let at-get32 = at-get16 .before .before in
     let at-args = at-get32 .before .before .before .before in
-    let s : at-least .least .result + at-get32 .get32 .result ≡ min (at-get322 .get322 .result) (at-get323 .get323 .result) + at-get32 .get32 .result = omega (arith, at-least .least .ensures) in
-    let x : at-least .least .result + at-get32 .get32 .result < min (at-args .args .best) (max (at-get322 .get322 .result) (at-get323 .get323 .result)) = omega (arith, at-greatest .greatest .ensures, at-least2 .least2 .ensures, at-if2 .if2 .left) in
+    let s : at-lesser .lesser .result + at-get32 .get32 .result ≡ min (at-get322 .get322 .result) (at-get323 .get323 .result) + at-get32 .get32 .result = omega (arith, at-lesser .lesser .ensures) in
+    let x : at-lesser .lesser .result + at-get32 .get32 .result < min (at-args .args .best) (max (at-get322 .get322 .result) (at-get323 .get323 .result)) = omega (arith, at-greater .greater .ensures, at-lesser2 .lesser2 .ensures, at-if2 .if2 .left) in
     lowered-second _ _ _ _ _ _ _ _ _ _ _ (at-get16 .get16 .ensures) (at-get162 .get162 .ensures) (at-get32 .get32 .ensures) (at-get322 .get322 .ensures) (at-get323 .get323 .ensures) s _ x (at-if3 .if3 .taken) (c .before .before .set32 .ensures)
 
 set32-requires-2 : tie.Need-set32-requires-2
@@ -115,17 +115,17 @@ returns-4 : tie.Need-returns-4
 returns-4 c =
     let at-if3 = c .before .before .before .before in
     let at-if2 = at-if3 .before in
-    let at-least2 = at-if2 .before in
-    let at-greatest = at-least2 .before in
-    let at-least = at-greatest .before in
-    let at-get323 = at-least .before in
+    let at-lesser2 = at-if2 .before in
+    let at-greater = at-lesser2 .before in
+    let at-lesser = at-greater .before in
+    let at-get323 = at-lesser .before in
     let at-get322 = at-get323 .before .before in
     let at-get162 = at-get322 .before .before in
     let at-get16 = at-get162 .before in
     let at-get32 = at-get16 .before .before in
     let at-args = at-get32 .before .before .before .before in
-    let s : at-least .least .result + at-get32 .get32 .result ≡ min (at-get322 .get322 .result) (at-get323 .get323 .result) + at-get32 .get32 .result = omega (arith, at-least .least .ensures) in
-    let x : at-least .least .result + at-get32 .get32 .result < min (at-args .args .best) (max (at-get322 .get322 .result) (at-get323 .get323 .result)) = omega (arith, at-greatest .greatest .ensures, at-least2 .least2 .ensures, at-if2 .if2 .left) in
+    let s : at-lesser .lesser .result + at-get32 .get32 .result ≡ min (at-get322 .get322 .result) (at-get323 .get323 .result) + at-get32 .get32 .result = omega (arith, at-lesser .lesser .ensures) in
+    let x : at-lesser .lesser .result + at-get32 .get32 .result < min (at-args .args .best) (max (at-get322 .get322 .result) (at-get323 .get323 .result)) = omega (arith, at-greater .greater .ensures, at-lesser2 .lesser2 .ensures, at-if2 .if2 .left) in
     lowered-first _ _ _ _ _ _ _ _ _ _ _ (at-get16 .get16 .ensures) (at-get162 .get162 .ensures) (at-get32 .get32 .ensures) (at-get322 .get322 .ensures) (at-get323 .get323 .ensures) s _ x (at-if3 .if3 .left) (c .before .before .set322 .ensures)
 
 pub relax-spec : {M : Type 1} → statement M
@@ -140,10 +140,10 @@ relax-spec =
     get16-requires-2
     get32-requires-2
     get32-requires-3
-    least-requires
+    lesser-requires
     add-sum
-    greatest-requires
-    least-requires-2
+    greater-requires
+    lesser-requires-2
     same-length
     returns-2
     set32-requires
