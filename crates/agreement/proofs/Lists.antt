@@ -5,21 +5,17 @@ use Prim.Native.Nat.{ℕ, zero, suc, _+_, _*_, _<_}
 use native.Mathlib.Omega.{arith}
 use native.Mathlib.Nat.{not-suc-le-zero}
 use mathlib.Core.List.{List, [], _∷_, _++_, map}
-use lib.ListN.{length, getD, set, drop, replicate, length-append, length-set, length-replicate}
+use lib.ListN.{length, getD, set, drop, replicate, length-append, length-map, length-set, length-replicate}
 use lib.Seq.{getD-set-same, getD-set-other, drop-cons, append-snoc, set-append-seam, ext-getD}
 use Rattle.model.specs.Basics.{countFrom, inFront, upTo, maxEdges}
 use Rattle.model.specs.Graph.{Edge}
 use Rattle.model.specs.Register.{Register}
 use Rattle.model.specs.Tables.{edgeLengths, endsOf, highSide, lowSide, padded, sidesOf}
 use Rattle.tables.specs.Steps.{setPair}
+use Rattle.model.proofs.Basics.Lists.{length-upTo}
 use Rattle.model.proofs.Series.Held.{length-ends, length-lengths}
 
 -- ---- a map of 0, 1, ..
-
-length-counted : (g : ℕ → ℕ) (at n : ℕ) → length (map g (countFrom at n)) ≡ n
-unfolding countFrom
-length-counted g at zero = refl
-length-counted g at (suc n) = ap suc (length-counted g (suc at) n)
 
 getD-counted : (g : ℕ → ℕ) (at n i : ℕ) → i < n → getD (map g (countFrom at n)) i 0 ≡ g (at + i)
 unfolding countFrom
@@ -27,9 +23,8 @@ getD-counted g at zero i h = absurd (not-suc-le-zero h)
 getD-counted g at (suc n) zero h = ap g (omega arith)
 getD-counted g at (suc n) (suc i) h = getD-counted g (suc at) n i (omega arith) ∙ ap g (omega arith)
 
-pub length-upTo : (g : ℕ → ℕ) (n : ℕ) → length (map g (upTo n)) ≡ n
-unfolding upTo
-length-upTo g n = length-counted g 0 n
+pub length-mapped : (g : ℕ → ℕ) (n : ℕ) → length (map g (upTo n)) ≡ n
+length-mapped g n = length-map (upTo n) g ∙ length-upTo n
 
 pub getD-upTo : (g : ℕ → ℕ) (n i : ℕ) → i < n → getD (map g (upTo n)) i 0 ≡ g i
 unfolding upTo
@@ -38,7 +33,7 @@ getD-upTo g n i h = getD-counted g 0 n i h ∙ ap g (omega arith)
 -- a list is the map that its elements say
 pub is-map : (g : ℕ → ℕ) (n : ℕ) (xs : List ℕ) → length xs ≡ n → ((i : ℕ) → i < n → getD xs i 0 ≡ g i) → xs ≡ map g (upTo n)
 is-map g n xs e h =
-    ext-getD 0 xs (map g (upTo n)) (e ∙ sym (length-upTo g n)) (λ i b. h i (omega arith) ∙ sym (getD-upTo g n i (omega arith)))
+    ext-getD 0 xs (map g (upTo n)) (e ∙ sym (length-mapped g n)) (λ i b. h i (omega arith) ∙ sym (getD-upTo g n i (omega arith)))
 
 -- ---- tables of pairs
 

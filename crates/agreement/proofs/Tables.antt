@@ -17,7 +17,7 @@ use Rattle.model.proofs.Walks.Counting.{same-eq, same-most, same-ne}
 use Rattle.model.proofs.Walks.Degree.{Proper, degree-snoc, endsAt-le}
 use Rattle.model.proofs.Walks.Turn.{At}
 use Rattle.model.proofs.Series.Held.{edge-read}
-use Rattle.agreement.proofs.Lists.{PairAt, by-pairs, getD-upTo, is-map, length-sidesOf, length-upTo, sidesOf-read}
+use Rattle.agreement.proofs.Lists.{PairAt, by-pairs, getD-upTo, is-map, length-mapped, length-sidesOf, sidesOf-read}
 use Rattle.agreement.proofs.Linked.{Linked, far-agrees}
 use Rattle.agreement.proofs.Lockstep.{Shows}
 
@@ -89,7 +89,7 @@ degrees-are r degrees l h = is-map (λ w. degree (r .edges) w) maxVertices degre
 
 pub degrees-long : (r : Register) → length ((tablesOf r) .degrees) ≡ maxVertices
 unfolding tablesOf
-degrees-long r = length-upTo (λ w. degree (r .edges) w) maxVertices
+degrees-long r = length-mapped (λ w. degree (r .edges) w) maxVertices
 
 degree-most : (es : List Edge) (v : ℕ) → Proper es → degree es v ≤ length es
 unfolding degree

@@ -1,21 +1,15 @@
 -- The ways out of a measurement, and that it agrees with the register whose tables are lent.
-use mathlib.Core.Path.{_≡_, refl, ap, _∙_}
+use mathlib.Core.Path.{_≡_, ap, _∙_}
 use Prim.Native.Nat.{ℕ, _≤_, _<_}
-use mathlib.Core.Bool.{Bool, true, false, _&&_}
+use mathlib.Core.Bool.{and-false}
 use borrow.Author.Tests.{lt-ltb, le-ltb}
 use lib.Dec.{ltb}
-use lib.ListN.{length}
 use Rattle.model.specs.Distance.{Distance, distance}
 use Rattle.model.specs.Queries.{Reply, measure, measured, refuses}
 use Rattle.model.specs.Register.{Register}
-use Rattle.model.specs.Notions.{Reachable}
 use Rattle.model.specs.Tables.{Tables, Counts, countsOf, edgesIn, tablesOf}
 use Rattle.model.proofs.Series.Held.{edges-read}
 use Rattle.distance.specs.Measure.{measureIn}
-
-and-false : (b : Bool) → (b && false) ≡ false
-and-false true = refl
-and-false false = refl
 
 module _ (t : Tables) (c : Counts) (v w : ℕ) where
   pub measure-first : c .vertices ≤ v → refuses 5 ≡ measureIn t c v w

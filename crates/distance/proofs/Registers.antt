@@ -1,18 +1,18 @@
 -- The tables of a register that landing leaves can be searched, and their edges are the register's. A caller that has passed its replay
 -- has such a register: its tables and its counts are those that are lent.
-use mathlib.Core.Path.{_≡_, ap, _∙_}
+use mathlib.Core.Path.{_≡_, ap}
 use Prim.Native.Nat.{ℕ, _+_, _*_, _≤_, _<_}
 use native.Mathlib.Omega.{arith}
 use mathlib.Core.List.{List}
 use lib.ListN.{length, getD, drop, replicate, length-append}
-use Rattle.model.specs.Basics.{inFront, maxVertices, maxEdges, maxLength}
+use Rattle.model.specs.Basics.{inFront, maxEdges}
 use Rattle.model.specs.Graph.{Edge, edgeAt}
 use Rattle.model.specs.Register.{Register}
 use Rattle.model.specs.Notions.{Reachable}
 use Rattle.model.specs.Tables.{Tables, edgeIn, edgesIn, edgeLengths, endsOf, padded, tablesOf}
 use Rattle.model.proofs.Series.Held.{edge-read, edges-read, length-ends, length-lengths}
 use Rattle.model.proofs.Series.Labelled.{Labelled}
-use Rattle.model.proofs.Series.Lawful.{Lawful, edges-lawful}
+use Rattle.model.proofs.Series.Lawful.{edges-lawful}
 use Rattle.model.proofs.Series.Reachable.{full}
 use Rattle.search.specs.Search.{Searchable}
 

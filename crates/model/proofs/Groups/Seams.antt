@@ -66,14 +66,19 @@ module _ (es : List Edge) (p : Edge) (pr : Proper es) (relabellings : ℕ) (h : 
         pays-open = λ t. rw (z₁, z₂, c₁, c₂) (omega arith);
       }
 
+  -- a leaf has one edge, whose group is open
+  leaf-edge : (x e : ℕ) → degree es x ≡ 1 → At es x e → (c : ℕ) → At es x c → c ≡ e
+  leaf-edge x e f a c b = let o : OneEdge es x = one-edge es x pr f in o .only c b ∙ sym (o .only e a)
+
+  leaf-cost : (x e : ℕ) → degree es x ≡ 1 → At es x e
+      → h .spent (h .group e) + size h (length es) (h .group e) ≤ size h (length es) (h .group e) * floorLog (size h (length es) (h .group e)) + 1
+  leaf-cost x e f a = w .cost-open (h .group e) (w .leaf-open x e f a)
+
   -- x is a leaf and stands at the high end of its group
   module _ (x y e : ℕ) (ex : endsAt x p ≡ 1) (ey : endsAt y p ≡ 1) (d : x ≢ y) (fx : degree es x ≡ 1) (a : At es x e)
       (hi : far es e (h .low e) ≡ x) (top : suc (h .place e) ≡ size h (length es) (h .group e)) where
-    only-x : (c : ℕ) → At es x c → c ≡ e
-    only-x c b = let o : OneEdge es x = one-edge es x pr fx in o .only c b ∙ sym (o .only e a)
-
     x-one : (c : ℕ) → degree es x ≡ 1 → At es x c → (h .group c ≡ h .group e) × (far es c (h .low c) ≡ x) × (suc (h .place c) ≡ size h (length es) (h .group e))
-    x-one c q b = rw (only-x c b) (refl, hi, top)
+    x-one c q b = rw (leaf-edge x e fx a c b) (refl, hi, top)
 
     x-seam : (c : ℕ) → c < length es → h .group c ≡ h .group e → suc (h .place c) ≡ size h (length es) (h .group e) → endsAt (far es c (h .low c)) p ≡ 1
     x-seam c i q t =
@@ -83,16 +88,13 @@ module _ (es : List Edge) (p : Edge) (pr : Proper es) (relabellings : ℕ) (h : 
     gsize : 1 ≤ size h (length es) (h .group e)
     gsize = omega (arith, top)
 
-    gcost : h .spent (h .group e) + size h (length es) (h .group e) ≤ size h (length es) (h .group e) * floorLog (size h (length es) (h .group e)) + 1
-    gcost = w .cost-open (h .group e) (w .leaf-open x e fx a)
-
     pub seam-extend : degree es y ≢ 1 → Seam es p h (h .group e) (length es) x y 0 true
     seam-extend ny =
         let n = length es in
         let z = size-fresh w n (omega arith) in
         let c = spent-fresh w n (omega arith) in
         let m : h .spent (h .group e) + (size h n (h .group e) + 1) ≤ (size h n (h .group e) + 1) * floorLog (size h n (h .group e) + 1) + 1 =
-        grow-one (size h n (h .group e)) (h .spent (h .group e)) gsize gcost in
+        grow-one (size h n (h .group e)) (h .spent (h .group e)) gsize (leaf-cost x e fx a) in
         let sz : size h n (h .group e) + size h n n + 1 ≡ size h n (h .group e) + 1 = omega arith in
         record {
           differ = λ q. omega (arith, w .below e (a .inside));
@@ -117,22 +119,16 @@ module _ (es : List Edge) (p : Edge) (pr : Proper es) (relabellings : ℕ) (h : 
 
     -- y is a leaf and stands at the low end of its group
     module _ (c : ℕ) (fy : degree es y ≡ 1) (a′ : At es y c) (lo : h .low c ≡ y) (bot : h .place c ≡ 0) where
-      only-y : (b : ℕ) → At es y b → b ≡ c
-      only-y b q = let o : OneEdge es y = one-edge es y pr fy in o .only b q ∙ sym (o .only c a′)
-
       y-seam : (b : ℕ) → b < length es → h .group b ≡ h .group c → h .place b ≡ 0 → endsAt (h .low b) p ≡ 1
       y-seam b i q t =
           let z : b ≡ c = w .apart b c i (a′ .inside) q (omega (arith, t, bot)) in
           rw (z, lo) ey
 
-      ycost : h .spent (h .group c) + size h (length es) (h .group c) ≤ size h (length es) (h .group c) * floorLog (size h (length es) (h .group c)) + 1
-      ycost = w .cost-open (h .group c) (w .leaf-open y c fy a′)
-
       pub seam-merge : (k : ℕ) → h .group e ≢ h .group c → k < size h (length es) (h .group e) → k < size h (length es) (h .group c)
           → Seam es p h (h .group e) (h .group c) x y k true
       seam-merge k ne k₁ k₂ =
           let n = length es in
-          let m = grow-two (size h n (h .group e)) (size h n (h .group c)) (h .spent (h .group e)) (h .spent (h .group c)) k k₁ k₂ gcost ycost in
+          let m = grow-two (size h n (h .group e)) (size h n (h .group c)) (h .spent (h .group e)) (h .spent (h .group c)) k k₁ k₂ (leaf-cost x e fx a) (leaf-cost y c fy a′) in
           record {
             differ = ne;
             gx-in = omega (arith, w .below e (a .inside));
@@ -145,8 +141,8 @@ module _ (es : List Edge) (p : Edge) (pr : Proper es) (relabellings : ℕ) (h : 
             x-zero = λ q. absurd (omega arith);
             y-zero = λ q. absurd (omega arith);
             x-one = x-one;
-            y-one = λ b t q r. rw (only-y b r) (refl, lo, bot);
-            y-in = λ b q r. rw (only-y b r) (inr refl);
+            y-one = λ b t q r. rw (leaf-edge y c fy a′ b r) (refl, lo, bot);
+            y-in = λ b q r. rw (leaf-edge y c fy a′ b r) (inr refl);
             x-seam = x-seam;
             y-seam = y-seam;
             shut = inl refl;
@@ -160,7 +156,7 @@ module _ (es : List Edge) (p : Edge) (pr : Proper es) (relabellings : ℕ) (h : 
           let z = size-fresh w n (omega arith) in
           let f = spent-fresh w n (omega arith) in
           let m : h .spent (h .group e) + k ≤ (size h n (h .group e) + 1) * floorLog (size h n (h .group e) + 1) =
-          grow-shut (size h n (h .group e)) (h .spent (h .group e)) k k₁ gcost in
+          grow-shut (size h n (h .group e)) (h .spent (h .group e)) k k₁ (leaf-cost x e fx a) in
           let sz : size h n (h .group e) + size h n n + 1 ≡ size h n (h .group e) + 1 = omega arith in
           record {
             differ = λ q. omega (arith, w .below e (a .inside));
@@ -175,7 +171,7 @@ module _ (es : List Edge) (p : Edge) (pr : Proper es) (relabellings : ℕ) (h : 
             y-zero = λ q. absurd (omega arith);
             x-one = x-one;
             y-one = λ b t q r. absurd (let zz : _≡_ {A = ℕ} 0 1 = cc in omega arith);
-            y-in = λ b q r. rw (only-y b r) (inl eq);
+            y-in = λ b q r. rw (leaf-edge y c fy a′ b r) (inl eq);
             x-seam = x-seam;
             y-seam = λ b i q t. absurd (group-fresh w n (omega arith) b i q);
             shut = inr (λ b i q t. y-seam b i (q ∙ sym eq) t);

@@ -6,9 +6,9 @@ use Rattle.model.specs.Queries.{concat}
 use Rattle.model.specs.Basics.{inFront, upTo}
 use lib.ListN.{length}
 use native.Mathlib.Omega.{arith}
-use Prim.Native.Nat.{ℕ, _-_, _≤_, _<_}
+use Prim.Native.Nat.{ℕ, _-_, _≤_}
 use mathlib.Core.List.{List, []}
-use mathlib.Core.Path.{_≡_, refl, ap, sym, _∙_}
+use mathlib.Core.Path.{_≡_, refl, ap, sym}
 use borrow.Author.Needs.{needs}
 use Rattle.queries.proofs.rows.put_rows.Statement.{statement}
 use Rattle.queries.proofs.rows.put_rows.Tie as tie
