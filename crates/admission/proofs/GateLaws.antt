@@ -10,7 +10,7 @@ use Rattle.model.specs.Calls.{Call, Lent, admits, allFit, bars, gate, registerF
 use Rattle.model.proofs.Basics.Booleans.{not-both}
 use Rattle.tables.specs.Steps.{zeroed}
 use Rattle.agreement.proofs.Calls.{zeroed-cleared}
-use Rattle.register.specs.Meaning.{lent}
+use Rattle.admission.specs.Lent.{lent}
 use Rattle.holding.specs.Replay.{Regrows}
 use Rattle.holding.proofs.Held.{replay-held, replay-none, stored}
 use Rattle.admission.specs.Gate.{barred}

@@ -12,7 +12,7 @@ use Rattle.model.specs.Calls.{Call, Outcome, grows, lands, admits, allFit, gate
 use Rattle.model.proofs.Series.OnlyHeld.{only-held}
 use Rattle.agreement.proofs.Calls.{all-fit, zeroed-cleared, sizes-refused}
 use Rattle.register.specs.Listing.{ReadIn, landListIn}
-use Rattle.register.specs.Meaning.{lent}
+use Rattle.admission.specs.Lent.{lent}
 use Rattle.register.proofs.Listing.{readIn, list-agrees}
 use Rattle.register.proofs.Grown.{list-leaves}
 use Rattle.admission.specs.Gate.{barred, zeroedIf}

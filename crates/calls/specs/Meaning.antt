@@ -4,7 +4,7 @@ use Rattle.model.specs.Tables.{Tables, Counts}
 use Rattle.model.specs.Calls.{Outcome}
 use Rattle.counters.specs.Answers.{listReply}
 use Rattle.counters.specs.declared.answers.ListAnswer.{ListAnswer}
-use Rattle.register.specs.Meaning.{lent}
+use Rattle.admission.specs.Lent.{lent}
 
 -- the tables, the counts and the scratch that are left, and the answer; there is no slice
 abbrev pub outcome : Tables → Counts → Tables → ListAnswer → Outcome

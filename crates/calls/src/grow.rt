@@ -9,10 +9,11 @@ ghost use mathlib.Core.Path.{_≡_};
 ghost use Rattle.model.specs.Calls.{grows, step};
 ghost use Rattle.counters.specs.Answers.{countsIn};
 ghost use Rattle.tables.specs.Steps.{tables};
-ghost use Rattle.register.specs.Meaning.{lent};
+ghost use Rattle.admission.specs.Lent.{lent};
 ghost use Rattle.calls.specs.Meaning.{outcome};
 
-// The counts go in and come back by value.
+// The counts go in and come back by value: `grow` takes its counts apart for it, and its proof cites this contract. `grow_from` promises
+// the same and goes through `grow`.
 pub fn grow_with(
     counts: Counts,
     degrees: &mut [u16],
@@ -93,7 +94,8 @@ pub fn grow(
     r.answer
 }
 
-// Plain parameters, for callers that have the counts by value: the caller's copy is a local here.
+// For callers that have the counts by value and want the public call: the caller's copy is a local here. `grow_with` promises the same,
+// but is what `grow` stands on.
 pub fn grow_from(
     c: Counts,
     degrees: &mut [u16],

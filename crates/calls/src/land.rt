@@ -9,10 +9,10 @@ ghost use mathlib.Core.Path.{_≡_};
 ghost use Rattle.model.specs.Calls.{lands, step};
 ghost use Rattle.counters.specs.Answers.{countsIn};
 ghost use Rattle.tables.specs.Steps.{tables};
-ghost use Rattle.register.specs.Meaning.{lent};
+ghost use Rattle.admission.specs.Lent.{lent};
 ghost use Rattle.calls.specs.Meaning.{outcome};
 
-// The counts go in and come back by value.
+// The counts go in and come back by value: `land` takes its counts apart for it, and its proof cites this contract.
 pub fn land_with(
     counts: Counts,
     degrees: &mut [u16],
@@ -55,7 +55,7 @@ pub fn land_with(
     }
 }
 
-// What outsiders call: the head counters are updated in the caller's copy. Covered code calls `land_with`.
+// What outsiders call: the head counters are updated in the caller's copy.
 pub fn land(
     counts: &mut Counts,
     degrees: &mut [u16],

@@ -15,7 +15,7 @@ use Rattle.model.specs.Calls.{Lent, allFit, answers, effect, measures, register
 use Rattle.model.proofs.Series.OnlyHeld.{only-held}
 use Rattle.model.proofs.Series.Reachable.{full}
 use Rattle.tables.specs.Steps.{tables, zeroed}
-use Rattle.register.specs.Meaning.{lent}
+use Rattle.admission.specs.Lent.{lent}
 use Rattle.lookups.specs.Meaning.{answered}
 use Rattle.admission.specs.Gate.{barred}
 use Rattle.lookups.proofs.QueryLaws.{Answers, query-answered}

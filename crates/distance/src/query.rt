@@ -11,7 +11,7 @@ ghost use mathlib.Core.List.{[]};
 ghost use Rattle.model.specs.Calls.{measures, step};
 ghost use Rattle.counters.specs.Answers.{countsIn};
 ghost use Rattle.tables.specs.Steps.{tables};
-ghost use Rattle.register.specs.Meaning.{lent};
+ghost use Rattle.admission.specs.Lent.{lent};
 ghost use Rattle.lookups.specs.Meaning.{answered};
 ghost use Rattle.distance.specs.Measure.{distanceReply};
 

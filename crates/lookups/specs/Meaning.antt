@@ -5,16 +5,16 @@ use Rattle.model.specs.Queries.{Reply, found, reached, listed, refuses}
 use Rattle.model.specs.Tables.{Tables, Counts}
 use Rattle.model.specs.Calls.{Outcome}
 use Rattle.counters.specs.Refusals.{numberOf}
-use Rattle.register.specs.Meaning.{lent}
-use Rattle.lookups.specs.declared.find.Found.{Found}
-use Rattle.lookups.specs.declared.find.Found.the-variants as find
+use Rattle.admission.specs.Lent.{lent}
+use Rattle.lookups.specs.declared.find.FoundChain.{FoundChain}
+use Rattle.lookups.specs.declared.find.FoundChain.the-variants as find
 use Rattle.lookups.specs.declared.reach.Reached.{Reached}
 use Rattle.lookups.specs.declared.reach.Reached.the-variants as reach
 use Rattle.lookups.specs.declared.sheet.Listed.{Listed}
 use Rattle.lookups.specs.declared.sheet.Listed.the-variants as sheet
 
 -- the name of a chain
-abbrev pub foundReply : Found → Reply
+abbrev pub foundReply : FoundChain → Reply
 foundReply (find.Chain name) = found name
 foundReply (find.Refused x) = refuses (numberOf x)
 

@@ -4,7 +4,7 @@ use admission::gate::pass_gate;
 use counters::counts::Counts;
 use counters::numbers::Label;
 use counters::refusals::Refusal;
-use queries::lookup::Found as Wearer;
+use queries::lookup::Found;
 use queries::lookup::find_wearer;
 use queries::lookup::name_of;
 use tables::steps::low_edge;
@@ -17,11 +17,11 @@ ghost use Rattle.model.specs.Calls.{finds, step};
 ghost use Rattle.counters.specs.Answers.{countsIn};
 ghost use Rattle.tables.specs.Steps.{tables};
 ghost use Rattle.queries.specs.Chains.{findIn};
-ghost use Rattle.register.specs.Meaning.{lent};
+ghost use Rattle.admission.specs.Lent.{lent};
 ghost use Rattle.lookups.specs.Meaning.{answered, foundReply};
 
 // The name of a chain, which is the lowest number of an edge there.
-pub enum Found {
+pub enum FoundChain {
     Chain(u16),
     Refused(Refusal),
 }
@@ -34,23 +34,23 @@ pub fn find_in(
     labels: &[u32],
     counts: Counts,
     label: Label,
-) -> Found
+) -> FoundChain
     ensures { λ r. ⌜ ((lengths : List ℕ) → foundReply r
         ≡ findIn (tables (now (degrees .entry)) (now (sides .entry)) (now (ends .entry)) lengths (take maxVertices (now (labels .entry))))
         (countsIn counts) (label .0)) ⌝ }
 {
     let x = label.0;
     if x == 0 {
-        return Found::Refused(Refusal::NotRegular);
+        return FoundChain::Refused(Refusal::NotRegular);
     }
     let wearer = find_wearer(labels, x);
     match wearer {
-        Wearer::At(v) => {
+        Found::At(v) => {
             let edge = low_edge(sides, v);
             let name = name_of(degrees, sides, ends, edge, counts.edges);
-            Found::Chain(name)
+            FoundChain::Chain(name)
         }
-        Wearer::Nothing => Found::Refused(Refusal::NotRegular),
+        Found::Nothing => FoundChain::Refused(Refusal::NotRegular),
     }
 }
 
@@ -67,7 +67,7 @@ pub fn find(
     slengths: &mut [u32],
     slabels: &mut [u32],
     label: Label,
-) -> Found
+) -> FoundChain
     ensures { λ r. ⌜ answered
         (tables (now (degrees .entry)) (now (sides .entry)) (now (ends .entry)) (now (lengths .entry)) (now (labels .entry)))
         (countsIn counts)
@@ -93,6 +93,6 @@ pub fn find(
     );
     match passed {
         Gate::Open => find_in(degrees, sides, ends, labels, counts, label),
-        Gate::Refused(refusal) => Found::Refused(refusal),
+        Gate::Refused(refusal) => FoundChain::Refused(refusal),
     }
 }

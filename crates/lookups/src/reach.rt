@@ -17,7 +17,7 @@ ghost use Rattle.model.specs.Calls.{reaches, step};
 ghost use Rattle.counters.specs.Answers.{countsIn};
 ghost use Rattle.tables.specs.Steps.{tables};
 ghost use Rattle.queries.specs.Chains.{lengthToIn, reachIn};
-ghost use Rattle.register.specs.Meaning.{lent};
+ghost use Rattle.admission.specs.Lent.{lent};
 ghost use Rattle.lookups.specs.Meaning.{answered, reachedReply};
 
 // The lengths in millimetres: to the low end first, then to the high end.

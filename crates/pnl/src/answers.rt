@@ -1,7 +1,7 @@
 // What a call from C answers: 32-bit numbers in the answer slice and the count of their bytes, or a refusal's number made negative.
 use counters::refusals::Refusal;
 use distance::measure::Distance;
-use lookups::find::Found;
+use lookups::find::FoundChain;
 use lookups::reach::Reached;
 use queries::numbers::wide;
 use tables::access::at32;
@@ -74,12 +74,12 @@ pub fn answer_numbers(answer: &mut [u8], numbers: &[u32]) -> i32
     counted(size)
 }
 
-pub fn answer_found(answer: &mut [u8], found: Found) -> i32
+pub fn answer_found(answer: &mut [u8], found: FoundChain) -> i32
     ensures { λ r. ⌜ ((register : Register) → returned (now (answer .exit)) r ≡ returnsReply register (now (answer .entry)) (foundReply found)) ⌝ }
 {
     match found {
-        Found::Chain(name) => answer_numbers(answer, &[wide(name)]),
-        Found::Refused(refusal) => refused(refusal),
+        FoundChain::Chain(name) => answer_numbers(answer, &[wide(name)]),
+        FoundChain::Refused(refusal) => refused(refusal),
     }
 }
 

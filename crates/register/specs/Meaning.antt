@@ -1,6 +1,5 @@
 -- What the enums and structs of this crate mean.
-use Rattle.model.specs.Tables.{Tables, Counts}
-use Rattle.model.specs.Calls.{Lent}
+use Rattle.model.specs.Tables.{Tables}
 use Rattle.counters.specs.Refusals.{numberOf}
 use Rattle.counters.specs.Answers.{countsIn, listReply}
 use Rattle.register.specs.Listing.{StepIn, ended, wentOn, stoppedIn, ReadIn}
@@ -15,7 +14,3 @@ stepMeans (step.Refused x) = stoppedIn (numberOf x)
 
 abbrev pub landingMeans : Tables → Landing → ReadIn
 landingMeans t l = record { tables = t; counts = countsIn (l .counts); reply = listReply (l .answer) }
-
--- what a call is lent: tables, counts, scratch
-abbrev pub lent : Tables → Counts → Tables → Lent
-lent t c s = record { stored = record { tables = t; counts = c }; scratch = s }

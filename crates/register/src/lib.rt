@@ -1,2 +1,2 @@
-// A list landed on lent tables, record by record.
+// Landing a list; records.rt has the functions.
 pub mod records;

@@ -21,7 +21,7 @@ use Rattle.counters.specs.declared.counts.Counts.{Counts}
 use Rattle.counters.specs.declared.answers.ListAnswer.{ListAnswer}
 use Rattle.counters.specs.Answers.{countsIn}
 use Rattle.tables.specs.Steps.{tables}
-use Rattle.register.specs.Meaning.{lent}
+use Rattle.admission.specs.Lent.{lent}
 use Rattle.calls.specs.Meaning.{outcome}
 use Rattle.calls.proofs.grow.grow as grow
 use Rattle.calls.proofs.land.land as land
