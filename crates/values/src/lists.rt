@@ -1,7 +1,5 @@
 // Lists written byte by byte. Each function answers the next position.
 use text::put_byte;
-ghost use Prim.Native.Nat.{_≤_};
-ghost use lib.ListN.{length};
 
 fn put_u16(out: &mut [u8], at: usize, n: u16) -> usize {
     let high = put_byte(out, at, (n % 256) as u8);
@@ -32,7 +30,7 @@ pub fn put_edge(out: &mut [u8], at: usize, first: u16, second: u16, length: u16)
 }
 
 // The pipes 0-1, 1-2, .. of a line of n fittings.
-pub fn put_chain(out: &mut [u8], at: usize, n: u16) -> usize {
+pub fn put_edges(out: &mut [u8], at: usize, n: u16) -> usize {
     let mut next = at;
     let mut v: u16 = 0;
     let mut left = n;

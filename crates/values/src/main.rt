@@ -5,9 +5,8 @@ mod lists;
 use calls::grow::grow_from;
 use counters::answers::ListAnswer;
 use counters::counts::Counts;
-use counters::refusals::Refusal;
-use lists::put_chain;
 use lists::put_edge;
+use lists::put_edges;
 use lists::put_start;
 use text::lines::put_line4;
 use text::put_byte;
@@ -88,7 +87,7 @@ fn main() {
     at = put_result(&mut out, at, &list, over);
 
     // 4,096 pipes land: a line over most fittings, and four pipes between the last three.
-    let line = put_chain(&mut list, full, 4093);
+    let line = put_edges(&mut list, full, 4093);
     let first = put_edge(&mut list, line, 4093, 4094, 1);
     let second = put_edge(&mut list, first, 4094, 4095, 1);
     let third = put_edge(&mut list, second, 4093, 4094, 1);

@@ -3,8 +3,8 @@ use native.Mathlib.Omega.{arith}
 use lib.ListN.{length}
 use Prim.Native.Nat.{_+_, _≤_}
 use mathlib.Core.Path.{_≡_, refl}
-use Rattle.values.proofs.lists.put_chain.Statement.{statement}
-use Rattle.values.proofs.lists.put_chain.Tie as tie
+use Rattle.values.proofs.lists.put_edges.Statement.{statement}
+use Rattle.values.proofs.lists.put_edges.Tie as tie
 use Rattle.values.proofs.lists.put_edge.Reads as put-edge-reads
 
 abbrev Inv-loop : tie.InvT-loop
@@ -44,8 +44,8 @@ same-length c = c .before .loop .inv .0
 returns : tie.Need-returns Inv-loop μ-loop
 returns c = search needs
 
-pub put-chain-spec : {M : Type 1} → statement M
-put-chain-spec =
+pub put-edges-spec : {M : Type 1} → statement M
+put-edges-spec =
     tie.close
     (tie.spec
     Inv-loop
