@@ -9,6 +9,7 @@ ghost use Prim.Native.Nat.{_≤_, _<_};
 ghost use lib.ListN.{length};
 ghost use Rattle.model.specs.Basics.{maxVertices};
 ghost use Rattle.search.specs.Search.{Searchable, Settled};
+ghost use Rattle.confirming.specs.Rounds.{FirstRound};
 
 // How many distances the first confirming round lowers. With 0 the search had settled them.
 #[no_mangle]
@@ -25,7 +26,8 @@ pub extern "C" fn confirming_changes(
     keys: &mut [u32],
 ) -> u16
     requires { ⌜ Searchable (now ends) (now lengths) edges × ((from < maxVertices) × ((to < maxVertices) × (maxVertices ≤ length (now distances)))) ⌝ }
-    ensures { λ r. ⌜ (r ≡ 0 → Settled (now (ends .entry)) (now (lengths .entry)) edges to from (now (distances .exit))) ⌝ }
+    ensures { λ r. ⌜ FirstRound (now (ends .entry)) (now (lengths .entry)) edges to from (now (distances .exit)) r
+        × (r ≡ 0 → Settled (now (ends .entry)) (now (lengths .entry)) edges to from (now (distances .exit))) ⌝ }
 {
     start(distances, to);
     dijkstra(

@@ -1,10 +1,10 @@
+use Rattle.confirming.proofs.FirstRounds.{first-round}
 use Rattle.search.proofs.Rounds.{round-settled}
 use Rattle.search.proofs.Answers.{started}
 use Rattle.model.specs.Basics.{maxVertices}
 use native.Mathlib.Omega.{arith}
 use lib.ListN.{length}
-use Prim.Native.Nat.{_≤_, _<_}
-use mathlib.Core.Path.{_≡_, refl, _∙_}
+use Prim.Native.Nat.{_≤_}
 use borrow.Author.Needs.{needs}
 use Rattle.confirming.proofs.confirming_changes.Statement.{statement}
 use Rattle.confirming.proofs.confirming_changes.Tie as tie
@@ -54,7 +54,10 @@ returns c =
     let at-of32 = c .before .before .before .before in
     let at-dijkstra = at-of32 .before .before .before .before .before .before .before .before .before .before .before .before in
     let at-pre = at-dijkstra .before .before .before .before .before .before .before .before .before .before .before .before .before .before .before .before .before in
-    λ z. round-settled _ _ _ _ (at-pre .pre .0) _ (at-dijkstra .dijkstra .last .1 .1 .1 .1 .1 .1 .0) _ _ _ (at-of32 .of32 .ensures) z (c .before .before .relax-all .ensures)
+    let round = c .before .before .relax-all .ensures in (
+      first-round _ _ _ _ _ (at-dijkstra .dijkstra .last .1 .1 .1 .1 .1 .1 .0) _ _ _ (at-dijkstra .dijkstra .ensures) (at-of32 .of32 .ensures) round,
+      λ z. round-settled _ _ _ _ (at-pre .pre .0) _ (at-dijkstra .dijkstra .last .1 .1 .1 .1 .1 .1 .0) _ _ _ (at-of32 .of32 .ensures) z round,
+    )
 
 pub confirming-changes-spec : {M : Type 1} → statement M
 confirming-changes-spec =
