@@ -1,19 +1,16 @@
 -- The rows of the sheet as bytes, one after the other.
-use mathlib.Core.Path.{_≡_, refl}
-use Prim.Native.Nat.{ℕ, zero, suc, _+_, _-_, _*_, _≤_, _<_}
+use mathlib.Core.Path.{_≡_, refl, ap, _∙_}
+use Prim.Native.Nat.{ℕ, _*_}
 use native.Mathlib.Omega.{arith}
-use native.Mathlib.Nat.{not-suc-le-zero}
-use native.Mathlib.Numerals.{add-one, sub-one}
 use mathlib.Core.Bool.{Bool, true, false}
 use mathlib.Core.List.{List, [], _∷_, _++_, append-nil}
 use lib.ListN.{length}
-use Rattle.model.specs.Basics.{countFrom}
 use Rattle.model.specs.FromC.{bytesOf}
 use Rattle.model.specs.Queries.{concat}
 use Rattle.model.specs.Tables.{Tables}
 use Rattle.queries.specs.Chains.{isNameIn, rowIn, rowsIn}
 use Rattle.text.specs.Pages.{Page, write}
-use Rattle.text.proofs.Writing.{write-append}
+use Rattle.text.proofs.Pieces.{Pieces}
 use Rattle.pnl.proofs.Bytes.{bytesOf-append}
 
 module _ (t : Tables) (n : ℕ) where
@@ -33,6 +30,17 @@ module _ (t : Tables) (n : ℕ) where
       go : (b : Bool) → isNameIn t n e ≡ b → concat (rowsIn t n (e ∷ es)) ≡ concat (rowsIn t n (e ∷ [])) ++ concat (rowsIn t n es)
       go true q = rw (rows-yes e es q, rows-yes e [] q, append-nil)
       go false q = rw (rows-no e es q, rows-no e [] q)
+
+  -- the bytes of edges, piece by piece
+  abbrev pub rowBytes : List ℕ → List ℕ
+  rowBytes es = bytesOf (concat (rowsIn t n es))
+
+  pub row-bytes : Pieces rowBytes
+  unfolding rowsIn concat bytesOf
+  row-bytes = record {
+    none = refl;
+    first = λ e es. ap bytesOf (numbers-cons e es) ∙ bytesOf-append (concat (rowsIn t n (e ∷ []))) (concat (rowsIn t n es));
+  }
 
   rows-fives : (es : List ℕ) → length (concat (rowsIn t n es)) ≡ 5 * length (rowsIn t n es)
   unfolding concat rowsIn rowIn
@@ -56,18 +64,3 @@ module _ (t : Tables) (n : ℕ) where
       → q ≡ write (bytesOf (concat (rowsIn t n (e ∷ [])))) p
   unfolding rowsIn concat
   chain-row e row p q h r w = rw (rows-yes e [] h, ← r, append-nil) w
-
-  -- a turn of the loop over edges, and its end
-  pub sheet-on : (e k : ℕ) (p q : Page) → 0 < k → q ≡ write (bytesOf (concat (rowsIn t n (e ∷ [])))) p
-      → write (bytesOf (concat (rowsIn t n (countFrom e k)))) p ≡ write (bytesOf (concat (rowsIn t n (countFrom (e + 1) (k - 1))))) q
-  unfolding countFrom
-  sheet-on e zero p q h w = absurd (not-suc-le-zero h)
-  sheet-on e (suc k) p q h w =
-      let one : List ℕ = concat (rowsIn t n (e ∷ [])) in
-      let rest : List ℕ = concat (rowsIn t n (countFrom (suc e) k)) in
-      rw (sub-one, add-one, numbers-cons e (countFrom (suc e) k), bytesOf-append one rest, write-append (bytesOf one) (bytesOf rest) p, ← w)
-
-  pub sheet-none : (e k : ℕ) (p : Page) → k ≤ 0 → p ≡ write (bytesOf (concat (rowsIn t n (countFrom e k)))) p
-  unfolding countFrom rowsIn concat bytesOf write
-  sheet-none e zero p h = refl
-  sheet-none e (suc k) p h = absurd (not-suc-le-zero h)

@@ -1,20 +1,18 @@
 -- The lines of the sheet, one after the other, and the line of a stop.
 use mathlib.Core.Path.{_≡_, refl, sym, ap, _∙_}
-use Prim.Native.Nat.{ℕ, zero, suc, _+_, _-_, _*_, _≤_, _<_}
+use Prim.Native.Nat.{ℕ, _+_, _*_, _≤_, _<_}
 use native.Mathlib.Omega.{arith}
-use native.Mathlib.Nat.{not-suc-le-zero}
-use native.Mathlib.Numerals.{add-one, sub-one}
 use mathlib.Core.Bool.{Bool, true, false}
 use mathlib.Core.List.{List, [], _∷_, _++_, append-nil, append-assoc}
 use lib.ListN.{length, length-append}
-use Rattle.model.specs.Basics.{countFrom}
 use Rattle.model.specs.Printing.{ascii, decimal, spaced, line, lines, stopLine}
 use Rattle.model.specs.Queries.{read}
 use Rattle.model.specs.Format.{stopped}
 use Rattle.model.specs.Tables.{Tables}
 use Rattle.queries.specs.Chains.{isNameIn, rowIn, rowsIn}
-use Rattle.text.specs.Pages.{Page, page, write}
-use Rattle.text.proofs.Writing.{write-append, write-two, write-at}
+use Rattle.text.specs.Pages.{Page, write}
+use Rattle.text.proofs.Pieces.{Pieces}
+use Rattle.text.proofs.Writing.{write-two, write-at}
 use Rattle.text.proofs.Decimal.{Small, decimal-length, line-length}
 use Rattle.print.specs.Listing.{replyLine}
 
@@ -32,6 +30,17 @@ module _ (t : Tables) (n : ℕ) where
       go true q = rw (q, rowsIn)
       go false q = rw (q, rowsIn)
 
+  -- the lines of edges, piece by piece
+  abbrev pub rowLines : List ℕ → List ℕ
+  rowLines es = lines (rowsIn t n es)
+
+  pub row-lines : Pieces rowLines
+  unfolding rowsIn lines
+  row-lines = record {
+    none = refl;
+    first = λ e es. ap lines (rows-cons e es) ∙ lines-append (rowsIn t n (e ∷ [])) (rowsIn t n es);
+  }
+
   -- an edge that names no chain, and one that does
   pub chain-none : (e : ℕ) (p : Page) → isNameIn t n e ≡ false → p ≡ write (lines (rowsIn t n (e ∷ []))) p
   unfolding rowsIn lines write
@@ -41,19 +50,6 @@ module _ (t : Tables) (n : ℕ) where
       → q ≡ write (lines (rowsIn t n (e ∷ []))) p
   unfolding rowsIn lines
   chain-line e row p q h r w = rw (h, rowsIn, ← r, append-nil) w
-
-  -- a turn of the loop over edges, and its end
-  pub sheet-on : (e k : ℕ) (p q : Page) → 0 < k → q ≡ write (lines (rowsIn t n (e ∷ []))) p
-      → write (lines (rowsIn t n (countFrom e k))) p ≡ write (lines (rowsIn t n (countFrom (e + 1) (k - 1)))) q
-  unfolding countFrom
-  sheet-on e zero p q h w = absurd (not-suc-le-zero h)
-  sheet-on e (suc k) p q h w =
-      rw (sub-one, add-one, rows-cons e (countFrom (suc e) k), lines-append (rowsIn t n (e ∷ [])) (rowsIn t n (countFrom (suc e) k)), write-append (lines (rowsIn t n (e ∷ []))) (lines (rowsIn t n (countFrom (suc e) k))) p, ← w)
-
-  pub sheet-none : (e k : ℕ) (p : Page) → k ≤ 0 → p ≡ write (lines (rowsIn t n (countFrom e k))) p
-  unfolding countFrom rowsIn lines write
-  sheet-none e zero p h = refl
-  sheet-none e (suc k) p h = absurd (not-suc-le-zero h)
 
 -- how far a line moves the position
 pub line-at : (n : ℕ) (ns : List ℕ) (p q : Page) → Small (n ∷ ns) → q ≡ write (line (n ∷ ns)) p → q .at ≤ p .at + 11 * length (n ∷ ns)

@@ -1,3 +1,4 @@
+use Rattle.text.proofs.Pieces.{pieces-on, pieces-end}
 use borrow.Author.Needs.{needs}
 use mathlib.Core.Path.{_≡_, refl, sym, _∙_}
 use mathlib.Core.List.{List}
@@ -10,7 +11,7 @@ use Rattle.model.specs.FromC.{bytesOf}
 use Rattle.tables.specs.Steps.{tables}
 use Rattle.queries.specs.Chains.{rowsIn}
 use Rattle.text.specs.Pages.{page, write}
-use Rattle.pnl.proofs.Rows.{sheet-on, sheet-none}
+use Rattle.pnl.proofs.Rows.{rowBytes, row-bytes}
 use Rattle.pnl.proofs.sheet.put_sheet.Statement.{statement}
 use Rattle.pnl.proofs.sheet.put_sheet.Tie as tie
 use Rattle.pnl.proofs.sheet.put_chain.Reads as put-chain-reads
@@ -51,7 +52,7 @@ loop-again c =
     let at-loop-test = c .before .before .before .before in
     let at-loop = at-loop-test .before in (
       (omega (arith, at-loop .loop .inv .0 .0), omega (arith, at-loop .loop .inv .0 .1, at-loop-test .loop-test .taken)),
-      λ labels. sym (sheet-on _ _ _ _ _ _ (at-loop-test .loop-test .taken) (c .before .before .put-chain .ensures labels)) ∙ at-loop .loop .inv .1 labels,
+      λ labels. sym (pieces-on (rowBytes _ _) (row-bytes _ _) _ _ _ _ (at-loop-test .loop-test .taken) (c .before .before .put-chain .ensures labels)) ∙ at-loop .loop .inv .1 labels,
     )
 
 same-length : tie.Need-same-length Inv-loop μ-loop
@@ -59,7 +60,7 @@ same-length c = c .before .loop .inv .0 .0
 
 returns : tie.Need-returns Inv-loop μ-loop
 unfolding upTo
-returns c = λ labels. sheet-none _ _ _ _ _ (c .loop-test .left) ∙ c .before .loop .inv .1 labels
+returns c = λ labels. pieces-end (rowBytes _ _) (row-bytes _ _) _ _ _ (c .loop-test .left) ∙ c .before .loop .inv .1 labels
 
 pub put-sheet-spec : {M : Type 1} → statement M
 put-sheet-spec =

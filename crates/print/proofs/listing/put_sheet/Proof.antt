@@ -1,4 +1,5 @@
-use Rattle.print.proofs.Lines.{sheet-on, sheet-none}
+use Rattle.text.proofs.Pieces.{pieces-on, pieces-end}
+use Rattle.print.proofs.Lines.{rowLines, row-lines}
 use Rattle.text.specs.Pages.{page, write}
 use Rattle.queries.specs.Chains.{rowsIn}
 use Rattle.tables.specs.Steps.{tables}
@@ -50,7 +51,7 @@ loop-again c =
     let at-loop-test = c .before .before .before .before in
     let at-loop = at-loop-test .before in (
       (omega (arith, at-loop .loop .inv .0 .0), (omega (arith, at-loop .loop .inv .0 .1 .0, at-loop-test .loop-test .taken), omega (arith, at-loop .loop .inv .0 .1 .1, c .before .before .put-chain .ensures .1))),
-      λ labels. sym (sheet-on _ _ _ _ _ _ (at-loop-test .loop-test .taken) (c .before .before .put-chain .ensures .0 labels)) ∙ at-loop .loop .inv .1 labels,
+      λ labels. sym (pieces-on (rowLines _ _) (row-lines _ _) _ _ _ _ (at-loop-test .loop-test .taken) (c .before .before .put-chain .ensures .0 labels)) ∙ at-loop .loop .inv .1 labels,
     )
 
 same-length : tie.Need-same-length Inv-loop μ-loop
@@ -58,7 +59,7 @@ same-length c = c .before .loop .inv .0 .0
 
 returns : tie.Need-returns Inv-loop μ-loop
 unfolding upTo
-returns c = (λ labels. sheet-none _ _ _ _ _ (c .loop-test .left) ∙ c .before .loop .inv .1 labels, omega (arith, c .before .loop .inv .0 .1 .0, c .before .loop .inv .0 .1 .1, c .loop-test .left))
+returns c = (λ labels. pieces-end (rowLines _ _) (row-lines _ _) _ _ _ (c .loop-test .left) ∙ c .before .loop .inv .1 labels, omega (arith, c .before .loop .inv .0 .1 .0, c .before .loop .inv .0 .1 .1, c .loop-test .left))
 
 pub put-sheet-spec : {M : Type 1} → statement M
 put-sheet-spec =
