@@ -1,5 +1,5 @@
 pub mod Values
 pub mod Bytes
 pub mod Rows
-pub mod Narrowing
+pub mod Checking
 pub mod CallLaws

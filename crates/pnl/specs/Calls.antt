@@ -13,8 +13,8 @@ use Rattle.model.specs.Tables as T
 use Rattle.counters.specs.Answers.{countsIn}
 use Rattle.counters.specs.Refusals.{numberOf}
 use Rattle.register.specs.Listing.{ReadIn}
-use Rattle.pnl.specs.declared.growing.Grown.{Grown}
-use Rattle.pnl.specs.declared.growing.Grown.the-variants.{Whole, Stopped}
+use Rattle.pnl.specs.declared.growing.Built.{Built}
+use Rattle.pnl.specs.declared.growing.Built.the-variants.{Whole, Stopped}
 use Rattle.pnl.specs.declared.query.Query.{Query}
 use Rattle.pnl.specs.declared.query.Query.the-variants.{Sheet, Find, Reach, Distance}
 
@@ -23,16 +23,16 @@ abbrev pub returned : List ℕ → ℤ → Returned
 returned slice value = record { slice = slice; value = value }
 
 -- the counts that a whole list leaves, or the refusal where it stopped
-pub data GrownIn : Type 0 where
-  wholeIn : T.Counts → GrownIn
-  stoppedIn : ℕ → GrownIn
+pub data BuiltIn : Type 0 where
+  wholeIn : T.Counts → BuiltIn
+  stoppedIn : ℕ → BuiltIn
 
-abbrev pub grownMeans : Grown → GrownIn
-grownMeans (Whole c) = wholeIn (countsIn c)
-grownMeans (Stopped x) = stoppedIn (numberOf x)
+abbrev pub builtMeans : Built → BuiltIn
+builtMeans (Whole c) = wholeIn (countsIn c)
+builtMeans (Stopped x) = stoppedIn (numberOf x)
 
 -- landing a list answers how far it was read, and nothing else
-unfoldable pub stopIn : T.Counts → Reply → GrownIn
+unfoldable pub stopIn : T.Counts → Reply → BuiltIn
 stopIn c (read whole) = wholeIn c
 stopIn c (read (stopped k x)) = stoppedIn x
 stopIn c (refuses x) = stoppedIn x
@@ -42,18 +42,18 @@ stopIn c (measured d) = wholeIn c
 stopIn c (listed n) = wholeIn c
 
 -- the tables behind a list, and its answer
-pub record Growth : Type 0 where
+pub record Build : Type 0 where
   pub tables : T.Tables
-  pub answer : GrownIn
+  pub answer : BuiltIn
 
-abbrev pub growth : T.Tables → GrownIn → Growth
-growth t a = record { tables = t; answer = a }
+abbrev pub build : T.Tables → BuiltIn → Build
+build t a = record { tables = t; answer = a }
 
-unfoldable pub growthOf : ReadIn → Growth
-growthOf d = growth (d .tables) (stopIn (d .counts) (d .reply))
+unfoldable pub buildOf : ReadIn → Build
+buildOf d = build (d .tables) (stopIn (d .counts) (d .reply))
 
 -- tables and counts hold a register that landing leaves
-pub record Holds (t : T.Tables) (c : T.Counts) (r : Register) : Type 0 where
+pub record Represents (t : T.Tables) (c : T.Counts) (r : Register) : Type 0 where
   pub reachable : Reachable r
   pub tables-are : T.tablesOf r ≡ t
   pub counts-are : T.countsOf r ≡ c

@@ -12,7 +12,7 @@ ghost use Rattle.tables.specs.Steps.{tables};
 ghost use Rattle.search.specs.Search.{Searchable};
 ghost use Rattle.distance.specs.Measure.{distanceReply, measureIn};
 
-// The distance between two vertices of grown tables, with scratch of its own for the search.
+// The arrays are the scratch of the search.
 pub fn distance_in(
     ends: &[u16],
     lengths: &[u32],

@@ -8,21 +8,21 @@ ghost use Rattle.model.specs.Tables.{noCounts};
 ghost use Rattle.counters.specs.Answers.{countsIn, listReply};
 ghost use Rattle.tables.specs.Steps.{tables};
 ghost use Rattle.register.specs.Listing.{landListIn};
-ghost use Rattle.pnl.specs.Calls.{grownMeans, stopIn, growth, growthOf};
+ghost use Rattle.pnl.specs.Calls.{builtMeans, stopIn, build, buildOf};
 
 // The counts that a whole list leaves, or the refusal where it stopped.
-pub enum Grown {
+pub enum Built {
     Whole(Counts),
     Stopped(Refusal),
 }
 
-fn stop_of(counts: Counts, answer: ListAnswer) -> Grown
-    ensures { λ r. ⌜ grownMeans r ≡ stopIn (countsIn counts) (listReply answer) ⌝ }
+fn stop_of(counts: Counts, answer: ListAnswer) -> Built
+    ensures { λ r. ⌜ builtMeans r ≡ stopIn (countsIn counts) (listReply answer) ⌝ }
 {
     match answer {
-        ListAnswer::Whole => Grown::Whole(counts),
-        ListAnswer::Stopped(record, refusal) => Grown::Stopped(refusal),
-        ListAnswer::Refused(refusal) => Grown::Stopped(refusal),
+        ListAnswer::Whole => Built::Whole(counts),
+        ListAnswer::Stopped(record, refusal) => Built::Stopped(refusal),
+        ListAnswer::Refused(refusal) => Built::Stopped(refusal),
     }
 }
 
@@ -33,9 +33,9 @@ pub fn grow_tables(
     lengths: &mut [u32],
     labels: &mut [u32],
     list: &[u8],
-) -> Grown
-    ensures { λ r. ⌜ growth (tables (now (degrees .exit)) (now (sides .exit)) (now (ends .exit)) (now (lengths .exit)) (now (labels .exit))) (grownMeans r)
-        ≡ growthOf (landListIn (tables (now (degrees .entry)) (now (sides .entry)) (now (ends .entry)) (now (lengths .entry)) (now (labels .entry)))
+) -> Built
+    ensures { λ r. ⌜ build (tables (now (degrees .exit)) (now (sides .exit)) (now (ends .exit)) (now (lengths .exit)) (now (labels .exit))) (builtMeans r)
+        ≡ buildOf (landListIn (tables (now (degrees .entry)) (now (sides .entry)) (now (ends .entry)) (now (lengths .entry)) (now (labels .entry)))
         noCounts (now (list .entry))) ⌝ }
 {
     let landing = land_list(degrees, sides, ends, lengths, labels, Counts::none(), list);

@@ -1,6 +1,7 @@
 // The calls from C. Each grows the list in arrays of its own, asks the register, and answers in the lent slice; nothing is kept between
 // calls. include/pnl.h says the same in C.
 pub mod answers;
+pub mod checked;
 pub mod distances;
 pub mod growing;
 pub mod query;

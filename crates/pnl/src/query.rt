@@ -3,24 +3,23 @@ use crate::answers::answer_distance;
 use crate::answers::answer_found;
 use crate::answers::answer_reached;
 use crate::answers::refused;
-use crate::distances::distance_in;
-use crate::growing::Grown;
+use crate::checked::measure_checked;
+use crate::checked::reach_checked;
+use crate::growing::Built;
 use crate::growing::grow_tables;
 use crate::sheet::answer_sheet;
 use counters::counts::Counts;
 use counters::numbers::Label;
-use counters::numbers::Vertex;
 use lookups::find::find_in;
-use lookups::reach::reach_in;
 ghost use mathlib.Core.Path.{_≡_};
-ghost use Prim.Native.Nat.{_≤_, min};
+ghost use Prim.Native.Nat.{_≤_};
 ghost use Rattle.model.specs.Basics.{maxVertices};
 ghost use Rattle.model.specs.Register.{Register};
 ghost use Rattle.model.specs.FromC.{fromC, returnsReply};
 ghost use Rattle.counters.specs.Answers.{countsIn};
 ghost use Rattle.tables.specs.Steps.{tables};
 ghost use Rattle.search.specs.Search.{Searchable};
-ghost use Rattle.pnl.specs.Calls.{returned, queryMeans, Holds};
+ghost use Rattle.pnl.specs.Calls.{returned, queryMeans, Represents};
 
 // What may be asked from C.
 pub enum Query {
@@ -28,13 +27,6 @@ pub enum Query {
     Find(u32),
     Reach(u32),
     Distance(u32, u32),
-}
-
-// No register has a vertex 65,535, so it stands for every number from there on.
-fn narrow(n: u32) -> u16
-    ensures { λ r. ⌜ r ≡ min n 65535 ⌝ }
-{
-    if n < 65535 { n as u16 } else { 65535 }
 }
 
 // The tables are a register's, so there is no gate to pass.
@@ -50,7 +42,7 @@ fn answer_query(
 ) -> i32
     requires { ⌜ Searchable (now ends) (now lengths) (counts .edges) × (counts .vertices ≤ maxVertices) ⌝ }
     ensures { λ r. ⌜ ((register : Register)
-        → Holds (tables (now (degrees .entry)) (now (sides .entry)) (now (ends .entry)) (now (lengths .entry)) (now (labels .entry))) (countsIn counts) register
+        → Represents (tables (now (degrees .entry)) (now (sides .entry)) (now (ends .entry)) (now (lengths .entry)) (now (labels .entry))) (countsIn counts) register
         → returned (now (answer .exit)) r ≡ returnsReply register (now (answer .entry)) (queryMeans query register)) ⌝ }
 {
     match query {
@@ -60,14 +52,11 @@ fn answer_query(
             answer_found(answer, found)
         }
         Query::Reach(vertex) => {
-            let v = narrow(vertex);
-            let reached = reach_in(degrees, sides, ends, lengths, counts, Vertex(v));
+            let reached = reach_checked(degrees, sides, ends, lengths, counts, vertex);
             answer_reached(answer, reached)
         }
         Query::Distance(from, to) => {
-            let v = narrow(from);
-            let w = narrow(to);
-            let measured = distance_in(ends, lengths, counts, Vertex(v), Vertex(w));
+            let measured = measure_checked(ends, lengths, counts, from, to);
             answer_distance(answer, measured)
         }
     }
@@ -91,7 +80,7 @@ pub fn answer_call(list: &[u8], query: Query, answer: &mut [u8]) -> i32
         list,
     );
     match grown {
-        Grown::Whole(counts) => answer_query(
+        Built::Whole(counts) => answer_query(
             answer,
             &degrees,
             &sides,
@@ -101,6 +90,6 @@ pub fn answer_call(list: &[u8], query: Query, answer: &mut [u8]) -> i32
             counts,
             query,
         ),
-        Grown::Stopped(refusal) => refused(refusal),
+        Built::Stopped(refusal) => refused(refusal),
     }
 }

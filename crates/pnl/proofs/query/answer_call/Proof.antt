@@ -1,7 +1,7 @@
 use mathlib.Core.Path.{ap, _∙_}
 use Rattle.pnl.proofs.Values.{value-kept, handed}
 use Rattle.model.specs.Tables.{cleared}
-use Rattle.pnl.specs.Calls.{grownMeans}
+use Rattle.pnl.specs.Calls.{builtMeans}
 use Rattle.pnl.proofs.CallLaws.{call-stops, call-answers, call-searchable}
 use borrow.Author.Needs.{needs}
 use Rattle.pnl.proofs.query.answer_call.Statement.{statement}
@@ -51,7 +51,7 @@ unfolding cleared
 answer-query-requires c κs =
     let at-grown = c .before .before .before .before .before .before .before in
     let at-grow-tables = at-grown .before .before .before .before .before .before .before in
-    call-searchable _ _ _ (at-grow-tables .grow-tables .ensures) _ (ap grownMeans (at-grown .grown .given .1))
+    call-searchable _ _ _ (at-grow-tables .grow-tables .ensures) _ (ap builtMeans (at-grown .grown .given .1))
 
 enum-known-grown-2 : tie.Need-enum-known-grown-2
 enum-known-grown-2 c = search needs
@@ -67,13 +67,13 @@ unfolding cleared
 returns c =
     let at-grown = c .before .before .before .before .before .before .before .before .before .before in
     let at-grow-tables = at-grown .before .before .before .before .before .before .before in
-    call-answers _ _ _ (at-grow-tables .grow-tables .ensures) _ _ _ _ (ap grownMeans (at-grown .grown .given .1)) (λ r h. handed (c .before .before .answer-query .ok) (c .before .before .answer-query .ensures r h))
+    call-answers _ _ _ (at-grow-tables .grow-tables .ensures) _ _ _ _ (ap builtMeans (at-grown .grown .given .1)) (λ r h. handed (c .before .before .answer-query .ok) (c .before .before .answer-query .ensures r h))
 
 returns-2 : tie.Need-returns-2
 unfolding cleared
 returns-2 c =
     let at-grow-tables = c .before .before .before .before .before .before .before .before .before in
-    call-stops _ _ _ (at-grow-tables .grow-tables .ensures) _ _ _ _ (ap grownMeans (c .before .before .grown2 .given .1)) (value-kept (c .refused .ok) ∙ c .refused .ensures)
+    call-stops _ _ _ (at-grow-tables .grow-tables .ensures) _ _ _ _ (ap builtMeans (c .before .before .grown2 .given .1)) (value-kept (c .refused .ok) ∙ c .refused .ensures)
 
 pub answer-call-spec : {M : Type 1} → statement M
 answer-call-spec =

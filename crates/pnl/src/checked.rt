@@ -1,0 +1,69 @@
+// Vertices as C gives them, of 32 bits. A number above the largest vertex is never landed: refusal 5.
+use crate::distances::distance_in;
+use counters::counts::Counts;
+use counters::numbers::CheckedVertex;
+use counters::numbers::Vertex;
+use counters::refusals::Refusal;
+use distance::measure::Distance;
+use lookups::reach::Reached;
+use lookups::reach::reach_in;
+ghost use mathlib.Core.Path.{_≡_};
+ghost use mathlib.Core.List.{List};
+ghost use Prim.Native.Nat.{ℕ, _≤_};
+ghost use Rattle.model.specs.Basics.{maxVertices};
+ghost use Rattle.counters.specs.Answers.{countsIn};
+ghost use Rattle.tables.specs.Steps.{tables};
+ghost use Rattle.queries.specs.Chains.{reachIn};
+ghost use Rattle.lookups.specs.Meaning.{reachedReply};
+ghost use Rattle.search.specs.Search.{Searchable};
+ghost use Rattle.distance.specs.Measure.{distanceReply, measureIn};
+
+pub fn reach_checked(
+    degrees: &[u16],
+    sides: &[u16],
+    ends: &[u16],
+    lengths: &[u32],
+    counts: Counts,
+    vertex: u32,
+) -> Reached
+    requires { ⌜ counts .vertices ≤ maxVertices ⌝ }
+    ensures { λ r. ⌜ ((labels : List ℕ) → reachedReply r
+        ≡ reachIn (tables (now (degrees .entry)) (now (sides .entry)) (now (ends .entry)) (now (lengths .entry)) labels) (countsIn counts) vertex) ⌝ }
+{
+    let checked = Vertex::new(vertex);
+    match checked {
+        CheckedVertex::Is(v) => reach_in(degrees, sides, ends, lengths, counts, v),
+        CheckedVertex::TooLarge => Reached::Refused(Refusal::NotLanded),
+    }
+}
+
+// The first is checked.
+fn measure_to(ends: &[u16], lengths: &[u32], counts: Counts, from: Vertex, to: u32) -> Distance
+    requires { ⌜ Searchable (now ends) (now lengths) (counts .edges) × (counts .vertices ≤ maxVertices) ⌝ }
+    ensures { λ r. ⌜ ((degrees sides labels : List ℕ) → distanceReply r
+        ≡ measureIn (tables degrees sides (now (ends .entry)) (now (lengths .entry)) labels) (countsIn counts) (from .0) to) ⌝ }
+{
+    let checked = Vertex::new(to);
+    match checked {
+        CheckedVertex::Is(v) => distance_in(ends, lengths, counts, from, v),
+        CheckedVertex::TooLarge => Distance::Refused(Refusal::NotLanded),
+    }
+}
+
+pub fn measure_checked(
+    ends: &[u16],
+    lengths: &[u32],
+    counts: Counts,
+    from: u32,
+    to: u32,
+) -> Distance
+    requires { ⌜ Searchable (now ends) (now lengths) (counts .edges) × (counts .vertices ≤ maxVertices) ⌝ }
+    ensures { λ r. ⌜ ((degrees sides labels : List ℕ) → distanceReply r
+        ≡ measureIn (tables degrees sides (now (ends .entry)) (now (lengths .entry)) labels) (countsIn counts) from to) ⌝ }
+{
+    let checked = Vertex::new(from);
+    match checked {
+        CheckedVertex::Is(v) => measure_to(ends, lengths, counts, v, to),
+        CheckedVertex::TooLarge => Distance::Refused(Refusal::NotLanded),
+    }
+}
