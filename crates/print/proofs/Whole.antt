@@ -1,15 +1,15 @@
 -- The whole listing: what was written is what document 01 has the program print.
-use mathlib.Core.Path.{_≡_, refl, sym, ap, _∙_}
+use mathlib.Core.Path.{_≡_, sym, ap, _∙_}
 use Prim.Native.Nat.{ℕ, _+_, _*_, _≤_, _<_}
 use native.Mathlib.Omega.{arith}
-use mathlib.Core.List.{List, [], _∷_, _++_}
+use mathlib.Core.List.{List, [], _∷_}
 use lib.ListN.{length, take}
 use lib.Seq.{length-take-le}
 use borrow.Author.Tests.{lt-ltb, le-ltb}
 use Rattle.model.specs.Basics.{upTo}
 use Rattle.model.specs.Register.{Register}
 use Rattle.model.specs.Format.{Read, growList}
-use Rattle.model.specs.Queries.{Reply, read, sheet}
+use Rattle.model.specs.Queries.{Reply, read}
 use Rattle.model.specs.Tables.{Tables, Counts, tablesOf, countsOf, cleared, noCounts}
 use Rattle.model.specs.Printing.{ascii, line, lines, listing, printed}
 use Rattle.queries.specs.Chains.{rowsIn, sheetIn}

@@ -1,7 +1,6 @@
 // The bytes that the printing program prints, built in a lent slice.
 use counters::answers::ListAnswer;
 use counters::counts::Counts;
-use counters::refusals::Refusal;
 use queries::names::is_name;
 use queries::rows::count_rows;
 use queries::rows::row_at;

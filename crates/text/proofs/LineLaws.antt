@@ -1,5 +1,5 @@
 -- Lines, field by field.
-use mathlib.Core.Path.{_≡_, refl, sym, _∙_}
+use mathlib.Core.Path.{_≡_}
 use Prim.Native.Nat.{ℕ}
 use mathlib.Core.List.{List, [], _∷_, _++_, append-assoc}
 use Rattle.model.specs.Printing.{decimal, spaced, line}

@@ -1,4 +1,3 @@
-use mathlib.Core.Path.{refl}
 use borrow.Author.Needs.{needs}
 use Rattle.distance.proofs.measure.answer.Statement.{statement}
 use Rattle.distance.proofs.measure.answer.Tie as tie

@@ -1,5 +1,5 @@
 use Rattle.tables.specs.Steps.{zeroed}
-use mathlib.Core.Path.{refl, _∙_}
+use mathlib.Core.Path.{_∙_}
 use borrow.Author.Needs.{needs}
 use Rattle.distance.proofs.measure.search_cleared.Statement.{statement}
 use Rattle.distance.proofs.measure.search_cleared.Tie as tie

@@ -2,7 +2,6 @@ use Rattle.print.proofs.Whole.{too-long, prints}
 use Rattle.model.specs.Tables.{cleared}
 use Rattle.model.specs.Printing.{ascii}
 use native.Mathlib.Omega.{arith}
-use mathlib.Core.List.{List}
 use mathlib.Core.Path.{refl}
 use borrow.Author.Needs.{needs}
 use Rattle.print.proofs.listing.print_list.Statement.{statement}
