@@ -8,10 +8,10 @@ use mathlib.Core.Option.{some}
 use lib.ListN.{length, getD}
 use Rattle.model.specs.Basics.{maxEdges, maxVertices}
 use Rattle.model.specs.Graph.{Edge, degree}
-use Rattle.model.specs.Register.{Register, empty, landEdge, landVertex, landed, marksOf}
+use Rattle.model.specs.Register.{Register, empty, landed, marksOf}
 use Rattle.model.specs.Format.{landList}
-use Rattle.model.specs.Tables.{held, landEdges, landVertices, storedOf}
-use Rattle.model.specs.Notions.{Reachable, with-edge, with-vertex}
+use Rattle.model.specs.Tables.{held, landVertices, storedOf}
+use Rattle.model.specs.Notions.{Reachable}
 use Rattle.model.proofs.Walks.Degree.{Proper}
 use Rattle.model.proofs.Walks.Turn.{At}
 use Rattle.model.proofs.Walks.RingFree.{RingFree}
@@ -20,7 +20,7 @@ use Rattle.model.proofs.Series.Held.{GrowsAgain}
 use Rattle.model.proofs.Series.Labelled.{Labelled, ends-landed}
 use Rattle.model.proofs.Series.Facts.{kept-held}
 use Rattle.model.proofs.Series.Lawful.{AllLawful, edges-lawful}
-use Rattle.model.proofs.Series.OnlyHeld.{edges-reach, vertices-reach}
+use Rattle.model.proofs.Series.OnlyHeld.{vertices-reach}
 use Rattle.model.proofs.Series.Reachable as reachable
 
 abbrev pub Grown : Register → Type 0
@@ -74,20 +74,11 @@ module _ (r : Register) (g : Grown r) where
 pub empty-grown : Grown empty
 empty-grown = reachable.reachable-empty
 
-pub vertex-grown : (r r′ : Register) → Grown r → landVertex r ≡ landed r′ → Grown r′
-vertex-grown r r′ g e = with-vertex g e
-
-pub edge-grown : (r : Register) (e : Edge) (r′ : Register) → Grown r → landEdge r e ≡ landed r′ → Grown r′
-edge-grown r e r′ g q = with-edge e g q
-
 pub list-grown : (r : Register) (bs : List ℕ) → Grown r → Grown ((landList r bs) .register)
 list-grown r bs g = reachable.reachable-list r bs g
 
 pub vertices-grown : (n : ℕ) (r r′ : Register) → Grown r → landVertices n r ≡ landed r′ → Grown r′
 vertices-grown n r r′ g e = vertices-reach n r r′ g e
-
-pub edges-grown : (es : List Edge) (r r′ : Register) → Grown r → landEdges es r ≡ landed r′ → Grown r′
-edges-grown es r r′ g e = edges-reach es r r′ g e
 
 -- what is stored for it is held
 pub grown-held : (r : Register) → Grown r → held (storedOf r) ≡ some r

@@ -9,8 +9,8 @@ use Rattle.model.specs.Basics.{inFront, maxEdges}
 use Rattle.model.specs.Graph.{Edge, edgeAt}
 use Rattle.model.specs.Register.{Register}
 use Rattle.model.specs.Notions.{Reachable}
-use Rattle.model.specs.Tables.{Tables, edgeIn, edgesIn, edgeLengths, endsOf, padded, tablesOf}
-use Rattle.model.proofs.Series.Held.{edge-read, edges-read, length-ends, length-lengths}
+use Rattle.model.specs.Tables.{Tables, edgeIn, edgeLengths, endsOf, padded, tablesOf}
+use Rattle.model.proofs.Series.Held.{edge-read, length-ends, length-lengths}
 use Rattle.model.proofs.Series.Labelled.{Labelled}
 use Rattle.model.proofs.Series.Lawful.{edges-lawful}
 use Rattle.model.proofs.Series.Reachable.{full}
@@ -51,6 +51,3 @@ module _ (r : Register) (k : Reachable r) where
   -- the same of lent tables and a lent count that are the register's
   pub searchable : (t : Tables) (m : ℕ) → tablesOf r ≡ t → length (r .edges) ≡ m → Searchable (t .ends) (t .lengths) m
   searchable t m e q = rw (← e, ← q) register-searchable
-
-  pub own-edges : (t : Tables) (m : ℕ) → tablesOf r ≡ t → length (r .edges) ≡ m → edgesIn t m ≡ r .edges
-  own-edges t m e q = rw (← e, ← q) (edges-read r)

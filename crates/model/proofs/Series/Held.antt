@@ -153,7 +153,7 @@ unfolding edgeLengths
 length-lengths [] = refl
 length-lengths (e ∷ es) = ap suc (length-lengths es)
 
-pub ends-read : (es : List Edge) (d : ℕ) → d < length es
+ends-read : (es : List Edge) (d : ℕ) → d < length es
     → (getD (endsOf es) (2 * d) 0 ≡ (edgeAt es d) .first) × (getD (endsOf es) (2 * d + 1) 0 ≡ (edgeAt es d) .second)
 unfolding endsOf edgeAt
 ends-read [] d h = absurd (not-suc-le-zero h)
@@ -164,13 +164,13 @@ ends-read (e ∷ es) (suc d) h =
     let i = ends-read es d (omega arith) in
     (rw even (i .0), rw odd (i .1))
 
-pub lengths-read : (es : List Edge) (d : ℕ) → d < length es → getD (edgeLengths es) d 0 ≡ (edgeAt es d) .len
+lengths-read : (es : List Edge) (d : ℕ) → d < length es → getD (edgeLengths es) d 0 ≡ (edgeAt es d) .len
 unfolding edgeLengths edgeAt
 lengths-read [] d h = absurd (not-suc-le-zero h)
 lengths-read (e ∷ es) zero h = refl
 lengths-read (e ∷ es) (suc d) h = lengths-read es d (omega arith)
 
-pub padded-read : (n i : ℕ) (xs : List ℕ) → i < length xs → getD (padded n xs) i 0 ≡ getD xs i 0
+padded-read : (n i : ℕ) (xs : List ℕ) → i < length xs → getD (padded n xs) i 0 ≡ getD xs i 0
 unfolding padded inFront
 padded-read n i xs h = List·getD-append xs _ 0 i h
 
