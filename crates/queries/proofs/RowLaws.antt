@@ -35,7 +35,7 @@ module _ (t : Tables) (n : ℕ) where
   unfolding rowsIn upTo countFrom
   rows-none = refl
 
-  rows-append : (ds es : List ℕ) → rowsIn t n (ds ++ es) ≡ rowsIn t n ds ++ rowsIn t n es
+  pub rows-append : (ds es : List ℕ) → rowsIn t n (ds ++ es) ≡ rowsIn t n ds ++ rowsIn t n es
   unfolding rowsIn
   rows-append [] es = refl
   rows-append (d ∷ ds) es = go (isNameIn t n d) refl (rows-append ds es)
