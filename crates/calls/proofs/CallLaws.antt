@@ -6,7 +6,7 @@ use mathlib.Core.Option.{none, some}
 use mathlib.Core.List.{List, []}
 use Rattle.model.specs.Register.{Register, empty}
 use Rattle.model.specs.Format.{Read, growList, landList}
-use Rattle.model.specs.Queries.{Reply, refuses}
+use Rattle.model.specs.Queries.{Reply, read, refuses}
 use Rattle.model.specs.Tables.{Tables, Counts, Stored, fits, cleared, noCounts, tablesOf, countsOf, storedOf}
 use Rattle.model.specs.Calls.{Call, Outcome, grows, lands, admits, allFit, gate, registerFor, scratchAfter, effect, readEffect, lentSlice, step}
 use Rattle.model.proofs.Series.OnlyHeld.{only-held}
@@ -23,11 +23,12 @@ abbrev pub outcomeOf : Tables → Counts → Tables → Reply → Outcome
 outcomeOf t c s a = record { lent = lent t c s; slice = []; reply = a }
 
 module _ (t : Tables) (c : Counts) (s : Tables) (bs : List ℕ) where
-  -- a list that was read into the register r
-  read-out : (call : Call) (r : Register) (g : Read) (d : ReadIn) (s′ : Tables) → gate call (lent t c s) ≡ admits r → effect call r ≡ readEffect g
-      → d ≡ readIn g → s′ ≡ scratchAfter (lent t c s) → outcomeOf (d .tables) (d .counts) s′ (d .reply) ≡ step call (lent t c s)
+  -- a list that was read into the register r, with the counts and the answer that were made of the reading
+  read-out : (call : Call) (r : Register) (g : Read) (d : ReadIn) (k : Counts) (a : Reply) (s′ : Tables) → gate call (lent t c s) ≡ admits r
+      → effect call r ≡ readEffect g → d ≡ readIn g → (k ≡ d .counts) × (a ≡ read (d .stop)) → s′ ≡ scratchAfter (lent t c s)
+      → outcomeOf (d .tables) k s′ a ≡ step call (lent t c s)
   unfolding step readEffect storedOf
-  read-out call r g d s′ p q f e = rw (f, e, p, step, q)
+  read-out call r g d k a s′ p q f made e = rw (made .0, made .1, f, e, p, step, q)
 
   -- ---- grow
 
@@ -48,16 +49,17 @@ module _ (t : Tables) (c : Counts) (s : Tables) (bs : List ℕ) where
   unfolding scratchAfter
   scratch-is h = rw h
 
-  pub grow-done : (t′ s′ : Tables) (r : Bool) (k : Counts) (d : ReadIn) → r ≡ (fits t && fits s) → t′ ≡ zeroedIf r t → s′ ≡ zeroedIf r s → r ≡ true
-      → k ≡ noCounts → d ≡ landListIn t′ k bs → outcomeOf (d .tables) (d .counts) s′ (d .reply) ≡ step (grows bs) (lent t c s)
+  pub grow-done : (t′ s′ : Tables) (r : Bool) (k : Counts) (d : ReadIn) (m : Counts) (x : Reply) → r ≡ (fits t && fits s) → t′ ≡ zeroedIf r t
+      → s′ ≡ zeroedIf r s → r ≡ true → k ≡ noCounts → d ≡ landListIn t′ k bs → (m ≡ d .counts) × (x ≡ read (d .stop))
+      → outcomeOf (d .tables) m s′ x ≡ step (grows bs) (lent t c s)
   unfolding effect
-  grow-done t′ s′ r k d f a b e n q =
+  grow-done t′ s′ r k d m x f a b e n q made =
       let h : allFit (lent t c s) ≡ true = fit-is true (sym f ∙ e) in
       let both = all-fit (lent t c s) h in
       let i : t′ ≡ cleared = a ∙ rw e (zeroed-cleared t (both .0)) in
       let j : s′ ≡ cleared = b ∙ rw e (zeroed-cleared s (both .1)) in
       let g : landListIn t′ k bs ≡ readIn (growList bs) = rw (i, n) (list-leaves bs) in
-      read-out (grows bs) empty (growList bs) d s′ (gate-grows h) refl (q ∙ g) (j ∙ scratch-is h)
+      read-out (grows bs) empty (growList bs) d m x s′ (gate-grows h) refl (q ∙ g) made (j ∙ scratch-is h)
 
   -- ---- land
 
@@ -66,14 +68,14 @@ module _ (t : Tables) (c : Counts) (s : Tables) (bs : List ℕ) where
   unfolding step registerFor lentSlice
   land-refused s′ x h e = rw (gate-bars (lands bs) (lent t c s) refl x h, step, e)
 
-  pub land-done : (s′ : Tables) (d : ReadIn) → none ≡ barred (lent t c s) → s′ ≡ scratchAfter (lent t c s) → d ≡ landListIn t c bs
-      → outcomeOf (d .tables) (d .counts) s′ (d .reply) ≡ step (lands bs) (lent t c s)
+  pub land-done : (s′ : Tables) (d : ReadIn) (m : Counts) (x : Reply) → none ≡ barred (lent t c s) → s′ ≡ scratchAfter (lent t c s)
+      → d ≡ landListIn t c bs → (m ≡ d .counts) × (x ≡ read (d .stop)) → outcomeOf (d .tables) m s′ x ≡ step (lands bs) (lent t c s)
   unfolding registerFor effect storedOf
-  land-done s′ d h e q =
+  land-done s′ d m x h e q made =
       let k = gate-admits (lands bs) (lent t c s) refl h in
       let r = k .0 in
       let o = only-held _ r (k .1) in
       let i : tablesOf r ≡ t = ap (λ (x : Stored). x .tables) (sym (o .stored-is)) in
       let j : countsOf r ≡ c = ap (λ (x : Stored). x .counts) (sym (o .stored-is)) in
       let g : landListIn t c bs ≡ readIn (landList r bs) = rw (i, j) at (list-agrees r bs (o .reachable)) in
-      read-out (lands bs) r (landList r bs) d s′ (k .2) refl (q ∙ g) e
+      read-out (lands bs) r (landList r bs) d m x s′ (k .2) refl (q ∙ g) made e

@@ -1,9 +1,10 @@
 // Grow: a list landed on the cleared register.
+use crate::landing::Landing;
+use crate::landing::landing_of;
 use admission::gate::clear_if_fit;
 use counters::answers::ListAnswer;
 use counters::counts::Counts;
 use counters::refusals::Refusal;
-use register::records::Landing;
 use register::records::land_list;
 ghost use mathlib.Core.Path.{_≡_};
 ghost use Rattle.model.specs.Calls.{grows, step};
@@ -51,7 +52,8 @@ pub fn grow_with(
             answer: ListAnswer::Refused(Refusal::WrongSize),
         };
     }
-    land_list(degrees, sides, ends, lengths, labels, Counts::none(), list)
+    let reading = land_list(degrees, sides, ends, lengths, labels, Counts::none(), list);
+    landing_of(reading)
 }
 
 // What outsiders call: the head counters are updated in the caller's copy.

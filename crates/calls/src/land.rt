@@ -1,9 +1,10 @@
 // Land: a list landed on the register as it is, once it has passed its replay.
+use crate::landing::Landing;
+use crate::landing::landing_of;
 use admission::gate::Gate;
 use admission::gate::pass_gate;
 use counters::answers::ListAnswer;
 use counters::counts::Counts;
-use register::records::Landing;
 use register::records::land_list;
 ghost use mathlib.Core.Path.{_≡_};
 ghost use Rattle.model.specs.Calls.{lands, step};
@@ -47,7 +48,10 @@ pub fn land_with(
         slabels,
     );
     match passed {
-        Gate::Open => land_list(degrees, sides, ends, lengths, labels, counts, list),
+        Gate::Open => {
+            let reading = land_list(degrees, sides, ends, lengths, labels, counts, list);
+            landing_of(reading)
+        }
         Gate::Refused(refusal) => Landing {
             counts,
             answer: ListAnswer::Refused(refusal),

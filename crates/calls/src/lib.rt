@@ -3,3 +3,4 @@
 // `grow` and `land` are thin: they take the counts apart, and `grow_with` and `land_with` do the work.
 pub mod grow;
 pub mod land;
+pub mod landing;

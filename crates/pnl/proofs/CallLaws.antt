@@ -1,5 +1,5 @@
 -- A call whole: a list that stops, and the answer of a query on the tables that a list leaves.
-use mathlib.Core.Path.{_≡_, refl, sym, ap, subst, _∙_}
+use mathlib.Core.Path.{_≡_, sym, ap, _∙_}
 use Prim.Native.Nat.{ℕ, _≤_}
 use native.Mathlib.Omega.{arith}
 use mathlib.Core.List.{List}
@@ -9,15 +9,15 @@ use Rattle.model.specs.Basics.{upTo, maxVertices}
 use Rattle.model.specs.Register.{Register}
 use Rattle.model.specs.Format.{Stop, whole, stopped, growList}
 use Rattle.model.specs.FromC.{Returned, fromC, returnsNumbers, returnsRefusal, returnsReply}
-use Rattle.model.specs.Queries.{Reply, read, listed, find, reach, measure, sheet, sheetNumbers, concat}
+use Rattle.model.specs.Queries.{Reply, listed, find, reach, measure, sheet, sheetNumbers, concat}
 use Rattle.model.specs.Calls.{Effect, answers, effect}
-use Rattle.model.specs.Tables.{Tables, Counts, tablesOf, countsOf, cleared, noCounts}
+use Rattle.model.specs.Tables.{Tables, Counts, countsOf, cleared, noCounts}
 use Rattle.tables.specs.Steps.{tables}
 use Rattle.queries.specs.Chains.{rowsIn, sheetIn, findIn, reachIn}
 use Rattle.agreement.proofs.Growing.{few}
 use Rattle.agreement.proofs.Sheeting.{sheet-agrees}
 use Rattle.agreement.proofs.Finding.{reach-agrees}
-use Rattle.register.specs.Listing.{ReadIn, landListIn}
+use Rattle.register.specs.Listing.{ReadIn, readingIn, landListIn}
 use Rattle.register.proofs.Listing.{readIn}
 use Rattle.register.proofs.Grown.{list-leaves, growList-grown}
 use Rattle.lookups.proofs.AnswerLaws.{find-answers}
@@ -25,12 +25,10 @@ use Rattle.search.specs.Search.{Searchable}
 use Rattle.distance.specs.Measure.{measureIn}
 use Rattle.distance.proofs.Registers.{searchable}
 use Rattle.distance.proofs.Measuring.{measure-agrees}
-use Rattle.pnl.specs.Calls.{returned, BuiltIn, wholeIn, stoppedIn, stopIn, Build, build, buildOf, Represents}
+use Rattle.pnl.specs.Calls.{returned, Represents}
 
-pub grow-law : (t : Tables) (c : Counts) (bs : List ℕ) (d : ReadIn) (a : BuiltIn) → c ≡ noCounts → d ≡ landListIn t c bs → a ≡ stopIn (d .counts) (d .reply)
-    → build (d .tables) a ≡ buildOf (landListIn t noCounts bs)
-unfolding buildOf
-grow-law t c bs d a n e f = rw (← n, ← e, f)
+pub grow-law : (t : Tables) (c : Counts) (bs : List ℕ) (d : ReadIn) → c ≡ noCounts → d ≡ landListIn t c bs → d ≡ landListIn t noCounts bs
+grow-law t c bs d n e = rw (← n) e
 
 -- ---- what the search for a distance asks
 
@@ -45,69 +43,33 @@ module _ (t : Tables) (c : Counts) (r : Register) (h : Represents t c r) where
       let n : length (r .edges) ≡ c .edges = ap (λ (x : Counts). x .edges) (h .counts-are) in
       (searchable r (h .reachable) t (c .edges) (h .tables-are) n, few-vertices)
 
--- ---- what the answer of a list says of it
+-- ---- what the reading of a list says of it
 
-abbrev stopNumber : BuiltIn → ℕ
-stopNumber (wholeIn c) = 0
-stopNumber (stoppedIn x) = x
+module _ (bs : List ℕ) (t : Tables) (c : Counts) (s : Stop) (e : readingIn t c s ≡ landListIn cleared noCounts bs) where
+  left : readingIn t c s ≡ readIn (growList bs)
+  left = e ∙ list-leaves bs
 
-abbrev Whole? : BuiltIn → Type 0
-Whole? (wholeIn c) = Unit {0}
-Whole? (stoppedIn x) = ⊥
+  left-stop : s ≡ (growList bs) .stop
+  left-stop = ap (λ (d : ReadIn). d .stop) left
 
-abbrev countsOr : Counts → BuiltIn → Counts
-countsOr k (wholeIn c) = c
-countsOr k (stoppedIn x) = k
+  left-register : Represents t c ((growList bs) .register)
+  left-register = record {
+    reachable = growList-grown bs;
+    tables-are = sym (ap (λ (d : ReadIn). d .tables) left);
+    counts-are = sym (ap (λ (d : ReadIn). d .counts) left);
+  }
 
--- a register and the tables, the counts and the stop that a list leaves
-module _ (bs : List ℕ) (t : Tables) (a : BuiltIn) (e : build t a ≡ buildOf (landListIn cleared noCounts bs)) where
-  left : build t a ≡ buildOf (readIn (growList bs))
-  left = e ∙ ap buildOf (list-leaves bs)
+  pub call-stops : (query : Register → Reply) (slice : List ℕ) (k x : ℕ) (v : ℤ) → s ≡ stopped k x → v ≡ negℤ (pos x) → returned slice v ≡ fromC query bs slice
+  unfolding fromC returnsRefusal
+  call-stops query slice k x v f g = rw (sym left-stop ∙ f, fromC, g)
 
-  left-tables : t ≡ tablesOf ((growList bs) .register)
-  unfolding buildOf
-  left-tables = ap (λ (g : Build). g .tables) left
+  pub call-searchable : Searchable (t .ends) (t .lengths) (c .edges) × (c .vertices ≤ maxVertices)
+  call-searchable = held-searchable t c ((growList bs) .register) left-register
 
-  left-answer : a ≡ stopIn (countsOf ((growList bs) .register)) (read ((growList bs) .stop))
-  unfolding buildOf
-  left-answer = ap (λ (g : Build). g .answer) left
-
-  pub call-stops : (query : Register → Reply) (slice : List ℕ) (x : ℕ) (v : ℤ) → a ≡ stoppedIn x → v ≡ negℤ (pos x) → returned slice v ≡ fromC query bs slice
-  unfolding fromC returnsRefusal stopIn
-  call-stops query slice x v f g = go ((growList bs) .stop) refl
-    where
-      go : (s : Stop) → (growList bs) .stop ≡ s → returned slice v ≡ fromC query bs slice
-      go whole q =
-          let w : stoppedIn x ≡ stopIn (countsOf ((growList bs) .register)) (read whole) = sym f ∙ left-answer ∙ rw q in
-          absurd (subst Whole? (sym w) tt)
-      go (stopped k y) q =
-          let u : stoppedIn x ≡ stopIn (countsOf ((growList bs) .register)) (read (stopped k y)) = sym f ∙ left-answer ∙ rw q in
-          let w : x ≡ y = ap stopNumber u in
-          rw (q, fromC) (rw (← w, g))
-
-  -- a whole list leaves tables and counts of its register
-  left-whole : (c : Counts) → a ≡ wholeIn c → ((growList bs) .stop ≡ whole) × Represents t c ((growList bs) .register)
-  unfolding stopIn
-  left-whole c f = go ((growList bs) .stop) refl
-    where
-      r : Register
-      r = (growList bs) .register
-
-      go : (s : Stop) → (growList bs) .stop ≡ s → ((growList bs) .stop ≡ whole) × Represents t c r
-      go whole q =
-          let w : wholeIn c ≡ stopIn (countsOf r) (read whole) = sym f ∙ left-answer ∙ rw q in
-          (q, record { reachable = growList-grown bs; tables-are = sym left-tables; counts-are = sym (ap (countsOr c) w) })
-      go (stopped k y) q =
-          let w : wholeIn c ≡ stopIn (countsOf r) (read (stopped k y)) = sym f ∙ left-answer ∙ rw q in
-          absurd (subst Whole? w tt)
-
-  pub call-searchable : (c : Counts) → a ≡ wholeIn c → Searchable (t .ends) (t .lengths) (c .edges) × (c .vertices ≤ maxVertices)
-  call-searchable c f = held-searchable t c ((growList bs) .register) (left-whole c f .1)
-
-  pub call-answers : (query : Register → Reply) (slice : List ℕ) (c : Counts) (z : Returned) → a ≡ wholeIn c
+  pub call-answers : (query : Register → Reply) (slice : List ℕ) (z : Returned) → s ≡ whole
       → ((r : Register) → Represents t c r → z ≡ returnsReply r slice (query r)) → z ≡ fromC query bs slice
   unfolding fromC
-  call-answers query slice c z f all = rw (left-whole c f .0, fromC) (all ((growList bs) .register) (left-whole c f .1))
+  call-answers query slice z f all = rw (sym left-stop ∙ f, fromC) (all ((growList bs) .register) left-register)
 
 -- ---- the four queries
 

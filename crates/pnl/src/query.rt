@@ -5,12 +5,12 @@ use crate::answers::answer_reached;
 use crate::answers::refused;
 use crate::checked::measure_checked;
 use crate::checked::reach_checked;
-use crate::growing::Built;
 use crate::growing::grow_tables;
 use crate::sheet::answer_sheet;
 use counters::counts::Counts;
 use counters::numbers::Label;
 use lookups::find::find_in;
+use register::records::Stop;
 ghost use mathlib.Core.Path.{_≡_};
 ghost use Prim.Native.Nat.{_≤_};
 ghost use Rattle.model.specs.Basics.{maxVertices};
@@ -71,7 +71,7 @@ pub fn answer_call(list: &[u8], query: Query, answer: &mut [u8]) -> i32
     let mut ends = [0u16; 8192];
     let mut lengths = [0u32; 4096];
     let mut labels = [0u32; 4096];
-    let grown = grow_tables(
+    let reading = grow_tables(
         &mut degrees,
         &mut sides,
         &mut ends,
@@ -79,8 +79,10 @@ pub fn answer_call(list: &[u8], query: Query, answer: &mut [u8]) -> i32
         &mut labels,
         list,
     );
-    match grown {
-        Built::Whole(counts) => answer_query(
+    let counts = reading.counts;
+    let stop = reading.stop;
+    match stop {
+        Stop::Whole => answer_query(
             answer,
             &degrees,
             &sides,
@@ -90,6 +92,6 @@ pub fn answer_call(list: &[u8], query: Query, answer: &mut [u8]) -> i32
             counts,
             query,
         ),
-        Built::Stopped(refusal) => refused(refusal),
+        Stop::Stopped(record, refusal) => refused(refusal),
     }
 }

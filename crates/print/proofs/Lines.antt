@@ -2,19 +2,18 @@
 use mathlib.Core.Path.{_≡_, refl, sym, ap, _∙_}
 use Prim.Native.Nat.{ℕ, _+_, _*_, _≤_, _<_}
 use native.Mathlib.Omega.{arith}
-use mathlib.Core.Bool.{Bool, true, false}
+use mathlib.Core.Bool.{true, false}
 use mathlib.Core.List.{List, [], _∷_, _++_, append-nil, append-assoc}
 use lib.ListN.{length, length-append}
 use Rattle.model.specs.Printing.{ascii, decimal, spaced, line, lines, stopLine}
-use Rattle.model.specs.Queries.{read}
 use Rattle.model.specs.Format.{stopped}
 use Rattle.model.specs.Tables.{Tables}
 use Rattle.queries.specs.Chains.{isNameIn, rowIn, rowsIn}
+use Rattle.queries.proofs.RowLaws.{rows-append}
 use Rattle.text.specs.Pages.{Page, write}
 use Rattle.text.proofs.Pieces.{Pieces}
 use Rattle.text.proofs.Writing.{write-two, write-at}
 use Rattle.text.proofs.Decimal.{Small, decimal-length, line-length}
-use Rattle.print.specs.Listing.{replyLine}
 
 lines-append : (xs ys : List (List ℕ)) → lines (xs ++ ys) ≡ lines xs ++ lines ys
 unfolding lines
@@ -22,14 +21,6 @@ lines-append [] ys = refl
 lines-append (x ∷ xs) ys = rw (lines-append xs ys) (sym (append-assoc (line x) (lines xs) (lines ys)))
 
 module _ (t : Tables) (n : ℕ) where
-  rows-cons : (e : ℕ) (es : List ℕ) → rowsIn t n (e ∷ es) ≡ rowsIn t n (e ∷ []) ++ rowsIn t n es
-  unfolding rowsIn
-  rows-cons e es = go (isNameIn t n e) refl
-    where
-      go : (b : Bool) → isNameIn t n e ≡ b → rowsIn t n (e ∷ es) ≡ rowsIn t n (e ∷ []) ++ rowsIn t n es
-      go true q = rw (q, rowsIn)
-      go false q = rw (q, rowsIn)
-
   -- the lines of edges, piece by piece
   abbrev pub rowLines : List ℕ → List ℕ
   rowLines es = lines (rowsIn t n es)
@@ -38,7 +29,7 @@ module _ (t : Tables) (n : ℕ) where
   unfolding rowsIn lines
   row-lines = record {
     none = refl;
-    first = λ e es. ap lines (rows-cons e es) ∙ lines-append (rowsIn t n (e ∷ [])) (rowsIn t n es);
+    first = λ e es. ap lines (rows-append t n (e ∷ []) es) ∙ lines-append (rowsIn t n (e ∷ [])) (rowsIn t n es);
   }
 
   -- an edge that names no chain, and one that does
@@ -59,8 +50,8 @@ line-at n ns p q s e =
 
 -- a stop: the word, then its two numbers
 pub stop-line : (k x : ℕ) (word : List ℕ) (p q r : Page) → word ≡ ascii "stopped " → q ≡ write word p → r ≡ write (line (k ∷ x ∷ [])) q
-    → r ≡ write (replyLine (read (stopped k x))) p
-unfolding replyLine stopLine
+    → r ≡ write (stopLine (stopped k x)) p
+unfolding stopLine
 stop-line k x word p q r w e f = rw (← w) (write-two word (line (k ∷ x ∷ [])) p q r e f)
 
 pub stop-at : (k x : ℕ) (word : List ℕ) (p q r : Page) → length word ≡ 8 → k < 18446744073709551616 → x < 4294967296 → q ≡ write word p → r ≡ write (line (k ∷ x ∷ [])) q

@@ -8,10 +8,9 @@ use lib.Seq.{length-take-le}
 use borrow.Author.Tests.{lt-ltb, le-ltb}
 use Rattle.model.specs.Basics.{upTo}
 use Rattle.model.specs.Register.{Register}
-use Rattle.model.specs.Format.{Read, growList}
-use Rattle.model.specs.Queries.{Reply, read}
+use Rattle.model.specs.Format.{Read, Stop, growList}
 use Rattle.model.specs.Tables.{Tables, Counts, tablesOf, countsOf, cleared, noCounts}
-use Rattle.model.specs.Printing.{ascii, line, lines, listing, printed}
+use Rattle.model.specs.Printing.{ascii, line, lines, listing, printed, stopLine}
 use Rattle.queries.specs.Chains.{rowsIn, sheetIn}
 use Rattle.agreement.proofs.Growing.{Grown, room}
 use Rattle.agreement.proofs.Sheeting.{sheet-agrees}
@@ -21,20 +20,20 @@ use Rattle.register.proofs.Grown.{list-leaves, growList-grown}
 use Rattle.io.specs.Counts.{Counts as Counted}
 use Rattle.text.specs.Pages.{Page, page, write}
 use Rattle.text.proofs.Writing.{write-two, write-at, write-fits, write-room}
-use Rattle.print.specs.Listing.{replyLine, listingIn}
+use Rattle.print.specs.Listing.{listingIn}
 
 -- the four numbers, the sheet and the stop, one after the other
-pub listing-parts : (t : Tables) (c : Counts) (a : Reply) (k : ℕ) (p q r s : Page) → k ≡ length (rowsIn t (c .edges) (upTo (c .edges)))
+pub listing-parts : (t : Tables) (c : Counts) (a : Stop) (k : ℕ) (p q r s : Page) → k ≡ length (rowsIn t (c .edges) (upTo (c .edges)))
     → q ≡ write (line (c .vertices ∷ c .edges ∷ k ∷ c .relabellings ∷ [])) p → r ≡ write (lines (rowsIn t (c .edges) (upTo (c .edges)))) q
-    → s ≡ write (replyLine a) r → s ≡ write (listingIn t c a) p
+    → s ≡ write (stopLine a) r → s ≡ write (listingIn t c a) p
 unfolding listingIn sheetIn
 listing-parts t c a k p q r s n e f g =
     let head : q ≡ write (line (c .vertices ∷ c .edges ∷ length (rowsIn t (c .edges) (upTo (c .edges))) ∷ c .relabellings ∷ [])) p = rw (← n) e in
-    write-two _ (replyLine a) p r s (write-two _ _ p q r head f) g
+    write-two _ (stopLine a) p r s (write-two _ _ p q r head f) g
 
 -- the listing of the tables is that of the register
-listing-is : (d : Read) → Grown (d .register) → listingIn (tablesOf (d .register)) (countsOf (d .register)) (read (d .stop)) ≡ listing d
-unfolding listingIn listing replyLine countsOf
+listing-is : (d : Read) → Grown (d .register) → listingIn (tablesOf (d .register)) (countsOf (d .register)) (d .stop) ≡ listing d
+unfolding listingIn listing countsOf
 listing-is d g = rw (sheet-agrees (d .register) g)
 
 -- what a page holds that ends before the end of its slice
@@ -65,13 +64,13 @@ unfolding printed
 printed-short bs h = rw (le-ltb 65536 (length bs) h)
 
 pub prints : (bs out : List ℕ) (d : ReadIn) (c : Counts) (q : Page) → length bs ≤ 65536 → 262144 ≤ length out → c ≡ noCounts
-    → d ≡ landListIn cleared c bs → q ≡ write (listingIn (d .tables) (d .counts) (d .reply)) (page out 0) → q .at ≤ 104 + 55 * d .counts .edges
+    → d ≡ landListIn cleared c bs → q ≡ write (listingIn (d .tables) (d .counts) (d .stop)) (page out 0) → q .at ≤ 104 + 55 * d .counts .edges
     → Counted (q .at) (q .bytes) × (take (q .at) (q .bytes) ≡ printed bs)
 prints bs out d c q h l n e f b =
     let g : Grown ((growList bs) .register) = growList-grown bs in
     let i : d ≡ readIn (growList bs) = e ∙ ap (λ (k : Counts). landListIn cleared k bs) n ∙ list-leaves bs in
     let k : d .counts .edges ≡ (countsOf ((growList bs) .register)) .edges = ap (λ (z : ReadIn). z .counts .edges) i in
     let few : q .at ≤ 225384 = omega (arith, k, edges-few ((growList bs) .register) g) in
-    let x : listingIn (d .tables) (d .counts) (d .reply) ≡ listing (growList bs) =
-    ap (λ (z : ReadIn). listingIn (z .tables) (z .counts) (z .reply)) i ∙ listing-is (growList bs) g in
+    let x : listingIn (d .tables) (d .counts) (d .stop) ≡ listing (growList bs) =
+    ap (λ (z : ReadIn). listingIn (z .tables) (z .counts) (z .stop)) i ∙ listing-is (growList bs) g in
     page-holds _ (printed bs) out q f (omega arith) (x ∙ printed-short bs h)

@@ -1,9 +1,9 @@
 // The bytes that the printing program prints, built in a lent slice.
-use counters::answers::ListAnswer;
 use counters::counts::Counts;
 use queries::names::is_name;
 use queries::rows::count_rows;
 use queries::rows::row_at;
+use register::records::Stop;
 use register::records::land_list;
 use text::lines::put_line2;
 use text::lines::put_line4;
@@ -14,13 +14,14 @@ ghost use mathlib.Core.List.{List, [], _∷_};
 ghost use Prim.Native.Nat.{ℕ, _+_, _*_, _≤_};
 ghost use lib.ListN.{length, take};
 ghost use Rattle.model.specs.Basics.{upTo};
-ghost use Rattle.model.specs.Printing.{lines, printed};
-ghost use Rattle.counters.specs.Answers.{countsIn, listReply};
+ghost use Rattle.model.specs.Printing.{lines, printed, stopLine};
+ghost use Rattle.counters.specs.Answers.{countsIn};
 ghost use Rattle.tables.specs.Steps.{tables};
 ghost use Rattle.queries.specs.Chains.{rowsIn};
+ghost use Rattle.register.specs.Meaning.{stopMeans};
 ghost use Rattle.io.specs.Counts.{Counts as Counted};
 ghost use Rattle.text.specs.Pages.{page, write};
-ghost use Rattle.print.specs.Listing.{replyLine, listingIn};
+ghost use Rattle.print.specs.Listing.{listingIn};
 
 // The line of edge's chain, if edge is its name.
 fn put_chain(
@@ -82,18 +83,17 @@ fn put_sheet(
     next
 }
 
-// A list that is landed on tables of the program's own is never refused as a whole: nothing is printed for that.
-fn put_stop(out: &mut [u8], at: usize, answer: ListAnswer) -> usize
-    ensures { λ r. ⌜ (page (now (out .exit)) r ≡ write (replyLine (listReply answer)) (page (now (out .entry)) at)) × (r ≤ at + 60) ⌝ }
+// The line of a list that stopped.
+fn put_stop(out: &mut [u8], at: usize, stop: Stop) -> usize
+    ensures { λ r. ⌜ (page (now (out .exit)) r ≡ write (stopLine (stopMeans stop)) (page (now (out .entry)) at)) × (r ≤ at + 60) ⌝ }
 {
-    match answer {
-        ListAnswer::Whole => at,
-        ListAnswer::Stopped(record, refusal) => {
+    match stop {
+        Stop::Whole => at,
+        Stop::Stopped(record, refusal) => {
             let number = refusal.number();
             let next = put_text(out, at, b"stopped ");
             put_line2(out, next, record as u64, number as u64)
         }
-        ListAnswer::Refused(refusal) => at,
     }
 }
 
@@ -105,10 +105,10 @@ fn put_listing(
     ends: &[u16],
     lengths: &[u32],
     counts: Counts,
-    answer: ListAnswer,
+    stop: Stop,
 ) -> usize
     ensures { λ r. ⌜ ((labels : List ℕ) → page (now (out .exit)) r
-        ≡ write (listingIn (tables (now (degrees .entry)) (now (sides .entry)) (now (ends .entry)) (now (lengths .entry)) labels) (countsIn counts) (listReply answer))
+        ≡ write (listingIn (tables (now (degrees .entry)) (now (sides .entry)) (now (ends .entry)) (now (lengths .entry)) labels) (countsIn counts) (stopMeans stop))
         (page (now (out .entry)) 0)) × (r ≤ 104 + 55 * counts .edges) ⌝ }
 {
     let vertices = counts.vertices;
@@ -123,8 +123,8 @@ fn put_listing(
         chains as u64,
         relabellings as u64,
     );
-    let stop = put_sheet(out, sheet, degrees, sides, ends, lengths, edges);
-    put_stop(out, stop, answer)
+    let next = put_sheet(out, sheet, degrees, sides, ends, lengths, edges);
+    put_stop(out, next, stop)
 }
 
 // What the program prints for the bytes that it read. The slice has room for any listing: 4,096 lines of at most 55 bytes, the four
@@ -141,7 +141,7 @@ pub fn print_list(list: &[u8], out: &mut [u8]) -> usize
     let mut ends = [0u16; 8192];
     let mut lengths = [0u32; 4096];
     let mut labels = [0u32; 4096];
-    let landing = land_list(
+    let reading = land_list(
         &mut degrees,
         &mut sides,
         &mut ends,
@@ -150,7 +150,7 @@ pub fn print_list(list: &[u8], out: &mut [u8]) -> usize
         Counts::none(),
         list,
     );
-    let counts = landing.counts;
-    let answer = landing.answer;
-    put_listing(out, &degrees, &sides, &ends, &lengths, counts, answer)
+    let counts = reading.counts;
+    let stop = reading.stop;
+    put_listing(out, &degrees, &sides, &ends, &lengths, counts, stop)
 }

@@ -5,7 +5,6 @@ use lib.ListN.{length}
 use lib.Dec.{leb}
 use Rattle.model.specs.Basics.{if_then_else_, maxVertices}
 use Rattle.model.specs.Format.{Stop, whole, stopped}
-use Rattle.model.specs.Queries.{Reply, read}
 use Rattle.model.specs.Tables.{Tables, Counts}
 use Rattle.tables.specs.Steps.{more16}
 use Rattle.insertion.specs.Insertion.{AnswerIn, done, refusedIn, counts, landIn}
@@ -41,14 +40,14 @@ landRecordIn t c (vertexTo i) = steppedIn t (stepOf i (landVertexIn c))
 landRecordIn t c (edgeTo e i) = let l = landIn t c e in steppedIn (l .tables) (stepOf i (l .answer))
 landRecordIn t c (badRecord x) = steppedIn t (stoppedIn x)
 
--- the tables and counts that a list leaves, and its answer
+-- the tables and counts that a list leaves, and how far it was landed
 pub record ReadIn : Type 0 where
   pub tables : Tables
   pub counts : Counts
-  pub reply : Reply
+  pub stop : Stop
 
 abbrev pub readingIn : Tables → Counts → Stop → ReadIn
-readingIn t c s = record { tables = t; counts = c; reply = read s }
+readingIn t c s = record { tables = t; counts = c; stop = s }
 
 -- the records from number k on, which stands at index i; at most n
 unfoldable pub landRecordsIn : List ℕ → ℕ → ℕ → Tables → Counts → ℕ → ReadIn

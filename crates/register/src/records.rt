@@ -1,5 +1,4 @@
 // A list landed on the tables, record by record.
-use counters::answers::ListAnswer;
 use counters::counts::Counts;
 use counters::numbers::MAX_VERTICES;
 use counters::refusals::Refusal;
@@ -18,7 +17,7 @@ ghost use Rattle.tables.specs.Steps.{tables};
 ghost use Rattle.insertion.specs.Meaning.{answerIn};
 ghost use Rattle.list.specs.Reading.{recordAt};
 ghost use Rattle.register.specs.Listing.{landVertexIn, stepOf, steppedIn, landRecordIn, landRecordsIn, landListIn};
-ghost use Rattle.register.specs.Meaning.{stepMeans, landingMeans};
+ghost use Rattle.register.specs.Meaning.{stepMeans, readingMeans};
 
 // What stands behind a record: the end of the list; the counts and the next record; or the record's refusal.
 pub enum Step {
@@ -27,10 +26,16 @@ pub enum Step {
     Refused(Refusal),
 }
 
-// The counts that a list leaves, and its answer.
-pub struct Landing {
+// How far a list was landed: whole, or up to a record (from 0) that was refused.
+pub enum Stop {
+    Whole,
+    Stopped(usize, Refusal),
+}
+
+// The counts that a list leaves, and how far it was landed.
+pub struct Reading {
     pub counts: Counts,
-    pub answer: ListAnswer,
+    pub stop: Stop,
 }
 
 pub fn land_vertex(counts: Counts) -> Inserted
@@ -103,8 +108,8 @@ pub fn land_records(
     counts: Counts,
     list: &[u8],
     from: Cursor,
-) -> Landing
-    ensures { λ r. ⌜ landingMeans (tables (now (degrees .exit)) (now (sides .exit)) (now (ends .exit)) (now (lengths .exit)) (now (labels .exit))) r
+) -> Reading
+    ensures { λ r. ⌜ readingMeans (tables (now (degrees .exit)) (now (sides .exit)) (now (ends .exit)) (now (lengths .exit)) (now (labels .exit))) r
         ≡ landRecordsIn (now (list .entry)) (length (now (list .entry))) 0
         (tables (now (degrees .entry)) (now (sides .entry)) (now (ends .entry)) (now (lengths .entry)) (now (labels .entry)))
         (countsIn counts) (from .at) ⌝ }
@@ -117,9 +122,9 @@ pub fn land_records(
         let step = land_record(degrees, sides, ends, lengths, labels, sofar, list, at);
         match step {
             Step::End => {
-                return Landing {
+                return Reading {
                     counts: sofar,
-                    answer: ListAnswer::Whole,
+                    stop: Stop::Whole,
                 };
             }
             Step::Landed(next_counts, next) => {
@@ -127,18 +132,18 @@ pub fn land_records(
                 at = next;
             }
             Step::Refused(refusal) => {
-                return Landing {
+                return Reading {
                     counts: sofar,
-                    answer: ListAnswer::Stopped(number, refusal),
+                    stop: Stop::Stopped(number, refusal),
                 };
             }
         }
         number += 1;
         left -= 1;
     }
-    Landing {
+    Reading {
         counts: sofar,
-        answer: ListAnswer::Whole,
+        stop: Stop::Whole,
     }
 }
 
@@ -151,8 +156,8 @@ pub fn land_list(
     labels: &mut [u32],
     counts: Counts,
     list: &[u8],
-) -> Landing
-    ensures { λ r. ⌜ landingMeans (tables (now (degrees .exit)) (now (sides .exit)) (now (ends .exit)) (now (lengths .exit)) (now (labels .exit))) r
+) -> Reading
+    ensures { λ r. ⌜ readingMeans (tables (now (degrees .exit)) (now (sides .exit)) (now (ends .exit)) (now (lengths .exit)) (now (labels .exit))) r
         ≡ landListIn (tables (now (degrees .entry)) (now (sides .entry)) (now (ends .entry)) (now (lengths .entry)) (now (labels .entry)))
         (countsIn counts) (now (list .entry)) ⌝ }
 {
@@ -168,9 +173,9 @@ pub fn land_list(
             list,
             from,
         ),
-        Header::Refused(refusal) => Landing {
+        Header::Refused(refusal) => Reading {
             counts,
-            answer: ListAnswer::Stopped(0, refusal),
+            stop: Stop::Stopped(0, refusal),
         },
     }
 }

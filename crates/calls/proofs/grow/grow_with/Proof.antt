@@ -1,10 +1,12 @@
-use mathlib.Core.Path.{_∙_}
-use borrow.Author.Tests.{not-true, not-false}
 use Rattle.calls.proofs.CallLaws.{grow-refused, grow-done}
+use borrow.Author.Tests.{not-true, not-false}
+use mathlib.Core.Path.{_∙_}
 use borrow.Author.Needs.{needs}
 use Rattle.calls.proofs.grow.grow_with.Statement.{statement}
 use Rattle.calls.proofs.grow.grow_with.Tie as tie
+use Rattle.calls.proofs.grow.grow_with.Reads as reads
 use Rattle.admission.proofs.gate.clear_if_fit.Reads as clear-if-fit-reads
+use Rattle.calls.proofs.landing.landing_of.Reads as landing-of-reads
 use Rattle.counters.proofs.counts.Counts.none.Reads as none-reads
 use Rattle.register.proofs.records.land_list.Reads as land-list-reads
 
@@ -52,50 +54,69 @@ none-requires c κs = search needs
 land-list-requires : tie.Need-land-list-requires
 land-list-requires c κs = search needs
 
+landing-of-requires : tie.Need-landing-of-requires
+landing-of-requires c κs = search needs
+
 same-length-11 : tie.Need-same-length-11
 same-length-11 c =
-    let at-land-list = c .before .before .before .before .before .before .before .before .before .before in
+    let at-land-list = c .before .before .before .before .before .before .before .before .before .before .before in
     let at-clear-if-fit = at-land-list .before .before .before .before .before .before .before .before .before .before .before .before .before .before .before .before .before .before .before .before .before .before .before .before .before .before .before .before in
     at-land-list .land-list .kept .0 ∙ at-clear-if-fit .clear-if-fit .kept .0
 
 same-length-12 : tie.Need-same-length-12
 same-length-12 c =
-    let at-land-list = c .before .before .before .before .before .before .before .before .before .before in
+    let at-land-list = c .before .before .before .before .before .before .before .before .before .before .before in
     let at-clear-if-fit = at-land-list .before .before .before .before .before .before .before .before .before .before .before .before .before .before .before .before .before .before .before .before .before .before .before .before .before .before .before .before in
     at-land-list .land-list .kept .1 .0 ∙ at-clear-if-fit .clear-if-fit .kept .1 .0
 
 same-length-13 : tie.Need-same-length-13
-same-length-13 c = search needs
+same-length-13 c =
+    let at-land-list = c .before .before .before .before .before .before .before .before .before .before .before in
+    let at-clear-if-fit = at-land-list .before .before .before .before .before .before .before .before .before .before .before .before .before .before .before .before .before .before .before .before .before .before .before .before .before .before .before .before in
+    at-land-list .land-list .kept .1 .1 .0 ∙ at-clear-if-fit .clear-if-fit .kept .1 .1 .0
 
 same-length-14 : tie.Need-same-length-14
-same-length-14 c = search needs
+same-length-14 c =
+    let at-land-list = c .before .before .before .before .before .before .before .before .before .before .before in
+    let at-clear-if-fit = at-land-list .before .before .before .before .before .before .before .before .before .before .before .before .before .before .before .before .before .before .before .before .before .before .before .before .before .before .before .before in
+    at-land-list .land-list .kept .1 .1 .1 .0 ∙ at-clear-if-fit .clear-if-fit .kept .1 .1 .1 .0
 
 same-length-15 : tie.Need-same-length-15
-same-length-15 c = search needs
+same-length-15 c =
+    let at-land-list = c .before .before .before .before .before .before .before .before .before .before .before in
+    let at-clear-if-fit = at-land-list .before .before .before .before .before .before .before .before .before .before .before .before .before .before .before .before .before .before .before .before .before .before .before .before .before .before .before .before in
+    at-land-list .land-list .kept .1 .1 .1 .1 .0 ∙ at-clear-if-fit .clear-if-fit .kept .1 .1 .1 .1 .0
 
 same-length-16 : tie.Need-same-length-16
-same-length-16 c = search needs
+same-length-16 c =
+    let at-clear-if-fit = c .before .before .before .before .before .before .before .before .before .before .before .before .before .before .before .before .before .before .before .before .before .before .before .before .before .before .before .before .before .before .before .before .before .before .before .before .before .before .before in
+    at-clear-if-fit .clear-if-fit .kept .1 .1 .1 .1 .1 .0
 
 same-length-17 : tie.Need-same-length-17
-same-length-17 c = search needs
+same-length-17 c =
+    let at-clear-if-fit = c .before .before .before .before .before .before .before .before .before .before .before .before .before .before .before .before .before .before .before .before .before .before .before .before .before .before .before .before .before .before .before .before .before .before .before .before .before .before .before in
+    at-clear-if-fit .clear-if-fit .kept .1 .1 .1 .1 .1 .1 .0
 
 same-length-18 : tie.Need-same-length-18
-same-length-18 c = search needs
+same-length-18 c =
+    let at-clear-if-fit = c .before .before .before .before .before .before .before .before .before .before .before .before .before .before .before .before .before .before .before .before .before .before .before .before .before .before .before .before .before .before .before .before .before .before .before .before .before .before .before in
+    at-clear-if-fit .clear-if-fit .kept .1 .1 .1 .1 .1 .1 .1 .0
 
 same-length-19 : tie.Need-same-length-19
-same-length-19 c = search needs
+same-length-19 c =
+    let at-clear-if-fit = c .before .before .before .before .before .before .before .before .before .before .before .before .before .before .before .before .before .before .before .before .before .before .before .before .before .before .before .before .before .before .before .before .before .before .before .before .before .before .before in
+    at-clear-if-fit .clear-if-fit .kept .1 .1 .1 .1 .1 .1 .1 .1 .0
 
 same-length-20 : tie.Need-same-length-20
 same-length-20 c = search needs
 
 returns-2 : tie.Need-returns-2
 returns-2 c =
-    let at-land-list = c .before .before .before .before .before .before .before .before .before .before in
+    let at-land-list = c .before .before .before .before .before .before .before .before .before .before .before in
     let at-none = at-land-list .before in
     let at-if1 = at-none .before .before .before .before .before .before in
     let at-clear-if-fit = at-if1 .before .before .before .before .before .before .before .before .before .before .before .before .before .before .before .before .before .before .before .before .before in
-    let e = at-clear-if-fit .clear-if-fit .ensures in
-    grow-done _ _ _ _ _ _ _ _ _ (e .0) (e .1) (e .2) (not-false _ (at-if1 .if1 .left)) (at-none .none .ensures) (at-land-list .land-list .ensures)
+    let e = at-clear-if-fit .clear-if-fit .ensures in grow-done _ _ _ _ _ _ _ _ _ _ _ (e .0) (e .1) (e .2) (not-false _ (at-if1 .if1 .left)) (at-none .none .ensures) (at-land-list .land-list .ensures) (c .landing-of .ensures)
 
 pub grow-with-spec : {M : Type 1} → statement M
 grow-with-spec =
@@ -115,6 +136,7 @@ grow-with-spec =
     returns
     none-requires
     land-list-requires
+    landing-of-requires
     same-length-11
     same-length-12
     same-length-13

@@ -1,10 +1,12 @@
-use mathlib.Core.Path.{sym, ap, _∙_}
-use Rattle.admission.specs.Gate.{gateRefusal}
 use Rattle.calls.proofs.CallLaws.{land-refused, land-done}
+use Rattle.admission.specs.Gate.{gateRefusal}
+use mathlib.Core.Path.{sym, ap, _∙_}
 use borrow.Author.Needs.{needs}
 use Rattle.calls.proofs.land.land_with.Statement.{statement}
 use Rattle.calls.proofs.land.land_with.Tie as tie
+use Rattle.calls.proofs.land.land_with.Reads as reads
 use Rattle.admission.proofs.gate.pass_gate.Reads as pass-gate-reads
+use Rattle.calls.proofs.landing.landing_of.Reads as landing-of-reads
 use Rattle.register.proofs.records.land_list.Reads as land-list-reads
 
 pass-gate-requires : tie.Need-pass-gate-requires
@@ -15,6 +17,9 @@ enum-told c = search needs
 
 land-list-requires : tie.Need-land-list-requires
 land-list-requires c κs = search needs
+
+landing-of-requires : tie.Need-landing-of-requires
+landing-of-requires c κs = search needs
 
 enum-known-passed : tie.Need-enum-known-passed
 enum-known-passed c = search needs
@@ -35,7 +40,9 @@ same-length-5 : tie.Need-same-length-5
 same-length-5 c = search needs
 
 same-length-6 : tie.Need-same-length-6
-same-length-6 c = search needs
+same-length-6 c =
+    let at-pass-gate = c .before .before .before .before .before .before .before .before .before .before .before .before .before .before .before .before .before .before .before .before .before .before .before .before .before .before .before .before .before in
+    at-pass-gate .pass-gate .kept .1 .1 .1 .1 .1 .1 .0
 
 same-length-7 : tie.Need-same-length-7
 same-length-7 c = search needs
@@ -51,10 +58,10 @@ same-length-10 c = search needs
 
 returns : tie.Need-returns
 returns c =
-    let at-land-list = c .before .before .before .before .before .before .before .before .before .before in
+    let at-land-list = c .before .before .before .before .before .before .before .before .before .before .before in
     let at-enum-told = at-land-list .before .before .before .before .before .before in
     let at-pass-gate = at-enum-told .before .before .before .before .before .before .before .before .before .before .before .before in
-    land-done _ _ _ _ _ _ (ap gateRefusal (sym (at-enum-told .enum-told .given .1)) ∙ at-pass-gate .pass-gate .ensures .0) (at-pass-gate .pass-gate .ensures .1) (at-land-list .land-list .ensures)
+    land-done _ _ _ _ _ _ _ _ (ap gateRefusal (sym (at-enum-told .enum-told .given .1)) ∙ at-pass-gate .pass-gate .ensures .0) (at-pass-gate .pass-gate .ensures .1) (at-land-list .land-list .ensures) (c .landing-of .ensures)
 
 same-length-11 : tie.Need-same-length-11
 same-length-11 c = search needs
@@ -98,6 +105,7 @@ land-with-spec =
     pass-gate-requires
     enum-told
     land-list-requires
+    landing-of-requires
     enum-known-passed
     same-length
     same-length-2

@@ -9,29 +9,23 @@ use Rattle.pnl.proofs.checked.measure_checked.Reads as reads
 use Rattle.counters.proofs.numbers.Vertex.new.Reads as new-reads
 use Rattle.pnl.proofs.checked.measure_to.Reads as measure-to-reads
 
--- src/checked.rt:58:9
 new-requires : tie.Need-new-requires
 new-requires c κs = search needs
 
--- src/checked.rt:60:27
 enum-known-checked : tie.Need-enum-known-checked
 enum-known-checked c = search needs
 
--- src/checked.rt:60:33
 measure-to-requires : tie.Need-measure-to-requires
 measure-to-requires c κs = search needs
 
--- src/checked.rt:61:54
 enum-told : tie.Need-enum-told
 enum-told c = search needs
 
--- src/checked.rt:53:1
 returns : tie.Need-returns
 returns c =
     let at-new = c .before .before .before .before in
     λ degrees sides labels. rw (checked-is _ _ (ap vertexIn (sym (c .before .before .checked .given .1)) ∙ at-new .new .ensures)) at (c .measure-to .ensures degrees sides labels)
 
--- src/checked.rt:53:1
 returns-2 : tie.Need-returns-2
 returns-2 c =
     let at-pre = c .before .before .before .before .before in

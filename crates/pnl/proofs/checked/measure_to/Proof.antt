@@ -10,29 +10,23 @@ use Rattle.pnl.proofs.checked.measure_to.Reads as reads
 use Rattle.counters.proofs.numbers.Vertex.new.Reads as new-reads
 use Rattle.pnl.proofs.distances.distance_in.Reads as distance-in-reads
 
--- src/checked.rt:46:9
 new-requires : tie.Need-new-requires
 new-requires c κs = search needs
 
--- src/checked.rt:48:27
 enum-known-checked : tie.Need-enum-known-checked
 enum-known-checked c = search needs
 
--- src/checked.rt:48:33
 distance-in-requires : tie.Need-distance-in-requires
 distance-in-requires c κs = search needs
 
--- src/checked.rt:49:54
 enum-told : tie.Need-enum-told
 enum-told c = search needs
 
--- src/checked.rt:41:1
 returns : tie.Need-returns
 returns c =
     let at-new = c .before .before .before .before in
     λ degrees sides labels. c .distance-in .ensures degrees sides labels ∙ ap (measureIn _ _ _) (checked-is _ _ (ap vertexIn (sym (c .before .before .checked .given .1)) ∙ at-new .new .ensures))
 
--- src/checked.rt:41:1
 returns-2 : tie.Need-returns-2
 returns-2 c =
     let at-pre = c .before .before .before .before .before in

@@ -10,29 +10,23 @@ use Rattle.pnl.proofs.checked.reach_checked.Reads as reads
 use Rattle.counters.proofs.numbers.Vertex.new.Reads as new-reads
 use Rattle.lookups.proofs.reach.reach_in.Reads as reach-in-reads
 
--- src/checked.rt:33:9
 new-requires : tie.Need-new-requires
 new-requires c κs = search needs
 
--- src/checked.rt:35:27
 enum-known-checked : tie.Need-enum-known-checked
 enum-known-checked c = search needs
 
--- src/checked.rt:35:33
 reach-in-requires : tie.Need-reach-in-requires
 reach-in-requires c κs = search needs
 
--- src/checked.rt:36:53
 enum-told : tie.Need-enum-told
 enum-told c = search needs
 
--- src/checked.rt:21:1
 returns : tie.Need-returns
 returns c =
     let at-new = c .before .before .before .before in
     λ labels. c .reach-in .ensures labels ∙ ap (reachIn _ _) (checked-is _ _ (ap vertexIn (sym (c .before .before .checked .given .1)) ∙ at-new .new .ensures))
 
--- src/checked.rt:21:1
 returns-2 : tie.Need-returns-2
 returns-2 c =
     let at-pre = c .before .before .before .before .before .before .before in

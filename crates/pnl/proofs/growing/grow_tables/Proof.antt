@@ -2,8 +2,8 @@ use Rattle.pnl.proofs.CallLaws.{grow-law}
 use borrow.Author.Needs.{needs}
 use Rattle.pnl.proofs.growing.grow_tables.Statement.{statement}
 use Rattle.pnl.proofs.growing.grow_tables.Tie as tie
+use Rattle.pnl.proofs.growing.grow_tables.Reads as reads
 use Rattle.counters.proofs.counts.Counts.none.Reads as none-reads
-use Rattle.pnl.proofs.growing.stop_of.Reads as stop-of-reads
 use Rattle.register.proofs.records.land_list.Reads as land-list-reads
 
 none-requires : tie.Need-none-requires
@@ -11,9 +11,6 @@ none-requires c κs = search needs
 
 land-list-requires : tie.Need-land-list-requires
 land-list-requires c κs = search needs
-
-stop-of-requires : tie.Need-stop-of-requires
-stop-of-requires c κs = search needs
 
 same-length : tie.Need-same-length
 same-length c = search needs
@@ -32,9 +29,9 @@ same-length-5 c = search needs
 
 returns : tie.Need-returns
 returns c =
-    let at-land-list = c .before .before .before .before .before .before .before .before .before .before .before .before in
+    let at-land-list = c .before .before .before .before .before .before .before .before .before .before in
     let at-none = at-land-list .before in
-    grow-law _ _ _ _ _ (at-none .none .ensures) (at-land-list .land-list .ensures) (c .stop-of .ensures)
+    grow-law _ _ _ _ (at-none .none .ensures) (at-land-list .land-list .ensures)
 
 pub grow-tables-spec : {M : Type 1} → statement M
 grow-tables-spec =
@@ -42,7 +39,6 @@ grow-tables-spec =
     (tie.spec
     none-requires
     land-list-requires
-    stop-of-requires
     same-length
     same-length-2
     same-length-3

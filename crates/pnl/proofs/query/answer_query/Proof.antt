@@ -12,87 +12,68 @@ use Rattle.pnl.proofs.checked.measure_checked.Reads as measure-checked-
 use Rattle.pnl.proofs.checked.reach_checked.Reads as reach-checked-reads
 use Rattle.pnl.proofs.sheet.answer_sheet.Reads as answer-sheet-reads
 
--- src/query.rt:49:38
 enum-told : tie.Need-enum-told
 enum-told c = search needs
 
--- src/query.rt:49:25
 answer-sheet-requires : tie.Need-answer-sheet-requires
 answer-sheet-requires c κs = search needs
 
--- src/query.rt:50:21
 enum-known-query : tie.Need-enum-known-query
 enum-known-query c = search needs
 
--- src/query.rt:51:17
 find-in-requires : tie.Need-find-in-requires
 find-in-requires c κs = search needs
 
--- src/query.rt:52:13
 answer-found-requires : tie.Need-answer-found-requires
 answer-found-requires c κs = search needs
 
--- src/query.rt:54:22
 enum-known-query-2 : tie.Need-enum-known-query-2
 enum-known-query-2 c = search needs
 
--- src/query.rt:55:17
 reach-checked-requires : tie.Need-reach-checked-requires
 reach-checked-requires c κs = search needs
 
--- src/query.rt:56:13
 answer-reached-requires : tie.Need-answer-reached-requires
 answer-reached-requires c κs = search needs
 
--- src/query.rt:58:25
 enum-known-query-3 : tie.Need-enum-known-query-3
 enum-known-query-3 c = search needs
 
--- src/query.rt:59:17
 measure-checked-requires : tie.Need-measure-checked-requires
 measure-checked-requires c κs = search needs
 
--- src/query.rt:60:13
 answer-distance-requires : tie.Need-answer-distance-requires
 answer-distance-requires c κs = search needs
 
--- src/query.rt:33:1
 same-length : tie.Need-same-length
 same-length c = search needs
 
--- src/query.rt:33:1
 returns : tie.Need-returns
 returns c =
     let at-enum-told = c .before .before .before .before in
     λ register h. rw (at-enum-told .enum-told .given .1) (sheet-query _ _ _ _ _ _ register h _ _ (handed (c .before .before .answer-sheet .ok) (c .before .before .answer-sheet .ensures _)))
 
--- src/query.rt:33:1
 same-length-2 : tie.Need-same-length-2
 same-length-2 c = search needs
 
--- src/query.rt:33:1
 returns-2 : tie.Need-returns-2
 returns-2 c =
     let at-find-in = c .before .before .before .before in
     let at-query = at-find-in .before .before in
     λ register h. rw (at-query .query .given .1) (find-query _ _ _ _ _ _ register h _ _ _ _ (at-find-in .find-in .ensures _) (handed (c .before .before .answer-found .ok) (c .before .before .answer-found .ensures register)))
 
--- src/query.rt:33:1
 same-length-3 : tie.Need-same-length-3
 same-length-3 c = search needs
 
--- src/query.rt:33:1
 returns-3 : tie.Need-returns-3
 returns-3 c =
     let at-reach-checked = c .before .before .before .before in
     let at-query2 = at-reach-checked .before .before in
     λ register h. rw (at-query2 .query2 .given .1) (reach-query _ _ _ _ _ _ register h _ _ _ _ (at-reach-checked .reach-checked .ensures _) (handed (c .before .before .answer-reached .ok) (c .before .before .answer-reached .ensures register)))
 
--- src/query.rt:33:1
 same-length-4 : tie.Need-same-length-4
 same-length-4 c = search needs
 
--- src/query.rt:33:1
 returns-4 : tie.Need-returns-4
 returns-4 c =
     let at-measure-checked = c .before .before .before .before in
