@@ -13,6 +13,7 @@ use Rattle.model.specs.Basics.{maxEdges, maxLength, sum}
 use Rattle.model.specs.Graph.{Edge, Pass, afterOf, edgeAt, endOf, endOnwards, far, isRegular, lengthAt, lengthsOf, noEdge, onwards, turn, walk}
 use Rattle.model.specs.Register.{Register}
 use Rattle.model.specs.Tables.{Tables, edgeIn, tablesOf}
+use Rattle.model.specs.Notions.{Reachable}
 use Rattle.tables.specs.Steps.{farIn, sum32, tables, turnIn}
 use Rattle.queries.specs.Chains.{Walked, walkIn, walked}
 use Rattle.model.proofs.Walks.Degree.{end-first, end-second}
@@ -22,7 +23,7 @@ use Rattle.model.proofs.Walks.Ended.{Next, next-edge}
 use Rattle.model.proofs.Series.Held.{edge-read}
 use Rattle.agreement.proofs.Lockstep.{Shows, shows-regular, shows-singular, shows-turn}
 use Rattle.agreement.proofs.Tables.{far-is, shows}
-use Rattle.agreement.proofs.Growing.{Grown, landed-below, lawful, low-at, proper, room}
+use Rattle.agreement.proofs.Reached.{landed-below, lawful, low-at, proper, room}
 
 -- ---- what the tables say of an edge
 
@@ -30,7 +31,7 @@ pub length-is : (r : Register) (d : ℕ) → d < length (r .edges) → getD ((ta
 unfolding edgeIn lengthAt
 length-is r d h = ap (λ (e : Edge). e .len) (edge-read r d h)
 
-module _ (r : Register) (g : Grown r) where
+module _ (r : Register) (g : Reachable r) where
   -- an edge lies at its two ends
   pub at-first : (d : ℕ) → d < length (r .edges) → At (r .edges) ((edgeAt (r .edges) d) .first) d
   at-first d h = record { inside = h; meets = end-first (edgeAt (r .edges) d) (proper-at (r .edges) d (proper r g) h) }
@@ -59,7 +60,7 @@ pub record Step (r : Register) (d v : ℕ) : Type 0 where
   pub inside : turn (r .edges) d v < length (r .edges)
   pub at : At (r .edges) (far (r .edges) (turn (r .edges) d v) v) (turn (r .edges) d v)
 
-module _ (r : Register) (g : Grown r) (d v : ℕ) (a : At (r .edges) v d) where
+module _ (r : Register) (g : Reachable r) (d v : ℕ) (a : At (r .edges) v d) where
   grown-shows : Shows (r .edges) ((tablesOf r) .degrees) ((tablesOf r) .ends) ((tablesOf r) .sides) (r .lows)
   grown-shows = shows r (low-at r g) (landed-below r g)
 
@@ -100,12 +101,12 @@ sum-most es [] h = omega arith
 sum-most es (x ∷ xs) h = omega (arith, h x, sum-most es xs h)
 
 -- a walk of n steps
-walk-sum : (r : Register) → Grown r → (n d v : ℕ) → sum (lengthsOf (r .edges) (map afterOf (walk n (r .edges) d v))) ≤ maxLength * n
+walk-sum : (r : Register) → Reachable r → (n d v : ℕ) → sum (lengthsOf (r .edges) (map afterOf (walk n (r .edges) d v))) ≤ maxLength * n
 walk-sum r g n d v =
     let ss : List Pass = walk n (r .edges) d v in
     omega (arith, sum-most (r .edges) (map afterOf ss) (length-few r g), length-map ss afterOf, walk-most n (r .edges) d v)
 
-pub onwards-sum : (r : Register) → Grown r → (d v : ℕ) → sum (lengthsOf (r .edges) (map afterOf (onwards (r .edges) d v))) ≤ 409600000
+pub onwards-sum : (r : Register) → Reachable r → (d v : ℕ) → sum (lengthsOf (r .edges) (map afterOf (onwards (r .edges) d v))) ≤ 409600000
 unfolding onwards
 onwards-sum r g d v = omega (arith, walk-sum r g (length (r .edges)) d v, room r g)
 
@@ -127,7 +128,7 @@ module _ (t : Tables) where
 abbrev walkedBy : List Edge → ℕ → List Pass → Walked
 walkedBy es v ss = walked (endOf es v ss) (length ss) (sum (lengthsOf es (map afterOf ss)))
 
-module _ (r : Register) (g : Grown r) where
+module _ (r : Register) (g : Reachable r) where
   walks : (n d v : ℕ) → n ≤ maxEdges → At (r .edges) v d → walkIn (tablesOf r) n d v ≡ walkedBy (r .edges) v (walk n (r .edges) d v)
   unfolding walkIn walk endOf sum lengthsOf afterOf
   walks zero d v m a = refl

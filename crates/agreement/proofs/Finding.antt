@@ -17,6 +17,7 @@ use Rattle.model.specs.Distance.{lengthVia}
 use Rattle.model.specs.Register.{Register}
 use Rattle.model.specs.Queries.{chainAt, find, lengthTo, reach, reached, refuses}
 use Rattle.model.specs.Tables.{Tables, countsOf, tablesOf}
+use Rattle.model.specs.Notions.{Reachable}
 use Rattle.queries.specs.Chains.{findIn, firstAt, firstFrom, lengthToIn, nameIn, reachIn}
 use Rattle.model.proofs.Walks.Degree.{is-two, two-is}
 use Rattle.model.proofs.Walks.Turn.{At, Turned, TwoEdges, turned, two-edges}
@@ -24,18 +25,18 @@ use Rattle.model.proofs.Walks.Trail.{across}
 use Rattle.model.proofs.Series.Labelled.{Labelled, find-none, find-own, label-not-zero, regular-landed}
 use Rattle.agreement.proofs.Lists.{PairAt}
 use Rattle.agreement.proofs.Tables.{degrees-read, far-is, sides-linked}
-use Rattle.agreement.proofs.Growing.{Grown, few, labelled, labels-long, low-at, no-label, proper}
+use Rattle.agreement.proofs.Reached.{few, labelled, labels-long, low-at, no-label, proper}
 use Rattle.agreement.proofs.Chaining.{length-few, length-is, onwards-sum, sum32-is, walk-agrees}
 use Rattle.agreement.proofs.Lowest.{name-agrees, one-name}
 
 -- the sides of a regular vertex
-sides-are : (r : Register) → Grown r → (v : ℕ) → v < maxVertices → degree (r .edges) v ≡ 2
+sides-are : (r : Register) → Reachable r → (v : ℕ) → v < maxVertices → degree (r .edges) v ≡ 2
     → PairAt ((tablesOf r) .sides) v (getD (r .lows) v 0) (turn (r .edges) (getD (r .lows) v 0) v)
 sides-are r g v h two = sides-linked r (low-at r g) v h .regular two
 
 -- ---- reach
 
-length-to : (r : Register) → Grown r → (d v : ℕ) → At (r .edges) v d → lengthToIn (tablesOf r) (length (r .edges)) d v ≡ lengthTo (r .edges) d v
+length-to : (r : Register) → Reachable r → (d v : ℕ) → At (r .edges) v d → lengthToIn (tablesOf r) (length (r .edges)) d v ≡ lengthTo (r .edges) d v
 unfolding lengthToIn lengthTo lengthVia sum lengthsOf
 length-to r g d v a =
     let es : List Edge = r .edges in
@@ -43,7 +44,7 @@ length-to r g d v a =
     rw (length-is r d (a .inside), far-is r d v (a .inside), walk-agrees r g d w ((across es d v (proper r g) a) .at))
     (sum32-is (lengthAt es d) (sum (lengthsOf es (map afterOf (onwards es d w)))) (omega (arith, length-few r g d, onwards-sum r g d w)))
 
-pub reach-agrees : (r : Register) → Grown r → (v : ℕ) → reachIn (tablesOf r) (countsOf r) v ≡ reach r v
+pub reach-agrees : (r : Register) → Reachable r → (v : ℕ) → reachIn (tablesOf r) (countsOf r) v ≡ reach r v
 unfolding reachIn reach countsOf isRegular
 reach-agrees r g v = below (ltb v (r .vertices)) refl
   where
@@ -106,7 +107,7 @@ first-none at label (x ∷ xs) e i h = go (eqb x label) refl i h (λ k j l. firs
     go false q zero h ih = eqb-false x label q
     go false q (suc j) h ih = ih (rw (q, firstFrom) at e) j (omega arith)
 
-module _ (r : Register) (g : Grown r) where
+module _ (r : Register) (g : Reachable r) where
   -- only a regular vertex wears a label that is not 0
   worn-regular : (v label : ℕ) → label ≢ 0 → getD (r .labels) v 0 ≡ label → degree (r .edges) v ≡ 2
   worn-regular v label n e = go (ℕ-discrete (degree (r .edges) v) 2)
@@ -131,7 +132,7 @@ labels-are : (r : Register) → (tablesOf r) .labels ≡ r .labels
 unfolding tablesOf
 labels-are r = refl
 
-pub find-agrees : (r : Register) → Grown r → (label : ℕ) → findIn (tablesOf r) (countsOf r) label ≡ find r label
+pub find-agrees : (r : Register) → Reachable r → (label : ℕ) → findIn (tablesOf r) (countsOf r) label ≡ find r label
 unfolding findIn countsOf firstAt
 find-agrees r g label = zero? (eqb label 0) refl
   where

@@ -15,6 +15,7 @@ use Rattle.model.specs.Cases.{caseOf, classOf, closesRing}
 use Rattle.model.specs.Labels.{Labelling, Marks, attach, extend, labelEdge, labelPath, mark, merge, relabelCount}
 use Rattle.model.specs.Register.{Register}
 use Rattle.model.specs.Tables.{tablesOf}
+use Rattle.model.specs.Notions.{Reachable}
 use Rattle.tables.specs.Steps.{raiseBothIn}
 use Rattle.labels.specs.Labelling.{Merged, Worn, extendIn}
 use Rattle.insertion.specs.Insertion.{Placed, openBothIn, placeExtend, placeIn, placeMerge}
@@ -31,7 +32,7 @@ use Rattle.agreement.proofs.Extending.{Wears, extended, labelling}
 use Rattle.agreement.proofs.Joining.{Ground}
 use Rattle.agreement.proofs.Merging.{merges, merges-ring}
 use Rattle.agreement.proofs.Tables.{degrees-long, degrees-read, length-raised, raised, shows, sides-long}
-use Rattle.agreement.proofs.Growing.{Grown, few, landed-below, low-at, lows-long, new-below, no-label, proper, rings, room}
+use Rattle.agreement.proofs.Reached.{few, landed-below, low-at, lows-long, new-below, no-label, proper, rings, room}
 
 -- attaching one vertex stores one label
 attach-one : (blocks d : ℕ) (kept : List Pass) (s : Pass) (m : Marks) → (label : ℕ) × ((attach blocks d kept (s ∷ []) m) .marks .labels ≡ set (m .labels) (s .at) label)
@@ -48,7 +49,7 @@ pub record Stands (es : List Edge) (labels : List ℕ) (p : Placed) (g : Labelli
   pub wears : Wears es (p .sides) (p .labels) (p .blocks) g
   pub counts : relabelCount labels (p .labels) ≡ p .relabellings
 
-module _ (r : Register) (e : Edge) (g : Grown r) (fa : e .first < r .vertices) (fb : e .second < r .vertices) (df : e .first ≢ e .second) where
+module _ (r : Register) (e : Edge) (g : Reachable r) (fa : e .first < r .vertices) (fb : e .second < r .vertices) (df : e .first ≢ e .second) where
   abbrev es : List Edge
   es = r .edges
 

@@ -14,6 +14,7 @@ use Rattle.model.specs.Cases.{caseOf, classOf, closesRing}
 use Rattle.model.specs.Labels.{labelEdge, relabelCount}
 use Rattle.model.specs.Register.{Landed, Register, landEdge, landed, marksOf, refused, withEdge}
 use Rattle.model.specs.Tables.{Counts, Tables, countsOf, tablesOf}
+use Rattle.model.specs.Notions.{Reachable}
 use Rattle.tables.specs.Steps.{more16, setPair, sum32, tables}
 use Rattle.insertion.specs.Insertion.{LandingIn, Placed, counts, done, insertIn, landIn, landingIn, placeIn, refusedIn}
 use Rattle.model.proofs.Basics.Booleans.{and-true}
@@ -23,7 +24,7 @@ use Rattle.agreement.proofs.Lists.{ends-stored, lengths-stored}
 use Rattle.agreement.proofs.Relabelled.{relabelled-most}
 use Rattle.agreement.proofs.Extending.{more16-agrees}
 use Rattle.agreement.proofs.Tables.{degrees-are, linked-sides}
-use Rattle.agreement.proofs.Growing.{Grown, labels-long}
+use Rattle.agreement.proofs.Reached.{labels-long}
 use Rattle.agreement.proofs.Inserting.{Stands, ring-placed, stands}
 
 -- what the definition leaves, as tables and counts
@@ -61,7 +62,7 @@ sum32-agrees m n h = omega arith
 
 -- ---- an edge that passed the first refusals
 
-module _ (r : Register) (e : Edge) (g : Grown r) (fa : e .first < r .vertices) (fb : e .second < r .vertices) (df : e .first ≢ e .second) (rm : length (r .edges) < maxEdges) where
+module _ (r : Register) (e : Edge) (g : Reachable r) (fa : e .first < r .vertices) (fb : e .second < r .vertices) (df : e .first ≢ e .second) (rm : length (r .edges) < maxEdges) where
   abbrev p : Placed
   p = placeIn (caseOf (classOf (getD ((tablesOf r) .degrees) (e .first) 0)) (classOf (getD ((tablesOf r) .degrees) (e .second) 0)))
       ((tablesOf r) .degrees) ((tablesOf r) .ends) ((tablesOf r) .sides) (r .labels) (r .blocks) (e .first) (e .second) (length (r .edges)) (length (r .edges))
@@ -134,14 +135,14 @@ unfolding shownIn
 same-if r true n x y h = refl
 same-if r false n x y h = h refl
 
-last-agrees : (r : Register) (e : Edge) → Grown r → e .first < r .vertices → e .second < r .vertices → e .first ≢ e .second → length (r .edges) < maxEdges
+last-agrees : (r : Register) (e : Edge) → Reachable r → e .first < r .vertices → e .second < r .vertices → e .first ≢ e .second → length (r .edges) < maxEdges
     → (c : Bool) → closesRing (r .edges) (e .first) (e .second) ≡ c
     → insertIn (tablesOf r) (countsOf r) e ≡ shownIn r (if closesRing (r .edges) (e .first) (e .second) then refused 24 else landed (withEdge r e))
 unfolding shownIn
 last-agrees r e g fa fb df rm true c = rw c (rings-agree r e g fa fb df rm c)
 last-agrees r e g fa fb df rm false c = rw c (inserts-agree r e g fa fb df rm c)
 
-pub land-agrees : (r : Register) (e : Edge) → Grown r → landIn (tablesOf r) (countsOf r) e ≡ shownIn r (landEdge r e)
+pub land-agrees : (r : Register) (e : Edge) → Reachable r → landIn (tablesOf r) (countsOf r) e ≡ shownIn r (landEdge r e)
 unfolding landIn landEdge countsOf
 land-agrees r e g =
     same-if r (not (ltb (e .first) (r .vertices) && ltb (e .second) (r .vertices))) 5 _ _ (λ h₅.
@@ -154,6 +155,6 @@ land-agrees r e g =
     ends h = and-true (ltb (e .first) (r .vertices)) (ltb (e .second) (r .vertices)) (not-false _ h)
 
 -- .. in two parts, for a function that goes on by the answer
-pub edge-parts : (r : Register) (e : Edge) (l : Landed) → Grown r → landEdge r e ≡ l
+pub edge-parts : (r : Register) (e : Edge) (l : Landed) → Reachable r → landEdge r e ≡ l
     → ((landIn (tablesOf r) (countsOf r) e) .answer ≡ (shownIn r l) .answer) × ((landIn (tablesOf r) (countsOf r) e) .tables ≡ (shownIn r l) .tables)
 edge-parts r e l g q = let p : landIn (tablesOf r) (countsOf r) e ≡ shownIn r l = land-agrees r e g ∙ ap (shownIn r) q in (rw p, rw p)

@@ -9,7 +9,7 @@ pub mod Extending
 pub mod Joining
 pub mod Merging
 pub mod Tables
-pub mod Growing
+pub mod Reached
 pub mod Cases
 pub mod Inserting
 pub mod Landing

@@ -11,6 +11,7 @@ use Rattle.model.specs.Basics.{least}
 use Rattle.model.specs.Graph.{Edge, afterOf, chainOf, edgeAt, far, isRegular, nameOf, onwards, turn, walk}
 use Rattle.model.specs.Register.{Register}
 use Rattle.model.specs.Tables.{Tables, tablesOf}
+use Rattle.model.specs.Notions.{Reachable}
 use Rattle.tables.specs.Steps.{farIn, turnIn}
 use Rattle.queries.specs.Chains.{lowestIn, nameIn}
 use Rattle.model.proofs.Walks.Degree.{Proper}
@@ -19,7 +20,7 @@ use Rattle.model.proofs.Walks.Trail.{walk-on, walk-stop}
 use Rattle.model.proofs.Walks.RingFree.{RingFree}
 use Rattle.model.proofs.Chains.Partition.{On, chain-mem, mem-chain, on, same-name}
 use Rattle.model.proofs.Chains.Own.{chain-inner, inner-chain}
-use Rattle.agreement.proofs.Growing.{Grown, proper, rings}
+use Rattle.agreement.proofs.Reached.{proper, rings}
 use Rattle.agreement.proofs.Tables.{ends-are}
 use Rattle.agreement.proofs.Chaining.{Step, at-first, at-second, steps, stops}
 
@@ -80,7 +81,7 @@ module _ (t : Tables) where
   unfolding lowestIn
   lowest-on n x d v c w h i j = rw (eq-eqb _ _ h, i, j)
 
-lowest-agrees : (r : Register) → Grown r → (n x d v : ℕ) → At (r .edges) v d
+lowest-agrees : (r : Register) → Reachable r → (n x d v : ℕ) → At (r .edges) v d
     → lowestIn (tablesOf r) n x d v ≡ lower (map afterOf (walk n (r .edges) d v)) x
 unfolding lowestIn walk lower afterOf
 lowest-agrees r g zero x d v a = refl
@@ -101,7 +102,7 @@ lowest-agrees r g (suc n) x d v a = go (isRegular es v) refl (λ c at. lowest-ag
         let y : Step r d v = steps r g d v a q in
         rw (walk-on n es d v q, lowest-on t n x d v c (far es c v) (y .regular) (y .turns) (y .arrives), ih c (y .at))
 
-pub name-agrees : (r : Register) → Grown r → (d : ℕ) → d < length (r .edges) → nameIn (tablesOf r) (length (r .edges)) d ≡ nameOf (r .edges) d
+pub name-agrees : (r : Register) → Reachable r → (d : ℕ) → d < length (r .edges) → nameIn (tablesOf r) (length (r .edges)) d ≡ nameOf (r .edges) d
 unfolding nameIn onwards
 name-agrees r g d h =
     let es : List Edge = r .edges in
@@ -116,7 +117,7 @@ name-agrees r g d h =
     (sym (name-is es d))
 
 -- the edges of a regular vertex lie on one chain
-pub one-name : (r : Register) → Grown r → (v d c : ℕ) → isRegular (r .edges) v ≡ true → At (r .edges) v d → At (r .edges) v c
+pub one-name : (r : Register) → Reachable r → (v d c : ℕ) → isRegular (r .edges) v ≡ true → At (r .edges) v d → At (r .edges) v c
     → nameOf (r .edges) d ≡ nameOf (r .edges) c
 one-name r g v d c q a b = same-name es pr rf (o .line) d c (o .mem) (mem-chain es pr rf (o .line) d c (o .mem) (inner-chain es pr rf d c v (a .inside) inner b))
   where

@@ -12,11 +12,11 @@ use Rattle.model.specs.Basics.{if_then_else_}
 use Rattle.model.specs.Graph.{Edge, afterOf, edgeAt, far, isRegular, nameOf, onwards, turn, walk}
 use Rattle.model.specs.Register.{Register}
 use Rattle.model.specs.Tables.{Tables, tablesOf}
+use Rattle.model.specs.Notions.{Reachable}
 use Rattle.tables.specs.Steps.{farIn, turnIn}
 use Rattle.queries.specs.Chains.{isNameIn, noLowerIn}
 use Rattle.model.proofs.Walks.Turn.{At}
 use Rattle.model.proofs.Walks.Trail.{walk-on, walk-stop}
-use Rattle.agreement.proofs.Growing.{Grown}
 use Rattle.agreement.proofs.Tables.{ends-are}
 use Rattle.agreement.proofs.Chaining.{Step, at-first, at-second, steps, stops, withLabels}
 use Rattle.agreement.proofs.Lowest.{lower, lower-min, lower-most, name-is}
@@ -51,7 +51,7 @@ one-more e c x b h q = go (ltb c e) refl
     go true l = sym (ne-eqb (min c x) e (λ m. omega (arith, ltb-true c e l)))
     go false l = let m : min c x ≡ x = omega (arith, ltb-false c e l) in q ∙ ap (λ (k : ℕ). eqb k e) (sym m)
 
-module _ (r : Register) (g : Grown r) (e : ℕ) where
+module _ (r : Register) (g : Reachable r) (e : ℕ) where
   -- the least of e and the edges behind the regular vertices of two walks
   abbrev least-of : ℕ → ℕ → ℕ → ℕ → ℕ → ℕ
   least-of n d v c w = lower (map afterOf (walk n (r .edges) d v)) (lower (map afterOf (walk n (r .edges) c w)) e)
@@ -104,7 +104,7 @@ module _ (r : Register) (g : Grown r) (e : ℕ) where
           ∙ one-more e d′ (min c′ k) _ (omega (arith, most n d′ v′ c′ w′))
           (one-more e c′ k _ (most n d′ v′ c′ w′) (ih d′ v′ c′ w′ (x .at) (y .at))))
 
-pub is-name-agrees : (r : Register) → Grown r → (d : ℕ) → d < length (r .edges)
+pub is-name-agrees : (r : Register) → Reachable r → (d : ℕ) → d < length (r .edges)
     → isNameIn (tablesOf r) (length (r .edges)) d ≡ eqb (nameOf (r .edges) d) d
 unfolding isNameIn onwards
 is-name-agrees r g d h =

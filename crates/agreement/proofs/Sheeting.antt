@@ -11,10 +11,10 @@ use Rattle.model.specs.Graph.{Edge, Pass, afterOf, atOf, chainLength, chainOf, 
 use Rattle.model.specs.Register.{Register}
 use Rattle.model.specs.Queries.{row, rowsOf, sheet}
 use Rattle.model.specs.Tables.{Tables, countsOf, tablesOf}
+use Rattle.model.specs.Notions.{Reachable}
 use Rattle.tables.specs.Steps.{sum32}
 use Rattle.queries.specs.Chains.{isNameIn, rowIn, rowsIn, sheetIn}
 use Rattle.model.proofs.Basics.Lists.{sum-append, sum-reverse}
-use Rattle.agreement.proofs.Growing.{Grown}
 use Rattle.agreement.proofs.Tables.{ends-are}
 use Rattle.agreement.proofs.Chaining.{at-first, at-second, length-few, length-is, onwards-sum, walk-agrees, walkIn-labels, withLabels}
 use Rattle.agreement.proofs.Naming.{is-name-agrees, isNameIn-labels}
@@ -51,7 +51,7 @@ sums-are : (k l m : ℕ) → k + (l + m) ≤ 4294967295 → sum32 k (sum32 l m) 
 unfolding sum32
 sums-are k l m h = omega arith
 
-pub row-agrees : (r : Register) → Grown r → (d : ℕ) → d < length (r .edges) → rowIn (tablesOf r) (length (r .edges)) d ≡ row (r .edges) d
+pub row-agrees : (r : Register) → Reachable r → (d : ℕ) → d < length (r .edges) → rowIn (tablesOf r) (length (r .edges)) d ≡ row (r .edges) d
 unfolding rowIn
 row-agrees r g d h =
     let es : List Edge = r .edges in
@@ -69,7 +69,7 @@ row-agrees r g d h =
 
 -- ---- the rows
 
-pub rows-agree : (r : Register) → Grown r → (at k : ℕ) → at + k ≤ length (r .edges)
+pub rows-agree : (r : Register) → Reachable r → (at k : ℕ) → at + k ≤ length (r .edges)
     → rowsIn (tablesOf r) (length (r .edges)) (countFrom at k) ≡ rowsOf (r .edges) (countFrom at k)
 unfolding rowsIn rowsOf countFrom
 rows-agree r g at zero h = refl
@@ -84,7 +84,7 @@ rows-agree r g at (suc k) h = go (eqb (nameOf es at) at) refl (rows-agree r g (s
         rw (is-name-agrees r g at (omega arith), e, rowsIn, rowsOf, row-agrees r g at (omega arith)) (ap (λ (l : List (List ℕ)). row es at ∷ l) ih)
     go false e ih = rw (is-name-agrees r g at (omega arith), e, rowsIn, rowsOf) ih
 
-pub sheet-agrees : (r : Register) → Grown r → sheetIn (tablesOf r) (countsOf r) ≡ sheet r
+pub sheet-agrees : (r : Register) → Reachable r → sheetIn (tablesOf r) (countsOf r) ≡ sheet r
 unfolding sheetIn sheet countsOf upTo
 sheet-agrees r g = rows-agree r g 0 (length (r .edges)) (omega arith)
 

@@ -14,7 +14,7 @@ use Rattle.agreement.proofs.Calls.{all-fit, zeroed-cleared, sizes-refused}
 use Rattle.register.specs.Listing.{ReadIn, landListIn}
 use Rattle.admission.specs.Lent.{lent}
 use Rattle.register.proofs.Listing.{readIn, list-agrees}
-use Rattle.register.proofs.Grown.{list-leaves}
+use Rattle.register.proofs.Growing.{list-leaves}
 use Rattle.admission.specs.Gate.{barred, zeroedIf}
 use Rattle.admission.proofs.GateLaws.{gate-bars, gate-admits}
 

@@ -11,13 +11,13 @@ use Rattle.model.specs.Basics.{countFrom, maxVertices, upTo}
 use Rattle.model.specs.Graph.{Edge}
 use Rattle.model.specs.Register.{Landed, Register, empty, landEdge, landVertex, landed, refused, withVertex}
 use Rattle.model.specs.Tables.{Counts, Stored, Tables, cleared, countsOf, edgeIn, edgesIn, growFrom, held, landEdges, landVertices, storedOf, tablesOf}
-use Rattle.model.specs.Notions.{with-edge}
+use Rattle.model.specs.Notions.{Reachable, with-edge}
 use Rattle.model.specs.Computing.{computing}
 use Rattle.insertion.specs.Insertion.{LandingIn, counts, done, landingIn, refusedIn}
 use Rattle.model.proofs.Series.Held.{grow-again, grown-from, onVertices, vertices-grow}
-use Rattle.model.proofs.Series.OnlyHeld.{grow-reaches, only-held}
-use Rattle.model.proofs.Series.Reachable.{vertex-lands}
-use Rattle.agreement.proofs.Growing.{Grown, empty-grown, grown-held, grown-regrows, vertices-grown}
+use Rattle.model.proofs.Series.OnlyHeld.{grow-reaches, only-held, vertices-reach}
+use Rattle.model.proofs.Series.Reachable.{reachable-empty, vertex-lands}
+use Rattle.agreement.proofs.Reached.{stored-held, regrows}
 use Rattle.agreement.proofs.Landing.{edge-parts, shownIn}
 use Rattle.holding.specs.Replay.{ownEdge, regrowIn, replayIn}
 use Rattle.holding.proofs.ReplayLaws.{done-is, refused-done}
@@ -38,7 +38,7 @@ module _ (own : Tables) where
   abbrev edgesFrom : ℕ → ℕ → List Edge
   edgesFrom n e = map (edgeIn own) (countFrom e n)
 
-  pub replay-agrees : (n e : ℕ) (r : Register) → Grown r → Agrees (landEdges (edgesFrom n e) r) (replayIn (own .ends) (own .lengths) n e (tablesOf r) (countsOf r))
+  pub replay-agrees : (n e : ℕ) (r : Register) → Reachable r → Agrees (landEdges (edgesFrom n e) r) (replayIn (own .ends) (own .lengths) n e (tablesOf r) (countsOf r))
   unfolding replayIn landEdges countFrom shownIn
   replay-agrees zero e r g = refl
   replay-agrees (suc n) e r g = go (landEdge r (edgeIn own e)) refl (λ r′ h. replay-agrees n (e + 1) r′ h)
@@ -47,7 +47,7 @@ module _ (own : Tables) where
       next = omega arith
 
       go : (l : Landed) → landEdge r (edgeIn own e) ≡ l
-          → ((r′ : Register) → Grown r′ → Agrees (landEdges (edgesFrom n (e + 1)) r′) (replayIn (own .ends) (own .lengths) n (e + 1) (tablesOf r′) (countsOf r′)))
+          → ((r′ : Register) → Reachable r′ → Agrees (landEdges (edgesFrom n (e + 1)) r′) (replayIn (own .ends) (own .lengths) n (e + 1) (tablesOf r′) (countsOf r′)))
           → Agrees (landEdges (edgesFrom (suc n) e) r) (replayIn (own .ends) (own .lengths) (suc n) e (tablesOf r) (countsOf r))
       go (landed r′) q ih =
           let p = edge-parts r (edgeIn own e) (landed r′) g q in
@@ -67,8 +67,8 @@ module _ (n : ℕ) where
   unfolding countsOf onVertices
   on-counts = refl
 
-  on-grown : n ≤ maxVertices → Grown (onVertices n)
-  on-grown h = vertices-grown n empty (onVertices n) empty-grown (vertices-grow n h)
+  on-grown : n ≤ maxVertices → Reachable (onVertices n)
+  on-grown h = vertices-reach n empty (onVertices n) reachable-empty (vertices-grow n h)
 
 -- more than 4,096 are refused
 vertex-full : (r : Register) → maxVertices ≤ r .vertices → landVertex r ≡ refused 22
@@ -136,17 +136,17 @@ replay-held t c e = go (growing t c) refl (regrow-agrees t c)
     go (landed r) q a =
         let a′ : regrown t c ≡ landingIn (tablesOf r) (done (countsOf r)) = rw q at a in
         let i = done-is (tablesOf r) t (countsOf r) c (sym a′ ∙ e) in
-        let g : Grown r = grow-reaches (c .vertices) (edgesIn t (c .edges)) r q in
-        (r, rw (← storedOf-is r t c (i .0) (i .1)) (grown-held r g))
+        let g : Reachable r = grow-reaches (c .vertices) (edgesIn t (c .edges)) r q in
+        (r, rw (← storedOf-is r t c (i .0) (i .1)) (stored-held r g))
     go (refused x) q a =
         let a′ : (regrown t c) .answer ≡ refusedIn x = rw q at a in
         absurd (refused-done t t x c (ap (landingIn t) (sym a′ ∙ ap (λ (l : LandingIn). l .answer) e)))
 
--- what is stored for a grown register is left by its own replay
-pub grown-replays : (r : Register) → Grown r → regrown (tablesOf r) (countsOf r) ≡ landingIn (tablesOf r) (done (countsOf r))
+-- what is stored for a register that landing leaves is left by its own replay
+pub stored-replays : (r : Register) → Reachable r → regrown (tablesOf r) (countsOf r) ≡ landingIn (tablesOf r) (done (countsOf r))
 unfolding storedOf
-grown-replays r g =
-    let q : growing (tablesOf r) (countsOf r) ≡ landed r = grow-again r (grown-regrows r g) in
+stored-replays r g =
+    let q : growing (tablesOf r) (countsOf r) ≡ landed r = grow-again r (regrows r g) in
     rw q at (regrow-agrees (tablesOf r) (countsOf r))
 
 -- so tables and counts that hold a register are left by their own replay
@@ -156,7 +156,7 @@ held-replays t c r e =
     let h = only-held (stored t c) r e in
     let i : t ≡ tablesOf r = ap (λ (s : Stored). s .tables) (h .stored-is) in
     let j : c ≡ countsOf r = ap (λ (s : Stored). s .counts) (h .stored-is) in
-    rw (i, j) (grown-replays r (h .reachable))
+    rw (i, j) (stored-replays r (h .reachable))
 
 pub replay-none : (t : Tables) (c : Counts) → regrown t c ≢ landingIn t (done c) → held (stored t c) ≡ none
 replay-none t c n = go (held (stored t c)) refl

@@ -11,7 +11,7 @@ use lib.Dec.{eqb}
 use borrow.Author.Tests.{le-leb, lt-leb, eqb-true, eq-eqb}
 use Rattle.model.specs.Tables.{Tables, Counts, edgeIn}
 use Rattle.tables.specs.Steps.{tables, zeroed}
-use Rattle.tables.proofs.Lists.{same-no}
+use Rattle.tables.proofs.Lists.{differ}
 use Rattle.insertion.specs.Insertion.{AnswerIn, done, refusedIn, LandingIn, landingIn, counts, landIn}
 use Rattle.agreement.proofs.Same.{Same}
 use Rattle.holding.specs.Replay.{ownEdge, replayIn, regrowIn, Regrows}
@@ -92,7 +92,7 @@ refused-done t t′ x c e = of (answer-of e)
 -- the tables decide.
 module _ (own : Tables) (c : Counts) (t t′ : Tables) (answer : AnswerIn) where
   regrows-not : (regrowIn (own .ends) (own .lengths) c t ≡ landingIn own (done c) → ⊥) → Regrows false own c t
-  regrows-not h = let n = same-no (regrowIn (own .ends) (own .lengths) c t) (landingIn own (done c)) h in record { if-true = n .0; true-if = n .1 }
+  regrows-not h = let n = differ (regrowIn (own .ends) (own .lengths) c t) (landingIn own (done c)) h in record { if-true = n .0; true-if = n .1 }
 
   pub regrows-refused : (x : ℕ) → answer ≡ refusedIn x → landingIn t′ answer ≡ regrowIn (own .ends) (own .lengths) c t → Regrows false own c t
   regrows-refused x w q = regrows-not (λ e. refused-done t′ own x c (ap (landingIn t′) (sym w) ∙ q ∙ e))

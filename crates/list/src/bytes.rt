@@ -10,12 +10,6 @@ fn wide16(b: u8) -> u16
     b as u16
 }
 
-fn wide32(n: u16) -> u32
-    ensures { λ r. ⌜ r ≡ n ⌝ }
-{
-    n as u32
-}
-
 pub fn u16_at(list: &[u8], i: usize) -> u16
     requires { ⌜ i + 2 ≤ length (now list) ⌝ }
     ensures { λ r. ⌜ r ≡ u16At (now (list .entry)) i ⌝ }
@@ -29,7 +23,7 @@ pub fn u32_at(list: &[u8], i: usize) -> u32
     requires { ⌜ i + 4 ≤ length (now list) ⌝ }
     ensures { λ r. ⌜ r ≡ u32At (now (list .entry)) i ⌝ }
 {
-    let low = wide32(u16_at(list, i));
-    let high = wide32(u16_at(list, i + 2));
-    low + 65536 * high
+    let low = u16_at(list, i);
+    let high = u16_at(list, i + 2);
+    (low as u32) + 65536 * (high as u32)
 }

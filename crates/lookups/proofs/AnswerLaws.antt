@@ -11,17 +11,18 @@ use Rattle.model.specs.Register.{Register}
 use Rattle.model.specs.Queries.{Reply, concat, find, reach, sheet, sheetNumbers}
 use Rattle.model.specs.Tables.{Tables, Counts, tablesOf}
 use Rattle.model.specs.Calls.{finds, reaches, sheets, answers, effect, sheetEffect}
+use Rattle.model.specs.Notions.{Reachable}
 use Rattle.model.proofs.Chains.Sheet.{sheet-length}
 use Rattle.tables.specs.Steps.{tables}
 use Rattle.queries.specs.Chains.{findIn, reachIn, sheetIn}
-use Rattle.agreement.proofs.Growing.{Grown, labels-long}
+use Rattle.agreement.proofs.Reached.{labels-long}
 use Rattle.agreement.proofs.Finding.{find-agrees, reach-agrees}
 use Rattle.agreement.proofs.Sheeting.{sheet-agrees}
 use Rattle.lookups.specs.Answering.{Sheeted, sheeted, sheetedIn}
 use Rattle.lookups.proofs.QueryLaws.{Answers}
 
 -- the table of labels has 4,096 elements, so all are looked at
-labels-whole : (r : Register) → Grown r → (labels : List ℕ) → (tablesOf r) .labels ≡ labels → take maxVertices labels ≡ labels
+labels-whole : (r : Register) → Reachable r → (labels : List ℕ) → (tablesOf r) .labels ≡ labels → take maxVertices labels ≡ labels
 unfolding tablesOf
 labels-whole r g labels e =
     let n : maxVertices ≡ length labels = sym (labels-long r g) ∙ ap (λ (xs : List ℕ). length xs) e in

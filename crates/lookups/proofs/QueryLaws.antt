@@ -7,8 +7,8 @@ use Rattle.model.specs.Register.{Register}
 use Rattle.model.specs.Queries.{Reply, refuses}
 use Rattle.model.specs.Tables.{Tables, Counts, Stored, held, tablesOf, countsOf, storedOf}
 use Rattle.model.specs.Calls.{Call, Lent, registerFor, scratchAfter, effect, lentSlice, step}
+use Rattle.model.specs.Notions.{Reachable}
 use Rattle.model.proofs.Series.OnlyHeld.{only-held}
-use Rattle.agreement.proofs.Growing.{Grown}
 use Rattle.lookups.specs.Meaning.{answered}
 use Rattle.admission.specs.Gate.{barred}
 use Rattle.admission.proofs.GateLaws.{gate-bars, gate-admits}
@@ -16,7 +16,7 @@ use Rattle.admission.proofs.GateLaws.{gate-bars, gate-admits}
 -- what a call on the register that tables and counts hold leaves in its slice and answers; it leaves the register
 abbrev pub Answers : Call → Tables → Counts → List ℕ → Reply → Type 0
 Answers c t k xs a =
-    (r : Register) → Grown r → tablesOf r ≡ t → countsOf r ≡ k → effect c r ≡ record { leaves = r; slice = xs; reply = a }
+    (r : Register) → Reachable r → tablesOf r ≡ t → countsOf r ≡ k → effect c r ≡ record { leaves = r; slice = xs; reply = a }
 
 -- of every call but grow
 module _ (c : Call) (l : Lent) (q : registerFor c l ≡ held (l .stored)) where

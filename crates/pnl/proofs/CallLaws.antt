@@ -12,14 +12,15 @@ use Rattle.model.specs.FromC.{Returned, fromC, returnsNumbers, returnsRefusal, 
 use Rattle.model.specs.Queries.{Reply, listed, find, reach, measure, sheet, sheetNumbers, concat}
 use Rattle.model.specs.Calls.{Effect, answers, effect}
 use Rattle.model.specs.Tables.{Tables, Counts, countsOf, cleared, noCounts}
+use Rattle.model.proofs.Series.Reachable.{reachable-grown}
 use Rattle.tables.specs.Steps.{tables}
 use Rattle.queries.specs.Chains.{rowsIn, sheetIn, findIn, reachIn}
-use Rattle.agreement.proofs.Growing.{few}
+use Rattle.agreement.proofs.Reached.{few}
 use Rattle.agreement.proofs.Sheeting.{sheet-agrees}
 use Rattle.agreement.proofs.Finding.{reach-agrees}
 use Rattle.register.specs.Listing.{ReadIn, readingIn, landListIn}
 use Rattle.register.proofs.Listing.{readIn}
-use Rattle.register.proofs.Grown.{list-leaves, growList-grown}
+use Rattle.register.proofs.Growing.{list-leaves}
 use Rattle.lookups.proofs.AnswerLaws.{find-answers}
 use Rattle.search.specs.Search.{Searchable}
 use Rattle.distance.specs.Measure.{measureIn}
@@ -54,7 +55,7 @@ module _ (bs : List ℕ) (t : Tables) (c : Counts) (s : Stop) (e : readingIn t c
 
   left-register : Represents t c ((growList bs) .register)
   left-register = record {
-    reachable = growList-grown bs;
+    reachable = reachable-grown bs;
     tables-are = sym (ap (λ (d : ReadIn). d .tables) left);
     counts-are = sym (ap (λ (d : ReadIn). d .counts) left);
   }

@@ -11,12 +11,14 @@ use Rattle.model.specs.Register.{Register}
 use Rattle.model.specs.Format.{Read, Stop, growList}
 use Rattle.model.specs.Tables.{Tables, Counts, tablesOf, countsOf, cleared, noCounts}
 use Rattle.model.specs.Printing.{ascii, line, lines, listing, printed, stopLine}
+use Rattle.model.specs.Notions.{Reachable}
+use Rattle.model.proofs.Series.Reachable.{reachable-grown}
 use Rattle.queries.specs.Chains.{rowsIn, sheetIn}
-use Rattle.agreement.proofs.Growing.{Grown, room}
+use Rattle.agreement.proofs.Reached.{room}
 use Rattle.agreement.proofs.Sheeting.{sheet-agrees}
 use Rattle.register.specs.Listing.{ReadIn, landListIn}
 use Rattle.register.proofs.Listing.{readIn}
-use Rattle.register.proofs.Grown.{list-leaves, growList-grown}
+use Rattle.register.proofs.Growing.{list-leaves}
 use Rattle.io.specs.Counts.{Counts as Counted}
 use Rattle.text.specs.Pages.{Page, page, write}
 use Rattle.text.proofs.Writing.{write-two, write-at, write-fits, write-room}
@@ -32,7 +34,7 @@ listing-parts t c a k p q r s n e f g =
     write-two _ (stopLine a) p r s (write-two _ _ p q r head f) g
 
 -- the listing of the tables is that of the register
-listing-is : (d : Read) → Grown (d .register) → listingIn (tablesOf (d .register)) (countsOf (d .register)) (d .stop) ≡ listing d
+listing-is : (d : Read) → Reachable (d .register) → listingIn (tablesOf (d .register)) (countsOf (d .register)) (d .stop) ≡ listing d
 unfolding listingIn listing countsOf
 listing-is d g = rw (sheet-agrees (d .register) g)
 
@@ -55,7 +57,7 @@ too-long bs out word q h l w e =
     let b : q .at ≤ 9 = omega (arith, a, n, write-at word (page out 0)) in
     page-holds word (printed bs) out q e (omega arith) (rw (lt-ltb 65536 (length bs) h) w)
 
-edges-few : (r : Register) → Grown r → (countsOf r) .edges ≤ 4096
+edges-few : (r : Register) → Reachable r → (countsOf r) .edges ≤ 4096
 unfolding countsOf
 edges-few r g = room r g
 
@@ -67,7 +69,7 @@ pub prints : (bs out : List ℕ) (d : ReadIn) (c : Counts) (q : Page) → length
     → d ≡ landListIn cleared c bs → q ≡ write (listingIn (d .tables) (d .counts) (d .stop)) (page out 0) → q .at ≤ 104 + 55 * d .counts .edges
     → Counted (q .at) (q .bytes) × (take (q .at) (q .bytes) ≡ printed bs)
 prints bs out d c q h l n e f b =
-    let g : Grown ((growList bs) .register) = growList-grown bs in
+    let g : Reachable ((growList bs) .register) = reachable-grown bs in
     let i : d ≡ readIn (growList bs) = e ∙ ap (λ (k : Counts). landListIn cleared k bs) n ∙ list-leaves bs in
     let k : d .counts .edges ≡ (countsOf ((growList bs) .register)) .edges = ap (λ (z : ReadIn). z .counts .edges) i in
     let few : q .at ≤ 225384 = omega (arith, k, edges-few ((growList bs) .register) g) in

@@ -1,4 +1,4 @@
--- A whole list on the tables of a grown register: the tables, counts and answer of the definition.
+-- A whole list on the tables of a register that landing leaves: the tables, counts and answer of the definition.
 use mathlib.Core.Path.{_≡_, refl, sym, ap, _∙_, subst}
 use Prim.Native.Nat.{ℕ, zero, suc, _+_}
 use native.Mathlib.Omega.{arith}
@@ -14,11 +14,10 @@ use Rattle.model.specs.Graph.{Edge}
 use Rattle.model.specs.Register.{Landed, Register, landEdge, landVertex, landed, refused, withVertex}
 use Rattle.model.specs.Format.{Read, Record, bad, edge, firstRecord, headerRefusal, landList, landRecords, u16At, u32At, vertex}
 use Rattle.model.specs.Tables.{countsOf, highSide, lowSide, sidesOf, tablesOf}
-use Rattle.model.specs.Notions.{with-edge, with-vertex}
+use Rattle.model.specs.Notions.{Reachable, with-edge, with-vertex}
 use Rattle.list.specs.Reading.{badRecord, edgeTo, ends, headerAt, recordAt, recordOf, vertexTo}
 use Rattle.model.proofs.Walks.Keeps.{added}
 use Rattle.agreement.proofs.Extending.{more16-agrees}
-use Rattle.agreement.proofs.Growing.{Grown}
 use Rattle.agreement.proofs.Landing.{edge-parts, shownIn}
 use Rattle.register.specs.Listing.{ReadIn, landListIn, landRecordIn, landRecordsIn, landVertexIn, readingIn}
 
@@ -92,7 +91,7 @@ module _ (bs : List ℕ) (i : ℕ) where
 
 -- ---- records, and the list
 
-pub records-agree : (bs : List ℕ) (n k : ℕ) (r : Register) (i : ℕ) → Grown r
+pub records-agree : (bs : List ℕ) (n k : ℕ) (r : Register) (i : ℕ) → Reachable r
     → landRecordsIn bs n k (tablesOf r) (countsOf r) i ≡ readIn (landRecords n k r (drop i bs))
 unfolding landRecordsIn landRecordIn landRecords shownIn
 records-agree bs zero k r i g = refl
@@ -102,7 +101,7 @@ records-agree bs (suc n) k r i g = go (drop i bs) refl (λ r′ j g′. records-
     Goal = landRecordsIn bs (suc n) k (tablesOf r) (countsOf r) i ≡ readIn (landRecords (suc n) k r (drop i bs))
 
     Rest : Type 0
-    Rest = (r′ : Register) (j : ℕ) → Grown r′ → landRecordsIn bs n (k + 1) (tablesOf r′) (countsOf r′) j ≡ readIn (landRecords n (k + 1) r′ (drop j bs))
+    Rest = (r′ : Register) (j : ℕ) → Reachable r′ → landRecordsIn bs n (k + 1) (tablesOf r′) (countsOf r′) j ≡ readIn (landRecords n (k + 1) r′ (drop j bs))
 
     on-vertex : (kind : ℕ) (bytes rest : List ℕ) → drop i bs ≡ kind ∷ bytes → firstRecord kind bytes ≡ vertex rest → (l : Landed) → landVertex r ≡ l → Rest → Goal
     on-vertex kind bytes rest p q (landed r′) f ih =
@@ -131,7 +130,7 @@ records-agree bs (suc n) k r i g = go (drop i bs) refl (λ r′ j g′. records-
     go [] p ih = rw (at-end bs i p, landRecordsIn, at-end bs i p, p, landRecords)
     go (kind ∷ bytes) p ih = on-record kind bytes p (firstRecord kind bytes) refl ih
 
-pub list-agrees : (r : Register) (bs : List ℕ) → Grown r → landListIn (tablesOf r) (countsOf r) bs ≡ readIn (landList r bs)
+pub list-agrees : (r : Register) (bs : List ℕ) → Reachable r → landListIn (tablesOf r) (countsOf r) bs ≡ readIn (landList r bs)
 unfolding landListIn landList headerAt
 list-agrees r bs g = go (headerRefusal bs) refl
   where

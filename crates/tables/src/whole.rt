@@ -1,4 +1,4 @@
-// Whole tables: cleared, and compared. A table is narrow, of 16-bit numbers, or wide, of 32-bit ones.
+// Whole tables: cleared, and compared.
 ghost use mathlib.Core.Path.{_≡_};
 ghost use mathlib.Core.Bool.{true};
 ghost use lib.ListN.{length, replicate};

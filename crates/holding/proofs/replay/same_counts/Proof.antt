@@ -1,18 +1,18 @@
 use Rattle.holding.proofs.ReplayLaws.{counts-last}
-use Rattle.tables.proofs.Lists.{same-no}
+use Rattle.tables.proofs.Lists.{differ}
 use Rattle.model.specs.Tables.{Counts}
 use mathlib.Core.Path.{ap}
 use Rattle.holding.proofs.replay.same_counts.Statement.{statement}
 use Rattle.holding.proofs.replay.same_counts.Tie as tie
 
 returns : tie.Need-returns
-returns c = same-no _ _ (λ e. c .if1 .taken (ap (λ (c : Counts). c .vertices) e))
+returns c = differ _ _ (λ e. c .if1 .taken (ap (λ (c : Counts). c .vertices) e))
 
 returns-2 : tie.Need-returns-2
-returns-2 c = same-no _ _ (λ e. c .if2 .taken (ap (λ (c : Counts). c .edges) e))
+returns-2 c = differ _ _ (λ e. c .if2 .taken (ap (λ (c : Counts). c .edges) e))
 
 returns-3 : tie.Need-returns-3
-returns-3 c = same-no _ _ (λ e. c .if3 .taken (ap (λ (c : Counts). c .blocks) e))
+returns-3 c = differ _ _ (λ e. c .if3 .taken (ap (λ (c : Counts). c .blocks) e))
 
 returns-4 : tie.Need-returns-4
 returns-4 c =

@@ -4,13 +4,9 @@ use borrow.Author.Needs.{needs}
 use Rattle.list.proofs.bytes.u32_at.Statement.{statement}
 use Rattle.list.proofs.bytes.u32_at.Tie as tie
 use Rattle.list.proofs.bytes.u16_at.Reads as u16-at-reads
-use Rattle.list.proofs.bytes.wide32.Reads as wide32-reads
 
 u16-at-requires : tie.Need-u16-at-requires
 u16-at-requires c κs = search needs
-
-wide32-requires : tie.Need-wide32-requires
-wide32-requires c κs = search needs
 
 add-u16-at : tie.Need-add-u16-at
 add-u16-at c = search needs
@@ -18,8 +14,11 @@ add-u16-at c = search needs
 u16-at-requires-2 : tie.Need-u16-at-requires-2
 u16-at-requires-2 c κs = search needs
 
-wide32-requires-2 : tie.Need-wide32-requires-2
-wide32-requires-2 c κs = search needs
+cast-result : tie.Need-cast-result
+cast-result c = search needs
+
+cast-result-2 : tie.Need-cast-result-2
+cast-result-2 c = search needs
 
 mul-result : tie.Need-mul-result
 mul-result c = search needs
@@ -29,17 +28,17 @@ add-result c = search needs
 
 returns : tie.Need-returns
 unfolding u32At
-returns c = omega (arith, c .before .before .wide32 .ensures, c .wide322 .ensures, c .before .before .before .u16-at .ensures, c .before .u16-at2 .ensures)
+returns c = omega arith
 
 pub u32-at-spec : {M : Type 1} → statement M
 u32-at-spec =
     tie.close
     (tie.spec
     u16-at-requires
-    wide32-requires
     add-u16-at
     u16-at-requires-2
-    wide32-requires-2
+    cast-result
+    cast-result-2
     mul-result
     add-result
     returns)

@@ -4,17 +4,11 @@ use lib.ListN.{List·getD-eq-default}
 use Rattle.tables.proofs.access.at16.Statement.{statement}
 use Rattle.tables.proofs.access.at16.Tie as tie
 
-mul-result : tie.Need-mul-result
-mul-result c = search needs
-
-shared-slice-read-result : tie.Need-shared-slice-read-result
-shared-slice-read-result c = search needs
-
-returns : tie.Need-returns
-returns c = search needs
-
-returns-2 : tie.Need-returns-2
-returns-2 c = sym (List·getD-eq-default (c .before .args .xs .now) 0 (c .if1 .left))
-
 pub at16-spec : {M : Type 1} → statement M
-at16-spec = tie.close (tie.spec mul-result shared-slice-read-result returns returns-2)
+at16-spec =
+    tie.close
+    (tie.spec
+    (λ c. search needs)
+    (λ c. search needs)
+    (λ c. search needs)
+    (λ c. sym (List·getD-eq-default (c .before .args .xs .now) 0 (c .if1 .left))))

@@ -2,7 +2,7 @@ use mathlib.Core.Path.{ap, refl}
 use borrow.Author.Tests.{not-false}
 use borrow.Author.Needs.{needs}
 use Rattle.model.specs.Tables.{Tables}
-use Rattle.tables.proofs.Lists.{tables-same, not-same, same-no}
+use Rattle.tables.proofs.Lists.{tables-same, not-same, differ}
 use Rattle.tables.proofs.whole.same_tables.Statement.{statement}
 use Rattle.tables.proofs.whole.same_tables.Tie as tie
 
@@ -10,31 +10,31 @@ same16-requires : tie.Need-same16-requires
 same16-requires c κs = search needs
 
 returns : tie.Need-returns
-returns c = same-no _ _ (λ e. not-same _ _ (c .if1 .taken) (c .before .same16 .ensures .1) (ap (λ (t : Tables). t .degrees) e))
+returns c = differ _ _ (λ e. not-same _ _ (c .if1 .taken) (c .before .same16 .ensures .1) (ap (λ (t : Tables). t .degrees) e))
 
 same16-requires-2 : tie.Need-same16-requires-2
 same16-requires-2 c κs = search needs
 
 returns-2 : tie.Need-returns-2
-returns-2 c = same-no _ _ (λ e. not-same _ _ (c .if2 .taken) (c .before .same162 .ensures .1) (ap (λ (t : Tables). t .sides) e))
+returns-2 c = differ _ _ (λ e. not-same _ _ (c .if2 .taken) (c .before .same162 .ensures .1) (ap (λ (t : Tables). t .sides) e))
 
 same16-requires-3 : tie.Need-same16-requires-3
 same16-requires-3 c κs = search needs
 
 returns-3 : tie.Need-returns-3
-returns-3 c = same-no _ _ (λ e. not-same _ _ (c .if3 .taken) (c .before .same163 .ensures .1) (ap (λ (t : Tables). t .ends) e))
+returns-3 c = differ _ _ (λ e. not-same _ _ (c .if3 .taken) (c .before .same163 .ensures .1) (ap (λ (t : Tables). t .ends) e))
 
 same32-requires : tie.Need-same32-requires
 same32-requires c κs = search needs
 
 returns-4 : tie.Need-returns-4
-returns-4 c = same-no _ _ (λ e. not-same _ _ (c .if4 .taken) (c .before .same32 .ensures .1) (ap (λ (t : Tables). t .lengths) e))
+returns-4 c = differ _ _ (λ e. not-same _ _ (c .if4 .taken) (c .before .same32 .ensures .1) (ap (λ (t : Tables). t .lengths) e))
 
 same32-requires-2 : tie.Need-same32-requires-2
 same32-requires-2 c κs = search needs
 
 returns-5 : tie.Need-returns-5
-returns-5 c = same-no _ _ (λ e. not-same _ _ (c .if5 .taken) (c .before .same322 .ensures .1) (ap (λ (t : Tables). t .labels) e))
+returns-5 c = differ _ _ (λ e. not-same _ _ (c .if5 .taken) (c .before .same322 .ensures .1) (ap (λ (t : Tables). t .labels) e))
 
 returns-6 : tie.Need-returns-6
 returns-6 c =

@@ -1,4 +1,4 @@
--- Grown: a register that landing leaves. What holds of it, and that every landing keeps it.
+-- What holds of every register that landing leaves, taken from model for the proofs over the tables.
 use mathlib.Core.Path.{_≡_}
 use mathlib.Core.Logic.{_≢_}
 use Prim.Native.Nat.{ℕ, _≤_, _<_}
@@ -8,9 +8,8 @@ use mathlib.Core.Option.{some}
 use lib.ListN.{length, getD}
 use Rattle.model.specs.Basics.{maxEdges, maxVertices}
 use Rattle.model.specs.Graph.{Edge, degree}
-use Rattle.model.specs.Register.{Register, empty, landed, marksOf}
-use Rattle.model.specs.Format.{landList}
-use Rattle.model.specs.Tables.{held, landVertices, storedOf}
+use Rattle.model.specs.Register.{Register, marksOf}
+use Rattle.model.specs.Tables.{held, storedOf}
 use Rattle.model.specs.Notions.{Reachable}
 use Rattle.model.proofs.Walks.Degree.{Proper}
 use Rattle.model.proofs.Walks.Turn.{At}
@@ -20,15 +19,9 @@ use Rattle.model.proofs.Series.Held.{GrowsAgain}
 use Rattle.model.proofs.Series.Labelled.{Labelled, ends-landed}
 use Rattle.model.proofs.Series.Facts.{kept-held}
 use Rattle.model.proofs.Series.Lawful.{AllLawful, edges-lawful}
-use Rattle.model.proofs.Series.OnlyHeld.{vertices-reach}
 use Rattle.model.proofs.Series.Reachable as reachable
 
-abbrev pub Grown : Register → Type 0
-Grown r = Reachable r
-
--- ---- what holds of it
-
-module _ (r : Register) (g : Grown r) where
+module _ (r : Register) (g : Reachable r) where
   pub labelled : Labelled r
   labelled = (reachable.full r g) .kept .labelled
 
@@ -69,21 +62,9 @@ module _ (r : Register) (g : Grown r) where
   pub lawful : AllLawful (r .vertices) (r .edges)
   lawful = edges-lawful r g
 
--- ---- it is kept
+  -- what is stored for it is held, and growing its own vertices and edges leaves it again
+  pub stored-held : held (storedOf r) ≡ some r
+  stored-held = kept-held r ((reachable.full r g) .kept)
 
-pub empty-grown : Grown empty
-empty-grown = reachable.reachable-empty
-
-pub list-grown : (r : Register) (bs : List ℕ) → Grown r → Grown ((landList r bs) .register)
-list-grown r bs g = reachable.reachable-list r bs g
-
-pub vertices-grown : (n : ℕ) (r r′ : Register) → Grown r → landVertices n r ≡ landed r′ → Grown r′
-vertices-grown n r r′ g e = vertices-reach n r r′ g e
-
--- what is stored for it is held
-pub grown-held : (r : Register) → Grown r → held (storedOf r) ≡ some r
-grown-held r g = kept-held r ((reachable.full r g) .kept)
-
--- and growing its own vertices and edges leaves it again
-pub grown-regrows : (r : Register) → Grown r → GrowsAgain r
-grown-regrows r g = (reachable.full r g) .kept .regrows
+  pub regrows : GrowsAgain r
+  regrows = (reachable.full r g) .kept .regrows

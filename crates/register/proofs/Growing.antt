@@ -6,7 +6,7 @@ use Rattle.model.specs.Register.{empty}
 use Rattle.model.specs.Format.{growList}
 use Rattle.model.specs.Tables.{tablesOf, countsOf, cleared, noCounts}
 use Rattle.model.specs.Computing.{computing}
-use Rattle.agreement.proofs.Growing.{Grown, empty-grown, list-grown}
+use Rattle.model.proofs.Series.Reachable.{reachable-empty}
 use Rattle.register.specs.Listing.{landListIn}
 use Rattle.register.proofs.Listing.{list-agrees, readIn}
 
@@ -20,8 +20,4 @@ empty-counts = refl
 
 pub list-leaves : (bs : List ℕ) → landListIn cleared noCounts bs ≡ readIn (growList bs)
 unfolding growList
-list-leaves bs = rw (empty-tables, empty-counts) at (list-agrees empty bs empty-grown)
-
-pub growList-grown : (bs : List ℕ) → Grown ((growList bs) .register)
-unfolding growList
-growList-grown bs = list-grown empty bs empty-grown
+list-leaves bs = rw (empty-tables, empty-counts) at (list-agrees empty bs reachable-empty)
