@@ -12,7 +12,7 @@ use Rattle.model.specs.Graph.{Edge}
 use Rattle.model.specs.Register.{Landed, Register, empty, landEdge, landVertex, landed, refused, withVertex}
 use Rattle.model.specs.Tables.{Counts, Stored, Tables, cleared, countsOf, edgeIn, edgesIn, growFrom, held, landEdges, landVertices, storedOf, tablesOf}
 use Rattle.model.specs.Notions.{Reachable, with-edge}
-use Rattle.model.specs.Computing.{computing}
+use Rattle.model.proofs.Computing.{computing}
 use Rattle.insertion.specs.Insertion.{LandingIn, counts, done, landingIn, refusedIn}
 use Rattle.model.proofs.Series.Held.{grow-again, grown-from, onVertices, vertices-grow}
 use Rattle.model.proofs.Series.OnlyHeld.{grow-reaches, only-held, vertices-reach}

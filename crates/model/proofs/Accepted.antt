@@ -12,8 +12,9 @@ use Rattle.model.specs.Queries.{found, measured, reached, read, sheet}
 use Rattle.model.specs.Tables.{Tables, cleared, edgeLengths}
 use Rattle.model.specs.Calls.{effect, finds, grows, lands, measures, reaches}
 use Rattle.model.specs.Series.{Made, after, landedBy, landedEdges, relabelledBy, since}
-use Rattle.model.specs.Values.{edge, house, listOf, lists, loop, ring}
-use Rattle.model.specs.Computing.{computing}
+use Rattle.model.specs.Values.{edge, house, listOf, loop, ring}
+use Rattle.model.proofs.Computing.{computing}
+use Rattle.model.proofs.Values.{lists}
 
 -- ---- lists that stop, refused calls, clearings in between
 

@@ -12,8 +12,8 @@ use Rattle.model.specs.Register.{empty}
 use Rattle.model.specs.Distance.{joined}
 use Rattle.model.specs.Queries.{found, measured, reached, refuses}
 use Rattle.model.specs.Tables.{cleared, held}
-use Rattle.model.specs.Calls.{Call, effect, finds, measures, reaches, sheets}
-use Rattle.model.specs.Series.{AtEnd, Demand3, Made, after, ask, lengthColumn, series, since, start}
+use Rattle.model.specs.Calls.{Call, Outcome, effect, finds, measures, reaches, sheets}
+use Rattle.model.specs.Series.{AtEnd, Demand3, Made, after, lengthColumn, makes, series, since, start}
 use Rattle.model.proofs.Accepted.{called, calls, pairs, pairwise}
 use Rattle.model.proofs.Series.Facts.{cleared-fits}
 use Rattle.model.proofs.Series.Whole.{demand3}
@@ -24,9 +24,12 @@ pub at-end : AtEnd (series calls start) (after calls empty) (since calls empty [
 unfolding Demand3
 at-end = demand3 calls
 
-asked : (c : Call) → (ask c (series calls start)) .reply ≡ (effect c (after calls empty)) .reply
-unfolding ask
-asked c =
+-- a call more, with cleared scratch
+abbrev asked : Call → Outcome
+asked c = makes (record { call = c; scratch = cleared }) (series calls start)
+
+asked-is : (c : Call) → (asked c) .reply ≡ (effect c (after calls empty)) .reply
+asked-is c =
     at-end .answers (record { call = c; scratch = cleared })
     ∙ ap (λ (b : Bool). if b then (effect c (after calls empty)) .reply else refuses 25) cleared-fits
 
@@ -34,10 +37,10 @@ pub record Shown : Type 0 where
   pub never-21 : held (series calls start) ≡ some (after calls empty)
   pub total : (series calls start) .counts .relabellings ≡ 1
   pub bound : (series calls start) .counts .relabellings ≤ 7 * floorLog 7
-  pub lengths : (slice : List ℕ) → 10 ≤ length slice → sum (lengthColumn (take 10 ((ask (sheets slice) (series calls start)) .slice))) ≡ 5500
-  pub find-8195 : (ask (finds 8195) (series calls start)) .reply ≡ found 2
-  pub reach-4 : (ask (reaches 4) (series calls start)) .reply ≡ reached 500 1700
-  pub distance : (ask (measures 0 6) (series calls start)) .reply ≡ measured (joined 4200)
+  pub lengths : (slice : List ℕ) → 10 ≤ length slice → sum (lengthColumn (take 10 ((asked (sheets slice)) .slice))) ≡ 5500
+  pub find-8195 : (asked (finds 8195)) .reply ≡ found 2
+  pub reach-4 : (asked (reaches 4)) .reply ≡ reached 500 1700
+  pub distance : (asked (measures 0 6)) .reply ≡ measured (joined 4200)
 
 pub shown : Shown
 shown =
@@ -47,11 +50,11 @@ shown =
       bound = subst (λ (n : ℕ). (series calls start) .counts .relabellings ≤ n * floorLog n) (called .accepted)
           (at-end .bound (omega (arith, called .accepted)));
       lengths = λ slice h.
-          subst (λ (n : ℕ). sum (lengthColumn (take (5 * n) ((ask (sheets slice) (series calls start)) .slice))) ≡ 5500) (called .chains)
-          ((at-end .lengths slice (omega (arith, called .chains))) .adds-up ∙ called .lengths);
-      find-8195 = asked (finds 8195) ∙ called .find-8195;
-      reach-4 = asked (reaches 4) ∙ called .reach-4;
-      distance = asked (measures 0 6) ∙ called .distance;
+          subst (λ (n : ℕ). sum (lengthColumn (take (5 * n) ((asked (sheets slice)) .slice))) ≡ 5500) (called .chains)
+          (((at-end .compared cleared cleared-fits) .lengths slice (omega (arith, called .chains))) .adds-up ∙ called .lengths);
+      find-8195 = asked-is (finds 8195) ∙ called .find-8195;
+      reach-4 = asked-is (reaches 4) ∙ called .reach-4;
+      distance = asked-is (measures 0 6) ∙ called .distance;
     }
 
 -- ---- neither factor of the bound can be left out

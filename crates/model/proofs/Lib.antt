@@ -1,3 +1,5 @@
+pub mod Computing
+pub mod Values
 pub mod Accepted
 pub mod Applied
 pub mod Basics

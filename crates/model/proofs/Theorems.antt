@@ -83,7 +83,7 @@ pub record OneChain (r : Register) : Type 0 where
 -- ---- 3. Labels
 
 -- A label is 0 exactly at a singular vertex. Those of a chain are consecutive from its low end to its high end. No two regular vertices
--- wear one label, and each fits 32 bits. So a label in use finds the chain of its wearer, and any other is refused with 8.
+-- wear one label, and each fits 32 bits. So a label in use finds the chain of its vertex, and any other is refused with 8.
 pub record LabelsFind (r : Register) : Type 0 where
   pub singular-zero : (v : ℕ) → isRegular (r .edges) v ≡ false → labelOf r v ≡ 0
   pub zero-singular : (v : ℕ) → labelOf r v ≡ 0 → isRegular (r .edges) v ≡ false

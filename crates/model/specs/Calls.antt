@@ -66,7 +66,7 @@ lentSlice (reaches v) = []
 lentSlice (measures v w) = []
 lentSlice (sheets slice) = slice
 
--- the register that a call finds: "never 21 for grow, which clears first"
+-- the register that a call finds: "21 (never for grow, which clears first)"
 unfoldable pub registerFor : Call → Lent → Option Register
 registerFor (grows bs) l = some empty
 registerFor (lands bs) l = held (l .stored)

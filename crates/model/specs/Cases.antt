@@ -31,7 +31,7 @@ unfoldable pub opposite : End → End
 opposite firstNamed = secondNamed
 opposite secondNamed = firstNamed
 
--- The six cases, in the order of document 003. A ring (refusal 24) is a merge of a chain with itself.
+-- The six cases, in document 01's order. A ring (refusal 24) is a merge of a chain with itself.
 pub data Case : Type 0 where
   -- neither is regular, neither a leaf: a new chain
   newChain : Case
@@ -68,7 +68,8 @@ caseOf regular regular = splitBoth
 unfoldable pub caseAt : List Edge → Edge → Case
 caseAt es e = caseOf (classOf (degree es (e .first))) (classOf (degree es (e .second)))
 
--- "If both are ends of the same run, the pipe closes a ring": both are leaves, and a's chain ends at b.
+-- "If both are ends of the same run, the pipe closes a ring": both are leaves, and a's chain ends at b. By theorem 1 exactly then a
+-- `Ring` would arise.
 unfoldable pub closesRing : List Edge → ℕ → ℕ → Bool
 closesRing es a b =
     isLeaf es a && isLeaf es b &&

@@ -75,7 +75,7 @@ over (joined k) n notJoined = notJoined
 over notJoined n l = notJoined
 
 -- The distance between two vertices. With no edges: 0 from a vertex to itself. With an edge more: what it was without that edge,
--- or over the edge once, in one direction or in the other.
+-- or over the edge once, in one direction or in the other. By theorem 6 it is the least over all ways.
 unfoldable pub distance : List Edge → ℕ → ℕ → Distance
 distance [] v w = if eqb v w then joined 0 else notJoined
 distance (e ∷ es) v w =

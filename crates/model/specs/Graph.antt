@@ -8,7 +8,7 @@ use lib.ListN.{length, getD}
 use lib.Dec.{eqb}
 use Rattle.model.specs.Basics.{if_then_else_, sum, least}
 
--- "A pipe joins two different fittings and has a length": the first named vertex, the second, millimetres
+-- the first named vertex, the second, millimetres; `landEdge` refuses equal ends (6) and lengths out of bounds (7)
 pub record Edge : Type 0 where
   pub first : ℕ
   pub second : ℕ
@@ -110,7 +110,7 @@ atOf s = s .at
 unfoldable pub afterOf : Pass → ℕ
 afterOf s = s .after
 
--- the chain on which edge d lies, in the direction from d's first to its second named end
+-- the chain on which edge d lies, in the direction from d's first to its second named end; by theorem 2 the one `IsChain` with d
 unfoldable pub chainOf : List Edge → ℕ → Chain
 chainOf es d =
     let a = (edgeAt es d) .first in

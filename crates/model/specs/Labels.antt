@@ -38,9 +38,9 @@ pub record Labelling : Type 0 where
   pub blocks : ℕ
   pub marks : Marks
 
--- The path goes on a chain at one of its ends. `kept` are that chain's regular vertices from there inwards, edge d is its last.
--- None: a birth, upwards, so that the far singular vertex is the low end. Otherwise the nearest of them, u, wears the highest label
--- if this is the high end, and the lowest if it is the low end, which it is if d is the low edge of u.
+-- `path` continues a chain at one of its ends. `kept` are that chain's regular vertices from this end inwards, d is its edge at this
+-- end. None: a birth, upwards, so that the far singular vertex is the low end. Otherwise the nearest of them, u, wears the highest
+-- label at the high end and the lowest at the low end; this is the low end exactly if d is the low edge of u.
 unfoldable pub attach : ℕ → ℕ → List Pass → List Pass → Marks → Labelling
 attach blocks d [] path m = record { blocks = blocks + 1; marks = labelPath true (base (blocks + 1)) path m }
 attach blocks d (u ∷ us) path m =
@@ -51,7 +51,8 @@ attach blocks d (u ∷ us) path m =
 unfoldable pub split : ℕ → Marks → Marks
 split v m = mark v 0 0 m
 
--- Extending: x is a leaf in `es`, and `new` is `es` with the edge. The chain is the one that a split of the other end left.
+-- Extending: x is a leaf in `es`, and `new` is `es` with the edge, whose number is `length es`. The walk is over `new`, where an end
+-- that was regular has degree 3 and stops it: so the chain is the one that the split left.
 unfoldable pub extend : List Edge → List Edge → ℕ → ℕ → Marks → Labelling
 extend es new blocks x m =
     let d = onlyEdge es x in
@@ -73,8 +74,8 @@ joinPath es x y =
     record { before = length es; at = y; after = onlyEdge es y } ∷
     inwards es y
 
--- "Merging: the run with more couplings keeps its tags; on a tie, the run of the first named." If neither has any, `attach` makes
--- it a birth: the first named gets the base, the second base + 1.
+-- "Merging otherwise: the run with more couplings keeps its tags; on a tie, the run of the first named." If neither has any, `attach`
+-- makes it a birth: the first named gets the base, the second base + 1.
 unfoldable pub merge : List Edge → ℕ → ℕ → ℕ → Marks → Labelling
 merge es blocks a b m =
     if leb (innerCount es b) (innerCount es a)

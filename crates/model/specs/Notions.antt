@@ -1,4 +1,4 @@
--- Notions of document 01 that no answer needs and that the theorems on every register speak of.
+-- What the theorems on every register speak of beyond the answers: reachable registers, rings, runs as paths, rising tags.
 use mathlib.Core.Path.{_≡_}
 use mathlib.Core.Logic.{_≢_, _⊎_}
 use Prim.Native.Nat.{ℕ, _≤_, _<_}

@@ -33,18 +33,18 @@ unfoldable pub chainAt : Register → ℕ → ℕ
 chainAt r v = nameOf (r .edges) (getD (incident (r .edges) v) 0 0)
 
 -- the first of some vertices that is regular and wears the label
-unfoldable pub wearer : Register → ℕ → List ℕ → Option ℕ
-wearer r label [] = none
-wearer r label (v ∷ vs) =
+unfoldable pub vertexWith : Register → ℕ → List ℕ → Option ℕ
+vertexWith r label [] = none
+vertexWith r label (v ∷ vs) =
     elim (isRegular (r .edges) v && eqb (labelOf r v) label) [
       | true ↦ some v
-      | false ↦ wearer r label vs
+      | false ↦ vertexWith r label vs
     ]
 
 -- "a tag gives the run whose couplings include it"; "8 tag on no coupling"
 unfoldable pub find : Register → ℕ → Reply
 find r label =
-    elim (wearer r label (upTo (r .vertices))) [ some v ↦ found (chainAt r v) | none ↦ refuses 8 ]
+    elim (vertexWith r label (upTo (r .vertices))) [ some v ↦ found (chainAt r v) | none ↦ refuses 8 ]
 
 -- ---- reach
 

@@ -22,10 +22,14 @@ pub record Made : Type 0 where
   pub call : Call
   pub scratch : Tables
 
+-- the call on what is stored
+unfoldable pub makes : Made → Stored → Outcome
+makes m s = step (m .call) (record { stored = s; scratch = m .scratch })
+
 -- "each gets the tables and head that the last one left, and nothing else writes them meanwhile"
 unfoldable pub series : List Made → Stored → Stored
 series [] s = s
-series (m ∷ ms) s = series ms ((step (m .call) (record { stored = s; scratch = m .scratch })) .lent .stored)
+series (m ∷ ms) s = series ms ((makes m s) .lent .stored)
 
 -- "A series starts from cleared tables of the right sizes, head included."
 unfoldable pub start : Stored
@@ -97,16 +101,12 @@ lengthColumn (a ∷ b ∷ []) = []
 lengthColumn (a ∷ []) = []
 lengthColumn [] = []
 
--- "After the series, with scratch of the right sizes": a call on what it left
-unfoldable pub ask : Call → Stored → Outcome
-ask c s = step c (record { stored = s; scratch = cleared })
-
 -- "a sheet into a slice long enough": in front five numbers for each chain, whose fifths add up to `total`; behind them the slice as it was
-pub record SheetAnswer (s : Stored) (r : Register) (slice : List ℕ) (total : ℕ) : Type 0 where
-  pub reply-is : (ask (sheets slice) s) .reply ≡ listed (length (sheet r))
-  pub front : take (5 * length (sheet r)) ((ask (sheets slice) s) .slice) ≡ sheetNumbers r
-  pub rest : drop (5 * length (sheet r)) ((ask (sheets slice) s) .slice) ≡ drop (5 * length (sheet r)) slice
-  pub adds-up : sum (lengthColumn (take (5 * length (sheet r)) ((ask (sheets slice) s) .slice))) ≡ total
+pub record SheetAnswer (o : Outcome) (r : Register) (slice : List ℕ) (total : ℕ) : Type 0 where
+  pub reply-is : o .reply ≡ listed (length (sheet r))
+  pub front : take (5 * length (sheet r)) (o .slice) ≡ sheetNumbers r
+  pub rest : drop (5 * length (sheet r)) (o .slice) ≡ drop (5 * length (sheet r)) slice
+  pub adds-up : sum (lengthColumn (take (5 * length (sheet r)) (o .slice))) ≡ total
 
 -- "its own run is the run that this coupling lies on": chain d has vertex v among its regular vertices, and d is its name
 pub record OwnChain (es : List Edge) (v d : ℕ) : Type 0 where
@@ -114,7 +114,7 @@ pub record OwnChain (es : List Edge) (v d : ℕ) : Type 0 where
   pub names : nameOf es d ≡ d
   pub has : Mem v ((chainOf es d) .inner)
 
--- "a find of each tag in use": the reply is the name of the chain on which its wearer v lies, and of no other
+-- "a find of each tag in use": the reply is the name of the chain on which v, which wears it, lies, and of no other
 pub record FindsOwn (es : List Edge) (v : ℕ) (reply : Reply) : Type 0 where
   pub name : ℕ
   pub reply-is : reply ≡ found name
@@ -122,27 +122,32 @@ pub record FindsOwn (es : List Edge) (v : ℕ) (reply : Reply) : Type 0 where
   pub only : (other : ℕ) → OwnChain es v other → other ≡ name
 
 -- "a distance between any two landed fittings": least over the edges and over the chains, and `notJoined` just where these give no way
-pub record DistanceAnswer (s : Stored) (r : Register) (v w : ℕ) : Type 0 where
+pub record DistanceAnswer (es : List Edge) (v w : ℕ) (reply : Reply) : Type 0 where
   pub distance : Distance
-  pub reply-is : (ask (measures v w) s) .reply ≡ measured distance
-  pub over-edges : IsDistance (λ l. Way (r .edges) v w l) distance
-  pub over-chains : IsDistance (λ l. ChainWay (r .edges) v w l) distance
-  pub any-stops : IsDistance (λ l. LooseWay (r .edges) v w l) distance
+  pub reply-is : reply ≡ measured distance
+  pub over-edges : IsDistance (λ l. Way es v w l) distance
+  pub over-chains : IsDistance (λ l. ChainWay es v w l) distance
+  pub any-stops : IsDistance (λ l. LooseWay es v w l) distance
+
+-- "the answers compared are those of a sheet .., a find of each tag in use and a distance": `asked` is what a call comes to then
+pub record Compared (asked : Call → Outcome) (r : Register) (ls : List Landing) : Type 0 where
+  pub lengths : (slice : List ℕ) → 5 * length (sheet r) ≤ length slice
+      → SheetAnswer (asked (sheets slice)) r slice (sum (edgeLengths (landedEdges ls)))
+  pub finds-own : (v : ℕ) → isRegular (r .edges) v ≡ true → FindsOwn (r .edges) v ((asked (finds (labelOf r v))) .reply)
+  pub distances : (v w : ℕ) → v < r .vertices → w < r .vertices → DistanceAnswer (r .edges) v w ((asked (measures v w)) .reply)
 
 -- What holds at the end of a series. `s` is what the series left; `r` and `ls` are the register and the edges accepted since the
--- last clearing, as the calls alone settle them. 21 holds of no call then.
+-- last clearing, as the calls alone settle them.
 pub record AtEnd (s : Stored) (r : Register) (ls : List Landing) : Type 0 where
-  pub holds : held s ≡ some r
-  pub answers : (m : Made) → (step (m .call) (record { stored = s; scratch = m .scratch })) .reply
-      ≡ (if fits (m .scratch) then (effect (m .call) r) .reply else refuses 25)
-  pub right-sizes : fits (s .tables) ≡ true
   pub contents : s ≡ storedOf r
   pub accepted : landedEdges ls ≡ r .edges
   pub total : s .counts .relabellings ≡ relabelledBy ls
   pub bound : 1 ≤ length ls → s .counts .relabellings ≤ length ls * floorLog (length ls)
-  pub lengths : (slice : List ℕ) → 5 * length (sheet r) ≤ length slice → SheetAnswer s r slice (sum (edgeLengths (landedEdges ls)))
-  pub finds-own : (v : ℕ) → isRegular (r .edges) v ≡ true → FindsOwn (r .edges) v ((ask (finds (labelOf r v)) s) .reply)
-  pub distances : (v w : ℕ) → v < s .counts .vertices → w < s .counts .vertices → DistanceAnswer s r v w
+  -- "After the series, with scratch of the right sizes"
+  pub compared : (scratch : Tables) → fits scratch ≡ true → Compared (λ c. makes (record { call = c; scratch = scratch }) s) r ls
+  -- "Refusal 21 holds in no series": nor does it of any call more
+  pub holds : held s ≡ some r
+  pub answers : (m : Made) → (makes m s) .reply ≡ (if fits (m .scratch) then (effect (m .call) r) .reply else refuses 25)
 
 -- Demand 3, as a type: a proof of it is the theorem.
 unfoldable pub Demand3 : Type 0

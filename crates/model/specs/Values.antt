@@ -1,5 +1,5 @@
 -- Document 01, "Values to hold": those marked M, from the bytes of the lists, as one table; and some more that tell readings apart.
-use mathlib.Core.Path.{_≡_, refl}
+use mathlib.Core.Path.{_≡_}
 use Prim.Native.Nat.{ℕ, _/_, _%_}
 use mathlib.Core.List.{List, [], _∷_, _++_}
 use lib.ListN.{take, replicate}
@@ -10,7 +10,6 @@ use Rattle.model.specs.Distance.{joined, notJoined}
 use Rattle.model.specs.Queries.{Reply, found, reached, measured, refuses, find, reach, measure}
 use Rattle.model.specs.FromC.{bytes4, cSheet, cFind, cReach, cDistance}
 use Rattle.model.specs.Printing.{ascii, printed}
-use Rattle.model.specs.Computing.{computing}
 
 -- ---- lists
 
@@ -108,7 +107,8 @@ ownNeighbour = listOf 3 (edge 0 1 1 ∷ edge 1 2 2 ∷ edge 2 1 4 ∷ [])
 unfoldable pub twoOfOne : List ℕ
 twoOfOne = listOf 6 (edge 0 1 1 ∷ edge 1 2 2 ∷ edge 2 3 4 ∷ edge 3 4 8 ∷ edge 4 5 16 ∷ edge 1 4 32 ∷ [])
 
--- the tapped line, and an edge more at the leaf 4 of its other piece: a lone regular vertex, whose chain is extended at its high end
+-- a line 0-1-2-3-4 whose leaf 0 is joined to its own vertex 2: a split, and an extension at the low end; then 4-5: the lone regular
+-- vertex 3 is extended at its high end
 unfoldable pub tappedHigh : List ℕ
 tappedHigh = listOf 6 (edge 0 1 1 ∷ edge 1 2 1 ∷ edge 2 3 1 ∷ edge 3 4 1 ∷ edge 2 0 1 ∷ edge 4 5 1 ∷ [])
 
@@ -157,75 +157,3 @@ pub record Readings : Type 0 where
   pub c-none : cDistance (listOf 2 []) 0 1 (replicate 4 7) ≡ record { slice = replicate 4 255; value = pos 4 }
   pub c-sheet : cSheet (oneEdge 1 0 3) (replicate 21 7)
       ≡ record { slice = bytes4 0 ++ bytes4 0 ++ bytes4 1 ++ bytes4 0 ++ bytes4 3 ++ (7 ∷ []); value = pos 20 }
-
--- ---- computed
-
-unfoldable pub lists : Unit {0}
-unfolding edge edgeBytes listOf labelsAfter relabelledAfter stopAfter findAfter reachAfter distanceAfter house ring loop tapped oneEdge secondLonger tie bothBare ownChain ownNeighbour twoOfOne tappedHigh
-lists = tt
-
-pub values : Marked
-unfolding computing lists
-values =
-    record {
-      listing = refl;
-      labels = refl;
-      find-8192 = refl;
-      find-8195 = refl;
-      find-8194 = refl;
-      header-alone = refl;
-      ring-stops = refl;
-      loop-chain = refl;
-      loop-distance = refl;
-      low-end = refl;
-      longest = refl;
-      too-long = refl;
-      too-short = refl;
-      one-vertex = refl;
-    }
-
-pub readings : Readings
-unfolding computing lists
-readings =
-    record {
-      second-longer = refl;
-      second-longer-count = refl;
-      tie-first = refl;
-      tie-other = refl;
-      both-bare = refl;
-      own-chain = refl;
-      own-chain-sheet = refl;
-      own-neighbour = refl;
-      own-neighbour-sheet = refl;
-      two-of-one = refl;
-      two-of-one-sheet = refl;
-      tapped-high = refl;
-      reach-1 = refl;
-      reach-4 = refl;
-      reach-down = refl;
-      reach-singular = refl;
-      reach-not-landed = refl;
-      find-zero = refl;
-      distance-over-chains = refl;
-      distance-self = refl;
-      distance-none = refl;
-      distance-not-landed = refl;
-      no-mark-short = refl;
-      no-mark = refl;
-      cut-before-version = refl;
-      version = refl;
-      kind-before-cut = refl;
-      cut = refl;
-      not-landed-before-same = refl;
-      same-before-length = refl;
-      header-refused = refl;
-      vertex-4096 = refl;
-      vertex-4097 = refl;
-      c-find = refl;
-      c-reach = refl;
-      c-short = refl;
-      c-own-before-short = refl;
-      c-stopped = refl;
-      c-none = refl;
-      c-sheet = refl;
-    }

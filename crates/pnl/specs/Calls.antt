@@ -1,4 +1,5 @@
--- What the calls from C do, as functions on the tables that mirror the code.
+-- How the contracts of the calls from C are put: the answer slice with the value, the register that tables hold, and what a query
+-- asks.
 use mathlib.Core.Path.{_≡_}
 use Prim.Native.Nat.{ℕ}
 use mathlib.Core.List.{List}

@@ -5,7 +5,7 @@ use mathlib.Core.List.{List}
 use Rattle.model.specs.Register.{empty}
 use Rattle.model.specs.Format.{growList}
 use Rattle.model.specs.Tables.{tablesOf, countsOf, cleared, noCounts}
-use Rattle.model.specs.Computing.{computing}
+use Rattle.model.proofs.Computing.{computing}
 use Rattle.model.proofs.Series.Reachable.{reachable-empty}
 use Rattle.register.specs.Listing.{landListIn}
 use Rattle.register.proofs.Listing.{list-agrees, readIn}

@@ -12,10 +12,10 @@ use Rattle.model.specs.Basics.{if_then_else_, upTo}
 use Rattle.model.specs.Graph.{isRegular}
 use Rattle.model.specs.Register.{Register, empty}
 use Rattle.model.specs.Format.{growList}
-use Rattle.model.specs.Queries.{Reply, chainAt, find, found, listed, measure, measured, reach, reached, read, refuses, sheetNumbers, wearer}
+use Rattle.model.specs.Queries.{Reply, chainAt, find, found, listed, measure, measured, reach, reached, read, refuses, sheetNumbers, vertexWith}
 use Rattle.model.specs.Tables.{fits}
-use Rattle.model.specs.Calls.{Call, Effect, answers, effect, finds, grows, lands, measures, reaches, readEffect, sheetEffect, sheets, step}
-use Rattle.model.specs.Series.{Demand3, Landing, Made, accepts, after, afterCall, landedBy, series, since, start}
+use Rattle.model.specs.Calls.{Call, Effect, answers, effect, finds, grows, lands, measures, reaches, readEffect, sheetEffect, sheets}
+use Rattle.model.specs.Series.{Demand3, Landing, Made, accepts, after, afterCall, landedBy, makes, series, since, start}
 use Rattle.model.proofs.Series.Whole.{demand3}
 
 -- ---- 21 holds in no series
@@ -43,7 +43,7 @@ either false n x h k = k
 
 own-find : (r : Register) (label : ℕ) → Own (find r label)
 unfolding find refusalOf
-own-find r label = go (wearer r label (upTo (r .vertices)))
+own-find r label = go (vertexWith r label (upTo (r .vertices)))
   where
     go : (o : Option ℕ) → Own (elim o [ some v ↦ found (chainAt r v) | none ↦ refuses 8 ])
     go (some v) = omega arith
@@ -79,7 +79,7 @@ unfolding refusalOf
 twenty-one true x h e = let z : refusalOf x ≡ 21 = ap refusalOf e in omega arith
 twenty-one false x h e = let z : _≡_ {A = ℕ} 25 21 = ap refusalOf e in omega arith
 
-pub never-21 : (ms : List Made) (m : Made) → (step (m .call) (record { stored = series ms start; scratch = m .scratch })) .reply ≢ refuses 21
+pub never-21 : (ms : List Made) (m : Made) → (makes m (series ms start)) .reply ≢ refuses 21
 unfolding Demand3
 never-21 ms m e =
     let r = after ms empty in

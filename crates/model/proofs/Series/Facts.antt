@@ -1,5 +1,5 @@
 -- The invariant of every register in a series, and what a call does to what is stored for such a register.
-use mathlib.Core.Path.{_≡_, refl, sym, subst}
+use mathlib.Core.Path.{_≡_, refl, sym, subst, _∙_}
 use Prim.Native.Nat.{ℕ, _*_, _≤_}
 use native.Mathlib.Omega.{arith}
 use mathlib.Core.Bool.{Bool, true, false}
@@ -13,8 +13,8 @@ use Rattle.model.specs.Format.{growList}
 use Rattle.model.specs.Queries.{refuses}
 use Rattle.model.specs.Tables.{cleared, edgeLengths, endsOf, fits, held, padded, rightSizes, sidesOf, sizes, storedOf, tablesOf}
 use Rattle.model.specs.Calls.{Call, Lent, Outcome, admits, allFit, answers, bars, effect, finds, gate, grows, lands, measures, reaches, readEffect, registerFor, scratchAfter, sheets, lentSlice, step}
-use Rattle.model.specs.Series.{Made, after, afterCall, ask, start}
-use Rattle.model.specs.Computing.{computing}
+use Rattle.model.specs.Series.{Made, after, afterCall, makes, start}
+use Rattle.model.proofs.Computing.{computing}
 use Rattle.model.proofs.Basics.Lists.{length-upTo}
 use Rattle.model.proofs.Walks.Keeps.{Accepted, Added, list-keeps}
 use Rattle.model.proofs.Chains.Sheet.{sheet-leaves}
@@ -167,7 +167,16 @@ pub step-refused : (c : Call) (l : Lent) → allFit l ≡ false → step c l ≡
 unfolding step
 step-refused c l a = rw (gate-bars c l a, step) (rw (scratch-kept l a))
 
--- a call at the end of a series
-pub ask-is : (c : Call) (r : Register) → Kept r → ask c (storedOf r) ≡ outcomeOf c r
-unfolding ask allFit storedOf
-ask-is c r k = step-fits c (record { stored = storedOf r; scratch = cleared }) r (rw (kept-fits r k, cleared-fits)) (kept-held r k)
+-- a call of a series: its tables fit where its scratch does
+all-fit : (m : Made) (r : Register) → Kept r → allFit (record { stored = storedOf r; scratch = m .scratch }) ≡ fits (m .scratch)
+unfolding allFit storedOf
+all-fit m r k = rw (kept-fits r k)
+
+pub makes-fits : (m : Made) (r : Register) → Kept r → fits (m .scratch) ≡ true → makes m (storedOf r) ≡ outcomeOf (m .call) r
+unfolding makes
+makes-fits m r k f = step-fits (m .call) _ r (all-fit m r k ∙ f) (kept-held r k)
+
+pub makes-refused : (m : Made) (r : Register) → Kept r → fits (m .scratch) ≡ false
+    → makes m (storedOf r) ≡ record { lent = record { stored = storedOf r; scratch = m .scratch }; slice = lentSlice (m .call); reply = refuses 25 }
+unfolding makes
+makes-refused m r k f = step-refused (m .call) _ (all-fit m r k ∙ f)

@@ -14,7 +14,7 @@ use Rattle.model.specs.Basics.{countFrom, floorLog, upTo}
 use Rattle.model.specs.Graph.{Edge, Pass, degree, isRegular}
 use Rattle.model.specs.Labels.{Labelling, Marks, labelEdge}
 use Rattle.model.specs.Register.{Register, empty, marksOf, withEdge, withVertex}
-use Rattle.model.specs.Queries.{chainAt, find, found, refuses, wearer}
+use Rattle.model.specs.Queries.{chainAt, find, found, refuses, vertexWith}
 use Rattle.model.proofs.Walks.Degree.{is-two, proper-snoc, end-cases}
 use Rattle.model.proofs.Walks.Turn.{At, TwoEdges, two-edges}
 use Rattle.model.proofs.Walks.Keeps.{Accepted, Added}
@@ -172,33 +172,33 @@ label-small r c v = go (ℕ-discrete (degree (r .edges) v) 2)
 
 -- ---- find
 
-wearer-yes : (r : Register) (label v : ℕ) (vs : List ℕ) → isRegular (r .edges) v ≡ true → getD (r .labels) v 0 ≡ label → wearer r label (v ∷ vs) ≡ some v
-unfolding wearer
-wearer-yes r label v vs c e = rw (c, eq-eqb (getD (r .labels) v 0) label e, wearer)
+with-label-yes : (r : Register) (label v : ℕ) (vs : List ℕ) → isRegular (r .edges) v ≡ true → getD (r .labels) v 0 ≡ label → vertexWith r label (v ∷ vs) ≡ some v
+unfolding vertexWith
+with-label-yes r label v vs c e = rw (c, eq-eqb (getD (r .labels) v 0) label e, vertexWith)
 
-wearer-no : (r : Register) (label v : ℕ) (vs : List ℕ) → (isRegular (r .edges) v ≡ true → getD (r .labels) v 0 ≢ label) → wearer r label (v ∷ vs) ≡ wearer r label vs
-unfolding wearer
-wearer-no r label v vs n = go (isRegular (r .edges) v) refl
+with-label-no : (r : Register) (label v : ℕ) (vs : List ℕ) → (isRegular (r .edges) v ≡ true → getD (r .labels) v 0 ≢ label) → vertexWith r label (v ∷ vs) ≡ vertexWith r label vs
+unfolding vertexWith
+with-label-no r label v vs n = go (isRegular (r .edges) v) refl
   where
-    go : (b : Bool) → isRegular (r .edges) v ≡ b → wearer r label (v ∷ vs) ≡ wearer r label vs
-    go true c = rw (c, ne-eqb (getD (r .labels) v 0) label (n c), wearer)
-    go false c = rw (c, wearer)
+    go : (b : Bool) → isRegular (r .edges) v ≡ b → vertexWith r label (v ∷ vs) ≡ vertexWith r label vs
+    go true c = rw (c, ne-eqb (getD (r .labels) v 0) label (n c), vertexWith)
+    go false c = rw (c, vertexWith)
 
--- the wearer of a label that one vertex alone wears
-wearer-is : (r : Register) (label at n v : ℕ) → at ≤ v → v < at + n → isRegular (r .edges) v ≡ true → getD (r .labels) v 0 ≡ label
-    → ((w : ℕ) → isRegular (r .edges) w ≡ true → getD (r .labels) w 0 ≡ label → w ≡ v) → wearer r label (countFrom at n) ≡ some v
+-- the vertex with a label that one vertex alone wears
+with-label-is : (r : Register) (label at n v : ℕ) → at ≤ v → v < at + n → isRegular (r .edges) v ≡ true → getD (r .labels) v 0 ≡ label
+    → ((w : ℕ) → isRegular (r .edges) w ≡ true → getD (r .labels) w 0 ≡ label → w ≡ v) → vertexWith r label (countFrom at n) ≡ some v
 unfolding countFrom
-wearer-is r label at zero v l h c e only = absurd (omega arith)
-wearer-is r label at (suc n) v l h c e only = go (ℕ-discrete at v) (λ i. wearer-is r label (suc at) n v i (omega arith) c e only)
+with-label-is r label at zero v l h c e only = absurd (omega arith)
+with-label-is r label at (suc n) v l h c e only = go (ℕ-discrete at v) (λ i. with-label-is r label (suc at) n v i (omega arith) c e only)
   where
-    go : Dec (at ≡ v) → (at < v → wearer r label (countFrom (suc at) n) ≡ some v) → wearer r label (at ∷ countFrom (suc at) n) ≡ some v
-    go (yes q) next = rw q (wearer-yes r label v (countFrom (suc v) n) c e)
-    go (no q) next = wearer-no r label at (countFrom (suc at) n) (λ c′ e′. q (only at c′ e′)) ∙ next (omega (arith, q))
+    go : Dec (at ≡ v) → (at < v → vertexWith r label (countFrom (suc at) n) ≡ some v) → vertexWith r label (at ∷ countFrom (suc at) n) ≡ some v
+    go (yes q) next = rw q (with-label-yes r label v (countFrom (suc v) n) c e)
+    go (no q) next = with-label-no r label at (countFrom (suc at) n) (λ c′ e′. q (only at c′ e′)) ∙ next (omega (arith, q))
 
-wearer-none : (r : Register) (label : ℕ) (vs : List ℕ) → ((v : ℕ) → isRegular (r .edges) v ≡ true → getD (r .labels) v 0 ≢ label) → wearer r label vs ≡ none
-unfolding wearer
-wearer-none r label [] n = refl
-wearer-none r label (v ∷ vs) n = wearer-no r label v vs (n v) ∙ wearer-none r label vs n
+with-label-none : (r : Register) (label : ℕ) (vs : List ℕ) → ((v : ℕ) → isRegular (r .edges) v ≡ true → getD (r .labels) v 0 ≢ label) → vertexWith r label vs ≡ none
+unfolding vertexWith
+with-label-none r label [] n = refl
+with-label-none r label (v ∷ vs) n = with-label-no r label v vs (n v) ∙ with-label-none r label vs n
 
 pub regular-landed : (r : Register) → Labelled r → (v : ℕ) → isRegular (r .edges) v ≡ true → v < r .vertices
 regular-landed r c v q =
@@ -208,7 +208,7 @@ regular-landed r c v q =
 -- a regular vertex's label finds its own chain
 pub find-own : (r : Register) → Labelled r → (v : ℕ) → isRegular (r .edges) v ≡ true → find r (getD (r .labels) v 0) ≡ found (chainAt r v)
 unfolding find upTo
-find-own r c v q = rw (wearer-is r (getD (r .labels) v 0) 0 (r .vertices) v (omega arith) (omega (arith, regular-landed r c v q)) q refl only, find)
+find-own r c v q = rw (with-label-is r (getD (r .labels) v 0) 0 (r .vertices) v (omega arith) (omega (arith, regular-landed r c v q)) q refl only, find)
   where
     only : (w : ℕ) → isRegular (r .edges) w ≡ true → getD (r .labels) w 0 ≡ getD (r .labels) v 0 → w ≡ v
     only w q′ e = labels-unique r c w v (is-two (r .edges) w q′) (is-two (r .edges) v q) e
@@ -216,4 +216,4 @@ find-own r c v q = rw (wearer-is r (getD (r .labels) v 0) 0 (r .vertices) v (ome
 -- and a label that none wears is refused
 pub find-none : (r : Register) (label : ℕ) → Labelled r → ((v : ℕ) → isRegular (r .edges) v ≡ true → getD (r .labels) v 0 ≢ label) → find r label ≡ refuses 8
 unfolding find
-find-none r label c n = rw (wearer-none r label (upTo (r .vertices)) n, find)
+find-none r label c n = rw (with-label-none r label (upTo (r .vertices)) n, find)

@@ -16,7 +16,7 @@ use Rattle.model.specs.Register.{Register, empty, marksOf, withEdge, wit
 use Rattle.model.specs.Distance.{distance, joined, lengthVia}
 use Rattle.model.specs.Queries.{lengthTo}
 use Rattle.model.specs.Notions.{Reachable}
-use Rattle.model.specs.Computing.{computing}
+use Rattle.model.proofs.Computing.{computing}
 use Rattle.model.proofs.Basics.Lists.{sum-append, sum-reverse}
 use Rattle.model.proofs.Walks.Counting.{occurs}
 use Rattle.model.proofs.Walks.Degree.{Proper}

@@ -12,9 +12,9 @@ use Rattle.model.specs.Graph.{isRegular}
 use Rattle.model.specs.Register.{Register, empty, labelOf}
 use Rattle.model.specs.Distance.{distance}
 use Rattle.model.specs.Queries.{Reply, find, listed, measure, measured, refuses, sheet, sheetNumbers}
-use Rattle.model.specs.Tables.{Stored, countsOf, edgeLengths, fits, storedOf}
-use Rattle.model.specs.Calls.{Effect, Lent, Outcome, allFit, answers, effect, finds, measures, sheetEffect, sheets, step}
-use Rattle.model.specs.Series.{AtEnd, Demand3, DistanceAnswer, FindsOwn, Landing, Made, SheetAnswer, after, afterCall, ask, landedEdges, lengthColumn, series, since}
+use Rattle.model.specs.Tables.{Stored, Tables, countsOf, edgeLengths, fits, storedOf}
+use Rattle.model.specs.Calls.{Call, Effect, Outcome, answers, effect, finds, measures, sheetEffect, sheets}
+use Rattle.model.specs.Series.{AtEnd, Demand3, DistanceAnswer, FindsOwn, Landing, Made, SheetAnswer, after, afterCall, landedEdges, lengthColumn, makes, series, since}
 use Rattle.model.proofs.Walks.Degree.{Proper}
 use Rattle.model.proofs.Walks.RingFree.{RingFree}
 use Rattle.model.proofs.Chains.Sheet.{sheet-sum, sheet-length, sheet-into}
@@ -23,37 +23,29 @@ use Rattle.model.proofs.Distances.Hops.{chains-distance, loose-distance
 use Rattle.model.proofs.Series.Labelled.{labelled-bound}
 use Rattle.model.proofs.Series.Answers.{finds-chain}
 use Rattle.model.proofs.Series.Told.{Told, told, edges-count}
-use Rattle.model.proofs.Series.Facts.{Kept, kept-empty, kept-made, kept-after, kept-held, kept-fits, start-is, outcomeOf, step-fits, step-refused, ask-is}
+use Rattle.model.proofs.Series.Facts.{Kept, kept-empty, kept-made, kept-after, kept-held, start-is, outcomeOf, makes-fits, makes-refused}
 
 -- ---- a series does to what is stored what it does to the register
 
--- what a call of a series is lent
-abbrev lentTo : Made → Register → Lent
-lentTo m r = record { stored = storedOf r; scratch = m .scratch }
-
-all-fit : (m : Made) (r : Register) → Kept r → allFit (lentTo m r) ≡ fits (m .scratch)
-unfolding allFit storedOf
-all-fit m r k = rw (kept-fits r k)
-
-step-does : (m : Made) (r : Register) → Kept r → ((step (m .call) (lentTo m r)) .lent .stored ≡ storedOf (afterCall m r))
-    × ((step (m .call) (lentTo m r)) .reply ≡ (if fits (m .scratch) then (effect (m .call) r) .reply else refuses 25))
+makes-does : (m : Made) (r : Register) → Kept r → ((makes m (storedOf r)) .lent .stored ≡ storedOf (afterCall m r))
+    × ((makes m (storedOf r)) .reply ≡ (if fits (m .scratch) then (effect (m .call) r) .reply else refuses 25))
 unfolding afterCall outcomeOf
-step-does m r k = go (fits (m .scratch)) refl
+makes-does m r k = go (fits (m .scratch)) refl
   where
     go : (b : Bool) → fits (m .scratch) ≡ b
-        → ((step (m .call) (lentTo m r)) .lent .stored ≡ storedOf (if b then (effect (m .call) r) .leaves else r))
-        × ((step (m .call) (lentTo m r)) .reply ≡ (if b then (effect (m .call) r) .reply else refuses 25))
+        → ((makes m (storedOf r)) .lent .stored ≡ storedOf (if b then (effect (m .call) r) .leaves else r))
+        × ((makes m (storedOf r)) .reply ≡ (if b then (effect (m .call) r) .reply else refuses 25))
     go true f =
-        let e = step-fits (m .call) (lentTo m r) r (all-fit m r k ∙ f) (kept-held r k) in
+        let e = makes-fits m r k f in
         (ap (λ (o : Outcome). o .lent .stored) e, ap (λ (o : Outcome). o .reply) e)
     go false f =
-        let e = step-refused (m .call) (lentTo m r) (all-fit m r k ∙ f) in
+        let e = makes-refused m r k f in
         (ap (λ (o : Outcome). o .lent .stored) e, ap (λ (o : Outcome). o .reply) e)
 
 series-is : (ms : List Made) (r : Register) → Kept r → series ms (storedOf r) ≡ storedOf (after ms r)
 unfolding series after
 series-is [] r k = refl
-series-is (m ∷ ms) r k = rw ((step-does m r k) .0) (series-is ms (afterCall m r) (kept-made m r k))
+series-is (m ∷ ms) r k = rw ((makes-does m r k) .0) (series-is ms (afterCall m r) (kept-made m r k))
 
 -- ---- the facts of one register
 
@@ -68,55 +60,63 @@ module _ (r : Register) (k : Kept r) where
   rings : RingFree (r .edges)
   rings = k .labelled .sound .rings
 
-  sheet-answer : (slice : List ℕ) (total : ℕ) → sum (edgeLengths (r .edges)) ≡ total
-      → 5 * length (sheet r) ≤ length slice → SheetAnswer (storedOf r) r slice total
-  unfolding effect outcomeOf
-  sheet-answer slice total e h =
-      record {
-        reply-is = ap (λ (o : Outcome). o .reply) (ask-is (sheets slice) r k) ∙ ap (λ (x : Effect). x .reply) into;
-        front = front;
-        rest = ap (λ (xs : List ℕ). drop n xs) written ∙ parts .1;
-        adds-up = ap (λ (xs : List ℕ). sum (lengthColumn xs)) front ∙ sheet-sum r proper rings ∙ e;
-      }
-    where
-      ns : List ℕ
-      ns = sheetNumbers r
+  -- a call on it with scratch of the right sizes
+  module _ (scratch : Tables) (f : fits scratch ≡ true) where
+    abbrev asked : Call → Outcome
+    asked c = makes (record { call = c; scratch = scratch }) (storedOf r)
 
-      n : ℕ
-      n = 5 * length (sheet r)
+    asked-is : (c : Call) → asked c ≡ outcomeOf c r
+    asked-is c = makes-fits (record { call = c; scratch = scratch }) r k f
 
-      into : sheetEffect r slice ≡ record { leaves = r; slice = ns ++ drop n slice; reply = listed (length (sheet r)) }
-      into = sheet-into r slice h
+    sheet-answer : (slice : List ℕ) (total : ℕ) → sum (edgeLengths (r .edges)) ≡ total
+        → 5 * length (sheet r) ≤ length slice → SheetAnswer (asked (sheets slice)) r slice total
+    unfolding effect outcomeOf
+    sheet-answer slice total e h =
+        record {
+          reply-is = ap (λ (o : Outcome). o .reply) (asked-is (sheets slice)) ∙ ap (λ (x : Effect). x .reply) into;
+          front = front;
+          rest = ap (λ (xs : List ℕ). drop n xs) written ∙ parts .1;
+          adds-up = ap (λ (xs : List ℕ). sum (lengthColumn xs)) front ∙ sheet-sum r proper rings ∙ e;
+        }
+      where
+        ns : List ℕ
+        ns = sheetNumbers r
 
-      written : (ask (sheets slice) (storedOf r)) .slice ≡ ns ++ drop n slice
-      written = ap (λ (o : Outcome). o .slice) (ask-is (sheets slice) r k) ∙ ap (λ (x : Effect). x .slice) into
+        n : ℕ
+        n = 5 * length (sheet r)
 
-      parts : (take n (ns ++ drop n slice) ≡ ns) × (drop n (ns ++ drop n slice) ≡ drop n slice)
-      parts =
-          subst (λ (l : ℕ). (take l (ns ++ drop n slice) ≡ ns) × (drop l (ns ++ drop n slice) ≡ drop n slice)) (sheet-length r)
-          (take-append-seam ns (drop n slice), drop-append-seam ns (drop n slice))
+        into : sheetEffect r slice ≡ record { leaves = r; slice = ns ++ drop n slice; reply = listed (length (sheet r)) }
+        into = sheet-into r slice h
 
-      front : take n ((ask (sheets slice) (storedOf r)) .slice) ≡ ns
-      front = ap (λ (xs : List ℕ). take n xs) written ∙ parts .0
+        written : (asked (sheets slice)) .slice ≡ ns ++ drop n slice
+        written = ap (λ (o : Outcome). o .slice) (asked-is (sheets slice)) ∙ ap (λ (x : Effect). x .slice) into
 
-  find-answer : (v : ℕ) → isRegular (r .edges) v ≡ true → FindsOwn (r .edges) v ((ask (finds (labelOf r v)) (storedOf r)) .reply)
-  unfolding effect outcomeOf answers
-  find-answer v c =
-      let told : (ask (finds (labelOf r v)) (storedOf r)) .reply ≡ find r (labelOf r v) = ap (λ (o : Outcome). o .reply) (ask-is (finds (labelOf r v)) r k) in
-      subst (λ (a : Reply). FindsOwn (r .edges) v a) (sym told) (finds-chain r (k .labelled) v c)
+        parts : (take n (ns ++ drop n slice) ≡ ns) × (drop n (ns ++ drop n slice) ≡ drop n slice)
+        parts =
+            subst (λ (l : ℕ). (take l (ns ++ drop n slice) ≡ ns) × (drop l (ns ++ drop n slice) ≡ drop n slice)) (sheet-length r)
+            (take-append-seam ns (drop n slice), drop-append-seam ns (drop n slice))
 
-  distance-answer : (v w : ℕ) → v < r .vertices → w < r .vertices → DistanceAnswer (storedOf r) r v w
-  unfolding effect outcomeOf answers
-  distance-answer v w a b =
-      let l = distance (r .edges) v w in
-      let e = is-distance (r .edges) v w in
-      record {
-        distance = l;
-        reply-is = ap (λ (o : Outcome). o .reply) (ask-is (measures v w) r k) ∙ measure-is r v w a b;
-        over-edges = e;
-        over-chains = chains-distance (r .edges) proper rings v w l e;
-        any-stops = loose-distance (r .edges) proper rings v w l e;
-      }
+        front : take n ((asked (sheets slice)) .slice) ≡ ns
+        front = ap (λ (xs : List ℕ). take n xs) written ∙ parts .0
+
+    find-answer : (v : ℕ) → isRegular (r .edges) v ≡ true → FindsOwn (r .edges) v ((asked (finds (labelOf r v))) .reply)
+    unfolding effect outcomeOf answers
+    find-answer v c =
+        let told : (asked (finds (labelOf r v))) .reply ≡ find r (labelOf r v) = ap (λ (o : Outcome). o .reply) (asked-is (finds (labelOf r v))) in
+        subst (λ (a : Reply). FindsOwn (r .edges) v a) (sym told) (finds-chain r (k .labelled) v c)
+
+    distance-answer : (v w : ℕ) → v < r .vertices → w < r .vertices → DistanceAnswer (r .edges) v w ((asked (measures v w)) .reply)
+    unfolding effect outcomeOf answers
+    distance-answer v w a b =
+        let l = distance (r .edges) v w in
+        let e = is-distance (r .edges) v w in
+        record {
+          distance = l;
+          reply-is = ap (λ (o : Outcome). o .reply) (asked-is (measures v w)) ∙ measure-is r v w a b;
+          over-edges = e;
+          over-chains = chains-distance (r .edges) proper rings v w l e;
+          any-stops = loose-distance (r .edges) proper rings v w l e;
+        }
 
   facts : (ls : List Landing) → Told r ls → AtEnd (storedOf r) r ls
   unfolding storedOf countsOf
@@ -124,16 +124,17 @@ module _ (r : Register) (k : Kept r) where
       let n : length (r .edges) ≡ length ls = ap length (sym (t .edges-are)) ∙ edges-count ls in
       let few = subst (λ (m : ℕ). r .relabellings ≤ m * floorLog m) n (labelled-bound r (k .labelled)) in
       record {
-        holds = kept-held r k;
-        answers = λ m. (step-does m r k) .1;
-        right-sizes = kept-fits r k;
         contents = refl;
         accepted = t .edges-are;
         total = t .total-is;
         bound = λ l. omega (arith, few);
-        lengths = λ slice h. sheet-answer slice (sum (edgeLengths (landedEdges ls))) (rw (t .edges-are)) h;
-        finds-own = find-answer;
-        distances = distance-answer;
+        compared = λ scratch f. record {
+          lengths = λ slice h. sheet-answer scratch f slice (sum (edgeLengths (landedEdges ls))) (rw (t .edges-are)) h;
+          finds-own = find-answer scratch f;
+          distances = distance-answer scratch f;
+        };
+        holds = kept-held r k;
+        answers = λ m. (makes-does m r k) .1;
       }
 
 -- ---- the claim
