@@ -2,7 +2,7 @@
  * fittings are from each other.
  *
  *     ./build
- *     cc -Iinclude examples/sheet.c target/staticlib/libpnl.a -o sheet && ./sheet
+ *     cc -Iinclude examples/sheet.c target/staticlib/libpnl.a -o target/sheet && target/sheet
  */
 #include <inttypes.h>
 #include <stdio.h>
@@ -49,27 +49,31 @@ static void print_distance(const uint8_t *list, size_t list_len, uint32_t from, 
         printf("%" PRIu32 " mm\n", number(answer));
 }
 
+static int refused(const char *call, int32_t refusal)
+{
+    fprintf(stderr, "%s: refusal %" PRId32 "\n", call, -refusal);
+    return 1;
+}
+
 int main(void)
 {
     static uint8_t answer[PNL_SHEET_MOST];
     int32_t size, at;
 
     size = pnl_sheet(house, sizeof house, answer, sizeof answer);
-    if (size < 0) {
-        fprintf(stderr, "sheet: refusal %" PRId32 "\n", -size);
-        return 1;
-    }
+    if (size < 0)
+        return refused("sheet", size);
     for (at = 0; at < size; at += PNL_SHEET_ROW)
         print_run(answer + at);
 
     size = pnl_find(house, sizeof house, 8195, answer, sizeof answer);
     if (size < 0)
-        return 1;
+        return refused("find", size);
     printf("tag 8195 is on run %" PRIu32 "\n", number(answer));
 
     size = pnl_reach(house, sizeof house, 1, answer, sizeof answer);
     if (size < 0)
-        return 1;
+        return refused("reach", size);
     printf("fitting 1: %" PRIu32 " mm to the low end, %" PRIu32 " mm to the high end\n", number(answer), number(answer + 4));
 
     if (pnl_find(house, sizeof house, 8194, answer, sizeof answer) == PNL_REFUSED_NO_COUPLING)

@@ -3,17 +3,24 @@
  * Each call takes a list, the bytes of a "PNL" file, grows the register from it in tables on its own stack, and writes its answer
  * to the front of `answer` as little-endian 32-bit numbers.
  *
+ *   List       3 bytes "PNL"; a 16-bit version, 1; then records. A record is the byte 0x46 alone, which lands a fitting; or the byte
+ *              0x50, two 16-bit fitting numbers and a 32-bit length in mm, 9 bytes in all, which land a pipe. Numbers are
+ *              little-endian. The first refused record stops the list: the call says why, and not where (./run names the record).
  *   Returns    the count of answer bytes, 0 or more; or a refusal, one of the PNL_REFUSED constants, all below 0.
  *   Answer     bytes of `answer` behind the count stay as they were. Under a refusal all of them do.
- *   Order      a list that stops gives its own refusal; then come the refusals of the call; PNL_REFUSED_SHORT_ANSWER comes last.
+ *   Order      the list's refusal comes first: in the header NO_MARK, CUT, VERSION; in a record UNKNOWN_KIND, CUT, then
+ *              TOO_MANY_FITTINGS, or NOT_LANDED, SAME_FITTING, LENGTH, TOO_MANY_PIPES, RING. Then come the refusals of the call,
+ *              SHORT_ANSWER last. Whether NOT_LANDED is the list's or the call's, pnl_sheet tells: it has none of its own.
  *   Lengths    list_len and answer_len are in bytes, of any size. A pointer may be null where its length is 0.
  *   Overlap    `list` and `answer` must not overlap.
  *   Threads    nothing is shared or kept between calls, nothing is allocated, no signal is used: any number of threads may call at
  *              once, as long as no thread writes a list or an answer that another call was given.
- *   Stack      a call needs 160 KiB.
+ *   Stack      a call uses less than 160 KiB. A thread's default stack may be smaller (musl: 128 KiB).
  *
  * Fittings and pipes are numbered from 0 in the order of landing, at most 4,096 of each. A fitting with exactly two pipe ends is a
  * coupling, any other a junction; a run goes from junction to junction through couplings, and its name is its lowest pipe number.
+ * Each coupling wears a tag, a number of 32 bits that is not 0; along a run tags rise by 1 from its low to its high end. Document
+ * 01, "Tags", says which tag is hung where; no call gives the tag of a fitting.
  */
 #ifndef PNL_H
 #define PNL_H
