@@ -1,6 +1,6 @@
 fn main() {
-    let archive = std::env::var("PNL_ARCHIVE").unwrap_or_else(|_| "../target/staticlib".into());
+    let archive = "../target/staticlib";
     println!("cargo:rustc-link-search=native={archive}");
     println!("cargo:rustc-link-lib=static=pnl");
-    println!("cargo:rerun-if-env-changed=PNL_ARCHIVE");
+    println!("cargo:rerun-if-changed={archive}/libpnl.a");
 }

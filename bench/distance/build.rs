@@ -14,7 +14,7 @@ fn main() {
     let compiler = std::env::var("CXX").unwrap_or_else(|_| "c++".into());
     run(Command::new(compiler).args(["-std=c++17", "-O3", "-DNDEBUG", "-c", "src/boost.cpp", "-o"]).arg(&object));
     run(Command::new("ar").arg("crs").arg(&library).arg(&object));
-    let archive = std::env::var("PNL_ARCHIVE").unwrap_or_else(|_| "../../target/staticlib".into());
+    let archive = "../../target/staticlib";
     println!("cargo:rustc-link-search=native={}", out.display());
     println!("cargo:rustc-link-lib=static=boost_side");
     println!("cargo:rustc-link-lib=stdc++");
@@ -22,6 +22,5 @@ fn main() {
     println!("cargo:rustc-link-lib=static=pnl");
     println!("cargo:rerun-if-changed=src/boost.cpp");
     println!("cargo:rerun-if-changed={archive}/libpnl.a");
-    println!("cargo:rerun-if-env-changed=PNL_ARCHIVE");
     println!("cargo:rerun-if-env-changed=CXX");
 }

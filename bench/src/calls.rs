@@ -1,8 +1,12 @@
 //! Every call from C on full lists, against the plain register, and the stack that each uses.
 
+use crate::edges::{comb, line, tree, Edges, Random};
 use crate::plain::Register;
-use crate::{comb, compare, line, list, several, shuffled, stack, tree, Random};
+use crate::{compare, list, several, shuffled, stack};
 use std::hint::black_box;
+
+/// The bytes of the largest sheet.
+const SHEET_MOST: usize = 81_920;
 
 extern "C" {
     fn pnl_sheet(list: *const u8, list_len: usize, answer: *mut u8, answer_len: usize) -> i32;
@@ -11,8 +15,9 @@ extern "C" {
     fn pnl_distance(list: *const u8, list_len: usize, from: u32, to: u32, answer: *mut u8, answer_len: usize) -> i32;
 }
 
+/// A call by its arguments.
 #[derive(Clone, Copy, Debug)]
-enum Call {
+pub enum Call {
     Sheet,
     Find(u32),
     Reach(u32),
@@ -33,11 +38,13 @@ fn proved(call: Call, list: &[u8], answer: &mut [u8]) -> i32 {
 
 fn plain(call: Call, list: &[u8], answer: &mut [u8]) -> i32 {
     let (register, refusal) = Register::grow(list);
+    // Else what the call does not read might not be written.
+    black_box(&register);
     if refusal != 0 {
         return -(refusal as i32);
     }
     let numbers = match call {
-        Call::Sheet => Ok(register.sheet().concat()),
+        Call::Sheet => Ok(register.sheet().into_flattened()),
         Call::Find(tag) => register.find(tag).map(|name| vec![name]),
         Call::Reach(fitting) => register.reach(fitting).map(Vec::from),
         Call::Distance(from, to) => register.distance(from, to).map(|length| vec![length]),
@@ -55,8 +62,25 @@ fn put(numbers: &[u32], answer: &mut [u8]) -> i32 {
     4 * numbers.len() as i32
 }
 
+/// The times of the two sides for these calls, which must answer alike.
+pub fn times(asked: &[(Call, &[u8])], shape: &str) -> (f64, f64) {
+    let (mut ours, mut theirs) = (vec![0; SHEET_MOST], vec![0; SHEET_MOST]);
+    for &(call, list) in asked {
+        assert_eq!(proved(call, list, &mut ours), plain(call, list, &mut theirs), "{call:?} {shape}");
+        assert_eq!(ours, theirs, "{call:?} {shape}");
+    }
+    compare(asked, |&(call, list)| proved(call, list, &mut ours), |&(call, list)| plain(call, list, &mut theirs))
+}
+
+/// The most stack that one of these calls uses.
+fn most_stack(asked: &[(Call, &[u8])]) -> usize {
+    let mut answer = vec![0; SHEET_MOST];
+    let used = asked.iter().map(|&(call, list)| stack::used(|| _ = black_box(proved(call, list, &mut answer))));
+    used.max().expect("a call")
+}
+
 /// A square of so many fittings a side.
-fn grid(side: usize) -> Vec<(usize, usize)> {
+fn grid(side: usize) -> Edges {
     let across = (0..side * side).filter(|v| (v + 1) % side != 0).map(|v| (v, v + 1));
     let down = (0..side * (side - 1)).map(|v| (v, v + side));
     across.chain(down).collect()
@@ -100,23 +124,12 @@ fn calls_on(list: &[u8]) -> [(&'static str, Call); 4] {
 pub fn table(random: &mut Random) {
     println!("calls on full lists");
     println!("{:<14} {:<22} {:>9} {:>9} {:>6} {:>8}", "call", "shape", "proved", "plain", "ratio", "stack");
-    let (mut ours, mut theirs) = (vec![0; 81_920], vec![0; 81_920]);
     for (shape, lists) in full_lists(random) {
         for kind in 0..4 {
-            let asked: Vec<_> = lists.iter().map(|list| (calls_on(list)[kind].1, list)).collect();
-            let mut stack = 0;
-            for &(call, list) in &asked {
-                assert_eq!(proved(call, list, &mut ours), plain(call, list, &mut theirs), "{call:?} {shape}");
-                assert_eq!(ours, theirs, "{call:?} {shape}");
-                stack = stack.max(stack::used(|| _ = black_box(proved(call, list, &mut ours))));
-            }
-            let (proved, plain) = compare(
-                &asked,
-                |&(call, list)| proved(call, list, &mut ours),
-                |&(call, list)| plain(call, list, &mut theirs),
-            );
+            let asked: Vec<_> = lists.iter().map(|list| (calls_on(list)[kind].1, &list[..])).collect();
+            let (proved, plain) = times(&asked, shape);
             let name = calls_on(&lists[0])[kind].0;
-            println!("{name:<14} {shape:<22} {proved:>9.1} {plain:>9.1} {:>6.2} {stack:>8}", proved / plain);
+            println!("{name:<14} {shape:<22} {proved:>9.1} {plain:>9.1} {:>6.2} {:>8}", proved / plain, most_stack(&asked));
         }
     }
 }

@@ -1,63 +1,22 @@
-//! Growing lists of 512 to 4,096 pipes: the proved register, called as from C, against the same algorithm in plain Rust, in one run.
+//! Growing lists of 512 to 4,096 fittings: the proved register, called as from C, against the same algorithm in plain Rust, in one run.
 //! Each figure is the least of many rounds, in microseconds, taken in turns; for a random shape it is the mean over several lists. The
 //! ratio is proved / plain.
 
 mod calls;
+#[path = "../../tests/shared/edges.rs"]
+mod edges;
 mod plain;
+#[path = "../../tests/shared/stack.rs"]
 mod stack;
 
+use calls::{times, Call};
+use edges::{comb, line, tree, Edges, Random};
 use std::hint::black_box;
 use std::time::Instant;
 
-extern "C" {
-    fn pnl_sheet(list: *const u8, list_len: usize, answer: *mut u8, answer_len: usize) -> i32;
-    fn pnl_find(list: *const u8, list_len: usize, tag: u32, answer: *mut u8, answer_len: usize) -> i32;
-}
-
-/// Grows the list and looks for tag 0, which no coupling wears: refusal 8, or the list's own refusal.
-fn proved(list: &[u8]) -> i32 {
-    let mut answer = [0u8; 4];
-    unsafe { pnl_find(list.as_ptr(), list.len(), 0, answer.as_mut_ptr(), answer.len()) }
-}
-
-fn plain(list: &[u8]) -> i32 {
-    let (register, refusal) = plain::Register::grow(list);
-    black_box(&register);
-    if refusal == 0 {
-        -8
-    } else {
-        -(refusal as i32)
-    }
-}
-
-/// The whole call: grow, and the sheet's bytes.
-fn proved_sheet(list: &[u8], answer: &mut [u8]) -> i32 {
-    unsafe { pnl_sheet(list.as_ptr(), list.len(), answer.as_mut_ptr(), answer.len()) }
-}
-
-fn plain_sheet(list: &[u8], answer: &mut [u8]) -> i32 {
-    let (register, refusal) = plain::Register::grow(list);
-    if refusal != 0 {
-        return -(refusal as i32);
-    }
-    let mut at = 0;
-    for number in register.sheet().into_iter().flatten() {
-        answer[at..at + 4].copy_from_slice(&number.to_le_bytes());
-        at += 4;
-    }
-    at as i32
-}
-
-struct Random(u64);
-
-impl Random {
-    fn below(&mut self, n: usize) -> usize {
-        self.0 ^= self.0 << 13;
-        self.0 ^= self.0 >> 7;
-        self.0 ^= self.0 << 17;
-        (self.0 % n as u64) as usize
-    }
-}
+/// A list is grown for this call, and then nothing is left to do: no coupling wears tag 0.
+const GROW: Call = Call::Find(0);
+const SIZES: [usize; 4] = [512, 1024, 2048, 4096];
 
 fn list(vertices: usize, edges: &[(usize, usize)]) -> Vec<u8> {
     let mut bytes = b"PNL\x01\x00".to_vec();
@@ -71,19 +30,13 @@ fn list(vertices: usize, edges: &[(usize, usize)]) -> Vec<u8> {
     bytes
 }
 
-fn line(n: usize) -> Vec<(usize, usize)> {
-    (1..n).map(|v| (v - 1, v)).collect()
-}
-
-fn shuffled(mut edges: Vec<(usize, usize)>, random: &mut Random) -> Vec<(usize, usize)> {
-    for i in (1..edges.len()).rev() {
-        edges.swap(i, random.below(i + 1));
-    }
+fn shuffled(mut edges: Edges, random: &mut Random) -> Edges {
+    random.shuffle(&mut edges);
     edges
 }
 
 /// A line whose pieces are always joined to pieces of their own size.
-fn balanced(n: usize) -> Vec<(usize, usize)> {
+fn balanced(n: usize) -> Edges {
     let mut edges = Vec::new();
     let mut piece = 1;
     while piece < n {
@@ -94,23 +47,12 @@ fn balanced(n: usize) -> Vec<(usize, usize)> {
 }
 
 /// A line whose pipes are numbered from its middle outwards, left and right in turn.
-fn inside_out(n: usize) -> Vec<(usize, usize)> {
+fn inside_out(n: usize) -> Edges {
     let edges = line(n);
     let middle = edges.len() / 2;
     let mut order: Vec<usize> = (0..edges.len()).collect();
     order.sort_by_key(|&i| i.abs_diff(middle));
     order.into_iter().map(|i| edges[i]).collect()
-}
-
-fn tree(n: usize, random: &mut Random) -> Vec<(usize, usize)> {
-    (1..n).map(|v| (random.below(v), v)).collect()
-}
-
-fn comb(n: usize) -> Vec<(usize, usize)> {
-    let spine = n / 2;
-    let mut edges = line(spine);
-    edges.extend((0..n - spine).map(|i| (i, spine + i)));
-    edges
 }
 
 /// How many lists there are of a random shape, and how many runs each figure takes in all.
@@ -144,10 +86,24 @@ fn compare<T>(lists: &[T], mut first: impl FnMut(&T) -> i32, mut second: impl Fn
     (sums.0 / lists.len() as f64, sums.1 / lists.len() as f64)
 }
 
+fn put_heading(table: &str, shape: &str) {
+    println!("{table}");
+    println!("{shape:<28} {:>6} {:>9} {:>9} {:>6}", "pipes", "proved", "plain", "ratio");
+}
+
+/// A row for each shape: the call on its houses of n fittings.
+fn put_rows(call: Call, n: usize, shapes: &[(&str, Vec<Edges>)]) {
+    for (name, houses) in shapes {
+        let lists: Vec<_> = houses.iter().map(|edges| list(n, edges)).collect();
+        let asked: Vec<_> = lists.iter().map(|list| (call, &list[..])).collect();
+        let (proved, plain) = times(&asked, name);
+        println!("{name:<28} {:>6} {proved:>9.1} {plain:>9.1} {:>6.2}", n - 1, proved / plain);
+    }
+}
+
 fn grow_table(random: &mut Random) {
-    println!("grow");
-    println!("{:<28} {:>6} {:>9} {:>9} {:>6}", "shape", "pipes", "proved", "plain", "ratio");
-    for n in [512, 1024, 2048, 4096] {
+    put_heading("grow", "shape");
+    for n in SIZES {
         let shapes = [
             ("line in order", vec![line(n)]),
             ("line in random order", several(|| shuffled(line(n), random))),
@@ -155,39 +111,22 @@ fn grow_table(random: &mut Random) {
             ("random tree", several(|| tree(n, random))),
             ("comb", vec![comb(n)]),
         ];
-        for (name, houses) in shapes {
-            let lists: Vec<_> = houses.iter().map(|edges| list(n, edges)).collect();
-            for list in &lists {
-                assert_eq!(proved(list), plain(list), "{name}");
-            }
-            let (proved, plain) = compare(&lists, |list| proved(list), |list| plain(list));
-            println!("{name:<28} {:>6} {proved:>9.1} {plain:>9.1} {:>6.2}", n - 1, proved / plain);
-        }
+        put_rows(GROW, n, &shapes);
     }
 }
 
 fn sheet_table(random: &mut Random) {
-    println!("grow and sheet");
-    println!("{:<28} {:>6} {:>9} {:>9} {:>6}", "line numbered", "pipes", "proved", "plain", "ratio");
-    let (mut ours, mut theirs) = (vec![0; 81_920], vec![0; 81_920]);
-    for n in [512, 1024, 2048, 4096] {
+    put_heading("grow and sheet", "line numbered");
+    for n in SIZES {
         let rising = line(n);
-        let falling: Vec<_> = rising.iter().rev().copied().collect();
+        let falling: Edges = rising.iter().rev().copied().collect();
         let shapes = [
             ("rising", vec![rising.clone()]),
             ("falling", vec![falling]),
             ("at random", several(|| shuffled(rising.clone(), random))),
             ("inside out", vec![inside_out(n)]),
         ];
-        for (name, houses) in shapes {
-            let lists: Vec<_> = houses.iter().map(|edges| list(n, edges)).collect();
-            for list in &lists {
-                assert_eq!(proved_sheet(list, &mut ours), plain_sheet(list, &mut theirs), "{name}");
-                assert_eq!(ours, theirs, "{name}");
-            }
-            let (proved, plain) = compare(&lists, |list| proved_sheet(list, &mut ours), |list| plain_sheet(list, &mut theirs));
-            println!("{name:<28} {:>6} {proved:>9.1} {plain:>9.1} {:>6.2}", n - 1, proved / plain);
-        }
+        put_rows(Call::Sheet, n, &shapes);
     }
 }
 

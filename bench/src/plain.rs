@@ -83,28 +83,33 @@ impl Register {
         }
         let mut at = 5;
         while at < list.len() {
-            match list[at] {
-                0x46 => {
-                    if self.vertices == VERTICES {
-                        return 22;
-                    }
-                    self.vertices += 1;
-                    at += 1;
-                }
-                0x50 if at + 9 <= list.len() => {
-                    let word = |i: usize| u16::from_le_bytes([list[i], list[i + 1]]);
-                    let length = u32::from(word(at + 5)) | u32::from(word(at + 7)) << 16;
-                    let refusal = self.land_edge(word(at + 1), word(at + 3), length);
-                    if refusal != 0 {
-                        return refusal;
-                    }
-                    at += 9;
-                }
-                0x50 => return 3,
-                _ => return 4,
+            match self.land_record(list, at) {
+                Ok(next) => at = next,
+                Err(refusal) => return refusal,
             }
         }
         0
+    }
+
+    /// Lands the record at a place of the list; gives the place of the next one, or the refusal.
+    fn land_record(&mut self, list: &[u8], at: usize) -> Result<usize, u32> {
+        match list[at] {
+            0x46 if self.vertices == VERTICES => Err(22),
+            0x46 => {
+                self.vertices += 1;
+                Ok(at + 1)
+            }
+            0x50 if at + 9 <= list.len() => {
+                let word = |i: usize| u16::from_le_bytes([list[i], list[i + 1]]);
+                let length = u32::from(word(at + 5)) | u32::from(word(at + 7)) << 16;
+                match self.land_edge(word(at + 1), word(at + 3), length) {
+                    0 => Ok(at + 9),
+                    refusal => Err(refusal),
+                }
+            }
+            0x50 => Err(3),
+            _ => Err(4),
+        }
     }
 
     fn land_edge(&mut self, a: u16, b: u16, length: u32) -> u32 {
@@ -149,21 +154,11 @@ impl Register {
     }
 
     fn far(&self, edge: u16, v: u16) -> u16 {
-        let [first, second] = self.ends[usize::from(edge)];
-        if first == v {
-            second
-        } else {
-            first
-        }
+        other(self.ends[usize::from(edge)], v)
     }
 
     fn turn(&self, edge: u16, v: u16) -> u16 {
-        let [low, high] = self.sides[usize::from(v)];
-        if low == edge {
-            high
-        } else {
-            low
-        }
+        other(self.sides[usize::from(v)], edge)
     }
 
     fn is_regular(&self, v: u16) -> bool {
@@ -255,6 +250,15 @@ impl Register {
             self.put_label(w.at, label, w.edge, on, up);
             w = Walker { edge: on, at: self.far(on, w.at) };
         }
+    }
+}
+
+/// The other one of a pair.
+fn other([first, second]: [u16; 2], one: u16) -> u16 {
+    if first == one {
+        second
+    } else {
+        first
     }
 }
 

@@ -8,7 +8,7 @@ use std::thread;
 use std::time::Duration;
 
 /// How long a binary may take for one list.
-const PATIENCE: Duration = Duration::from_mins(1);
+const PATIENCE: Duration = Duration::from_secs(60);
 /// Between two pieces of a list that is handed over piece by piece.
 const PAUSE: Duration = Duration::from_millis(1);
 /// No good answer is as long as this.

@@ -42,7 +42,7 @@ impl Pipe {
 
 /// What its degree makes of a fitting that a pipe comes to ("Landing a pipe").
 #[derive(Clone, Copy, Debug, PartialEq, Eq)]
-enum Standing {
+pub enum Standing {
     /// Degree 2.
     Coupling,
     /// A junction of degree 1.
@@ -106,6 +106,14 @@ impl House {
         ends.filter(|&end| end == fitting).count()
     }
 
+    pub fn standing(&self, fitting: Fitting) -> Standing {
+        match self.degree(fitting) {
+            1 => Standing::Free,
+            2 => Standing::Coupling,
+            _ => Standing::Settled,
+        }
+    }
+
     /// The run that a coupling lies on.
     pub fn run_through(&self, coupling: Fitting) -> Option<&Run> {
         let mut runs = self.runs.iter();
@@ -150,46 +158,24 @@ impl House {
         Ok(())
     }
 
-    /// The cases, by the two degrees before the pipe.
+    /// The cases, by the two degrees before the pipe: the runs of couplings are split, that of the
+    /// first named first; then a free end's run goes on, or a new one starts.
     fn land_by_case(&mut self, pipe: &Pipe) -> Result<(), Refusal> {
-        use Standing::{Coupling, Free, Settled};
+        use Standing::{Coupling, Free};
         let (first, second) = (pipe.first, pipe.second);
-        match (self.standing(first), self.standing(second)) {
-            (Settled, Settled) => self.start_run(first, second),
-            (Free, Settled) => self.extend(first, second),
-            (Settled, Free) => self.extend(second, first),
-            (Free, Free) => self.merge(first, second)?,
-            (Coupling, Free) => {
-                self.split(first);
-                self.extend(second, first);
+        let standings = [first, second].map(|fitting| self.standing(fitting));
+        for (fitting, standing) in [first, second].into_iter().zip(standings) {
+            if standing == Coupling {
+                self.split(fitting);
             }
-            (Free, Coupling) => {
-                self.split(second);
-                self.extend(first, second);
-            }
-            (Coupling, Settled) => {
-                self.split(first);
-                self.start_run(first, second);
-            }
-            (Settled, Coupling) => {
-                self.split(second);
-                self.start_run(first, second);
-            }
-            (Coupling, Coupling) => {
-                self.split(first);
-                self.split(second);
-                self.start_run(first, second);
-            }
+        }
+        match standings {
+            [Free, Free] => return self.merge(first, second),
+            [Free, _] => self.extend(first, second),
+            [_, Free] => self.extend(second, first),
+            _ => self.start_run(first, second),
         }
         Ok(())
-    }
-
-    fn standing(&self, fitting: Fitting) -> Standing {
-        match self.degree(fitting) {
-            1 => Standing::Free,
-            2 => Standing::Coupling,
-            _ => Standing::Settled,
-        }
     }
 
     /// The number of the pipe that is being landed.

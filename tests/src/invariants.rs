@@ -151,14 +151,18 @@ fn distances_from(house: &House, from: usize) -> Vec<Option<u32>> {
         .collect()
 }
 
+/// The records of a house of at most about so many fittings.
+fn small_house(random: &mut Random, most: usize) -> Vec<Record> {
+    let size = random.between(2, most);
+    gen::whole_of(random, shapes::any, size)
+}
+
 #[test]
 fn small_houses_after_every_record() {
     for index in 0..1_500 {
         let random = &mut Random::of_list(101, index);
-        let size = random.between(2, 24);
-        let layout = shapes::any(random, size).landable();
         let mut watched = Watched::default();
-        for record in records::of(random, &layout) {
+        for record in small_house(random, 24) {
             assert_eq!(watched.land(record), Ok(()));
             watched.check();
         }
@@ -169,9 +173,7 @@ fn small_houses_after_every_record() {
 fn distances_of_small_houses() {
     for index in 0..800 {
         let random = &mut Random::of_list(202, index);
-        let size = random.between(2, 16);
-        let layout = shapes::any(random, size).landable();
-        let list = list::write(&records::of(random, &layout));
+        let list = list::write(&small_house(random, 16));
         check_distances(&list::grow(&list).0);
     }
 }
@@ -213,9 +215,7 @@ fn rings_are_refused_and_nothing_else_is() {
     let mut rings = 0;
     for index in 0..3_000 {
         let random = &mut Random::of_list(505, index);
-        let size = random.between(2, 12);
-        let layout = shapes::any(random, size).landable();
-        let mut house = list::grow(&list::write(&records::of(random, &layout))).0;
+        let mut house = list::grow(&list::write(&small_house(random, 12))).0;
         let (first, second) = random.pair_below(house.fittings());
         let closes = closes_a_ring(&house, first, second);
         let landed = list::land_record(&mut house, records::pipe(first, second, 1));

@@ -6,8 +6,10 @@
 //! - [`calls`]: the same as calls from C answer them;
 //! - [`print`]: what the printing program prints;
 //! - [`gen`]: lists of every kind, drawn from a seed;
-//! - [`child`], [`tally`] and [`workers`]: asking a binary, counting outcomes, and doing so on both cores.
+//! - [`arguments`], [`child`], [`tally`] and [`workers`]: reading a command line, asking a binary,
+//!   counting outcomes, and doing so on every core.
 
+pub mod arguments;
 pub mod calls;
 pub mod child;
 pub mod gen;

@@ -89,7 +89,7 @@ fn read_record(bytes: &[u8]) -> Result<(Record, &[u8]), Refusal> {
             let (body, rest) = rest.split_first_chunk().ok_or(Refusal::Cut)?;
             Ok((pipe_record(*body), rest))
         }
-        _ => Err(Refusal::Kind),
+        _ => Err(Refusal::UnknownKind),
     }
 }
 
@@ -177,8 +177,8 @@ mod tests {
     #[test]
     fn records_are_refused_in_order() {
         let refusals = [
-            (&b"\x00"[..], 2, Refusal::Kind),
-            (b"FG", 3, Refusal::Kind),
+            (&b"\x00"[..], 2, Refusal::UnknownKind),
+            (b"FG", 3, Refusal::UnknownKind),
             (b"P", 2, Refusal::Cut),
             // Cut comes before a fitting that is not landed.
             (b"P\xff\xff\xff\xff\x00\x00\x00", 2, Refusal::Cut),

@@ -7,14 +7,14 @@ use std::path::{Path, PathBuf};
 use std::process::ExitCode;
 use std::sync::atomic::{AtomicBool, AtomicUsize, Ordering};
 
+use reference::arguments::count_and_seed;
 use reference::child;
 use reference::gen;
 use reference::print::Outcome;
-use reference::tally::Tally;
+use reference::tally::{verdict, Tally};
 use reference::workers::together;
 
 const DEFAULT_COUNT: usize = 20_000;
-const DEFAULT_SEED: u64 = 1;
 /// One list in so many is handed over in pieces.
 const PIECEWISE_EVERY: usize = 16;
 const PIECES: usize = 3;
@@ -53,7 +53,7 @@ fn main() -> ExitCode {
                 tally.lists(),
                 order.seed
             );
-            ExitCode::SUCCESS
+            verdict(order.count >= DEFAULT_COUNT, &tally.missing())
         }
         Err(difference) => {
             report(&order, &difference);
@@ -64,18 +64,12 @@ fn main() -> ExitCode {
 
 fn order(arguments: &[String]) -> Option<Order> {
     let (binary, numbers) = arguments.split_first()?;
-    if numbers.len() > 2 {
-        return None;
-    }
+    let (count, seed) = count_and_seed(numbers, DEFAULT_COUNT)?;
     Some(Order {
         binary: PathBuf::from(binary),
-        count: number_or(numbers.first(), DEFAULT_COUNT)?,
-        seed: number_or(numbers.get(1), DEFAULT_SEED)?,
+        count,
+        seed,
     })
-}
-
-fn number_or<T: std::str::FromStr>(argument: Option<&String>, default: T) -> Option<T> {
-    argument.map_or(Some(default), |text| text.parse().ok())
 }
 
 fn compare(order: &Order) -> Result<Tally, Difference> {

@@ -92,15 +92,6 @@ pub fn sheet(house: &House) -> Vec<Line> {
     runs.iter().map(|run| line(house, run)).collect()
 }
 
-/// The sheet into a lent slice, the rest of it untouched; gives the number of runs.
-pub fn sheet_into(house: &House, lent: &mut [u32]) -> Result<usize, Refusal> {
-    let lines = sheet(house);
-    let numbers = lines.concat();
-    let room = lent.get_mut(..numbers.len()).ok_or(Refusal::TooShort)?;
-    room.copy_from_slice(&numbers);
-    Ok(lines.len())
-}
-
 fn landed(house: &House, fitting: Fitting) -> Result<(), Refusal> {
     if fitting < house.fittings() {
         Ok(())

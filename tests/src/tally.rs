@@ -2,6 +2,7 @@
 
 use std::collections::BTreeMap;
 use std::fmt;
+use std::process::ExitCode;
 
 use crate::list::Stop;
 use crate::print::Outcome;
@@ -45,6 +46,34 @@ impl Tally {
     pub fn lists(&self) -> usize {
         self.counts.values().sum()
     }
+
+    /// What no list came to.
+    pub fn missing(&self) -> Vec<String> {
+        let kinds = kinds().into_iter();
+        let missing = kinds.filter(|kind| !self.counts.contains_key(kind));
+        missing.map(|kind| kind.to_string()).collect()
+    }
+}
+
+/// How a comparison without a difference ends: with enough lists, no outcome may be missing.
+pub fn verdict(enough: bool, missing: &[String]) -> ExitCode {
+    if !enough || missing.is_empty() {
+        return ExitCode::SUCCESS;
+    }
+    eprintln!("never came up: {}", missing.join(", "));
+    ExitCode::FAILURE
+}
+
+/// What a list can come to.
+fn kinds() -> Vec<Kind> {
+    use Refusal::{Cut, NoMark, UnknownKind, Version};
+    use Refusal::{FullFittings, FullPipes, Length, NotLanded, Ring, SameFitting};
+    let of_pipe = [NotLanded, SameFitting, Length, FullPipes, Ring];
+    let mut kinds = vec![Kind::Whole, Kind::TooLong];
+    kinds.extend([NoMark, Version, Cut].map(Kind::InHeader));
+    kinds.extend([UnknownKind, Cut, FullFittings].map(Kind::InRecord));
+    kinds.extend(of_pipe.map(Kind::InRecord));
+    kinds
 }
 
 fn kind(outcome: &Outcome) -> Kind {
@@ -76,5 +105,23 @@ impl fmt::Display for Tally {
         let (pipes, fittings) = self.largest;
         write!(f, "largest house: {fittings} fittings {pipes} pipes, ")?;
         write!(f, "most re-hung: {}", self.most_re_hung)
+    }
+}
+
+#[cfg(test)]
+mod tests {
+    use super::*;
+
+    #[test]
+    fn what_was_counted_is_not_missing() {
+        let mut tally = Tally::default();
+        assert_eq!(tally.missing().len(), 13);
+        for list in [&b"PNL\x01\x00"[..], b"PN", b"PNL\x01\x00P"] {
+            tally.count(&Outcome::of(list));
+        }
+        let missing = tally.missing();
+        assert_eq!(missing[..3], ["too long", "header 2", "header 3"]);
+        assert_eq!(missing.len(), 10);
+        assert!(!missing.contains(&"record 3".to_string()));
     }
 }

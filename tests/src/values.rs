@@ -202,16 +202,3 @@ fn merging_without_couplings_is_a_birth() {
     assert_eq!(house.tags(), [8193, 0, 0, 8192]);
     assert_eq!((house.births(), house.re_hung()), (1, 0));
 }
-
-#[test]
-fn a_lent_sheet_too_short_stays_untouched() {
-    let house = grown(&listing());
-    let mut lent = [77; 16];
-    assert_eq!(
-        queries::sheet_into(&house, &mut lent[..14]),
-        Err(Refusal::TooShort)
-    );
-    assert_eq!(lent, [77; 16]);
-    assert_eq!(queries::sheet_into(&house, &mut lent), Ok(3));
-    assert_eq!(lent[10..], [5, 3, 6, 0, 900, 77]);
-}

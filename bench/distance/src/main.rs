@@ -1,9 +1,13 @@
 //! A distance by the proved call, as from C, against Boost's Dijkstra on the same houses and the same pairs of fittings, in one run. A
 //! figure is the mean over the pairs of the least of many rounds, in microseconds.
 
+#[path = "../../../tests/shared/edges.rs"]
+mod edges;
+#[path = "../../../tests/shared/houses.rs"]
 mod houses;
 
-use houses::{houses, House, Random};
+use edges::Random;
+use houses::{houses, House};
 use std::ffi::c_void;
 use std::hint::black_box;
 use std::time::Instant;
@@ -96,23 +100,34 @@ fn run(column: usize, house: &House, list: &[u8], graphs: &[Boost; 2], from: u32
     }
 }
 
+/// Two fittings and their distance.
+type Pair = (u32, u32, u32);
+
+/// The microseconds of one run, whose answer is compared.
+fn timed(column: usize, house: &House, list: &[u8], graphs: &[Boost; 2], &(from, to, distance): &Pair) -> f64 {
+    let start = Instant::now();
+    let answer = run(column, black_box(house), black_box(list), graphs, from, to);
+    let time = start.elapsed().as_secs_f64() * 1e6;
+    let expected = if column == 0 { -5i32 as u32 } else { distance };
+    assert_eq!(answer, expected, "{}, {from} to {to}", house.name);
+    time
+}
+
 /// The means over random pairs of the least of all rounds: growing, the call, and Boost's searches to the goal, over the whole graph, and
 /// with the graph built in the call.
 fn measure(house: &House, rounds: usize, random: &mut Random) -> [f64; COLUMNS] {
     let list = list_of(house);
     let graphs = [Boost::build(Kind::Lists, house), Boost::build(Kind::Rows, house)];
-    let mut pair = || (random.below(house.vertices) as u32, random.below(house.vertices) as u32);
-    let pairs: Vec<(u32, u32)> = (0..PAIRS).map(|_| pair()).collect();
-    let distances: Vec<u32> = pairs.iter().map(|&(from, to)| graphs[0].distance(from, to, true)).collect();
+    let mut pair = || {
+        let (from, to) = (random.below(house.vertices) as u32, random.below(house.vertices) as u32);
+        (from, to, graphs[0].distance(from, to, true))
+    };
+    let pairs: Vec<Pair> = (0..PAIRS).map(|_| pair()).collect();
     let mut least = [[f64::MAX; PAIRS]; COLUMNS];
     for _ in 0..rounds {
         for (column, times) in least.iter_mut().enumerate() {
-            for (i, &(from, to)) in pairs.iter().enumerate() {
-                let start = Instant::now();
-                let answer = run(column, black_box(house), black_box(&list), &graphs, from, to);
-                times[i] = times[i].min(start.elapsed().as_secs_f64() * 1e6);
-                let expected = if column == 0 { -5i32 as u32 } else { distances[i] };
-                assert_eq!(answer, expected, "{}, {from} to {to}", house.name);
+            for (time, pair) in times.iter_mut().zip(&pairs) {
+                *time = time.min(timed(column, house, &list, &graphs, pair));
             }
         }
     }
@@ -123,7 +138,10 @@ fn main() {
     let rounds = std::env::args().nth(1).map_or(20, |word| word.parse().expect("a number of rounds"));
     let mut random = Random(0x9E37_79B9_7F4A_7C15);
     println!("{:24} {:>14} {:>26} {:>16} {:>14} {:>6}", "", "grown before", "graph built before", "", "both", "");
-    println!("{:24} {:>7} {:>6} {:>8} {:>8} {:>8} {:>8} {:>7} {:>6} {:>6}", "house", "search", "ratio", "lists", "rows", "lists *", "rows *", "call", "boost", "ratio");
+    println!(
+        "{:24} {:>7} {:>6} {:>8} {:>8} {:>8} {:>8} {:>7} {:>6} {:>6}",
+        "house", "search", "ratio", "lists", "rows", "lists *", "rows *", "call", "boost", "ratio"
+    );
     for house in houses(&mut random) {
         let [grow, call, lists, rows, lists_whole, rows_whole, lists_built, rows_built] = measure(&house, rounds, &mut random);
         let (search, boost, built) = (call - grow, lists.min(rows), lists_built.min(rows_built));

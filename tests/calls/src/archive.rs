@@ -46,9 +46,10 @@ impl Call {
         self.make_at(list.as_ptr(), list.len(), answer.as_mut_ptr(), answer.len())
     }
 
-    /// The same with no list and no answer slice: null pointers of length 0.
-    pub fn make_at_null(self) -> i32 {
-        self.make_at(ptr::null(), 0, ptr::null_mut(), 0)
+    /// The same without an answer slice, and perhaps without a list: null pointers of length 0.
+    pub fn make_at_null(self, list: Option<&[u8]>) -> i32 {
+        let bytes = list.map_or(ptr::null(), <[u8]>::as_ptr);
+        self.make_at(bytes, list.map_or(0, <[u8]>::len), ptr::null_mut(), 0)
     }
 
     fn make_at(self, list: *const u8, list_len: usize, to: *mut u8, room: usize) -> i32 {

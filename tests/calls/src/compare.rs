@@ -1,9 +1,10 @@
 //! The calls on one list, compared.
 
 use reference::calls::{self, Grown};
-use reference::gen;
 use reference::gen::random::Random;
+use reference::gen::{self, records};
 use reference::house::MOST_FITTINGS;
+use reference::list::{self, Record};
 
 use crate::archive::{Call, MOST_STACK};
 use crate::questions::{self, Question};
@@ -30,12 +31,23 @@ const CALLS: [Call; 4] = [
 /// What differs, in words.
 pub type Difference = String;
 
-/// No list at all is refused with 1, with null pointers too.
-pub fn no_list() -> Result<(), Difference> {
-    for call in CALLS {
-        let returned = call.make_at_null();
-        if returned != -1 {
-            return Err(format!("{call:?} with null pointers: {returned}"));
+/// Null pointers of length 0: no list is refused with 1; without an answer slice, the sheet of the
+/// header alone is whole, the other calls have their own refusals there, and on a house all have 9.
+pub fn null_pointers() -> Result<(), Difference> {
+    let header = list::header();
+    let joined = [records::pipe(0, 1, 1), records::pipe(1, 2, 1)];
+    let house = list::write(&[&[Record::Fitting; 3][..], &joined].concat());
+    let cases = [
+        (None, [-1; 4]),
+        (Some(&header[..]), [0, -8, -5, -5]),
+        (Some(&house), [-9; 4]),
+    ];
+    for (list, expected) in cases {
+        let returned = CALLS.map(|call| call.make_at_null(list));
+        if returned != expected {
+            return Err(format!(
+                "{CALLS:?} with null pointers and {list:?} return {returned:?}, expected {expected:?}"
+            ));
         }
     }
     Ok(())

@@ -5,7 +5,7 @@
 mod archive;
 mod compare;
 mod questions;
-#[path = "../../../bench/src/stack.rs"]
+#[path = "../../shared/stack.rs"]
 mod stack;
 mod tally;
 
@@ -14,19 +14,23 @@ use std::process::ExitCode;
 use std::sync::atomic::{AtomicUsize, Ordering};
 
 use compare::Difference;
+use reference::arguments::count_and_seed;
+use reference::tally::verdict;
 use reference::workers::together;
 use tally::Tally;
 
+const DEFAULT_COUNT: usize = 8_000;
+
 fn main() -> ExitCode {
-    let mut arguments = env::args()
-        .skip(1)
-        .map(|word| word.parse().expect("a number"));
-    let count = arguments.next().unwrap_or(8_000);
-    let seed = arguments.next().unwrap_or(1);
-    match compare::no_list().and_then(|()| compare_all(seed, count)) {
+    let arguments: Vec<String> = env::args().skip(1).collect();
+    let Some((count, seed)) = count_and_seed(&arguments, DEFAULT_COUNT) else {
+        eprintln!("usage: register-calls [COUNT] [SEED]");
+        return ExitCode::from(2);
+    };
+    match compare::null_pointers().and_then(|()| compare_all(seed, count)) {
         Ok(tally) => {
             println!("{tally}, seed {seed}");
-            ExitCode::SUCCESS
+            verdict(count >= DEFAULT_COUNT, &tally.missing())
         }
         Err(difference) => {
             eprintln!("seed {seed}: {difference}");
@@ -35,7 +39,7 @@ fn main() -> ExitCode {
     }
 }
 
-fn compare_all(seed: u64, count: u64) -> Result<Tally, Difference> {
+fn compare_all(seed: u64, count: usize) -> Result<Tally, Difference> {
     let next = AtomicUsize::new(0);
     let mut whole = Tally::default();
     for result in together(|| work(seed, count, &next)) {
@@ -45,11 +49,11 @@ fn compare_all(seed: u64, count: u64) -> Result<Tally, Difference> {
 }
 
 /// Compares lists until there are no more, or until some worker has found a difference.
-fn work(seed: u64, count: u64, next: &AtomicUsize) -> Result<Tally, Difference> {
+fn work(seed: u64, count: usize, next: &AtomicUsize) -> Result<Tally, Difference> {
     let mut tally = Tally::default();
     loop {
         let index = next.fetch_add(1, Ordering::Relaxed);
-        if index as u64 >= count {
+        if index >= count {
             return Ok(tally);
         }
         if let Err(difference) = compare::drawn(seed, index, &mut tally) {

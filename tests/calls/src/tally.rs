@@ -52,6 +52,17 @@ impl Tally {
         self.largest = self.largest.max(other.largest);
         self.count_stack(other.most_stack);
     }
+
+    /// The refusals that no call returned, and whether none found two fittings not joined.
+    pub fn missing(&self) -> Vec<String> {
+        let refusals = (1..=9).chain(22..=24);
+        let unseen = refusals.filter(|refusal| !self.returned.contains_key(refusal));
+        let mut missing: Vec<String> = unseen.map(|refusal| format!("refusal {refusal}")).collect();
+        if self.not_joined == 0 {
+            missing.push("not joined".to_string());
+        }
+        missing
+    }
 }
 
 fn add_counts<K: Ord>(counts: &mut BTreeMap<K, usize>, more: BTreeMap<K, usize>) {

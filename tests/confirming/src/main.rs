@@ -1,11 +1,14 @@
-//! The proved search, then one round over all edges: on every house of bench/distance the round must change nothing, for many pairs of
+//! The proved search, then one round over all edges: on every house of tests/shared the round must change nothing, for many pairs of
 //! fittings. So a distance costs one search and one round. That the round shows a search that went wrong is seen with a heap that is
 //! not all zero at the start.
 
-#[path = "../../../bench/distance/src/houses.rs"]
+#[path = "../../shared/edges.rs"]
+mod edges;
+#[path = "../../shared/houses.rs"]
 mod houses;
 
-use houses::{houses, House, Random};
+use edges::Random;
+use houses::{houses, House};
 
 extern "C" {
     fn confirming_changes(

@@ -2,53 +2,43 @@
 
 use super::layout::Layout;
 use super::random::Random;
-use super::{records, shapes, stops};
+use super::shapes::{self, Shape};
+use super::{records, stops, whole_of, Maker};
 use crate::house::{LONGEST_PIPE, MOST_FITTINGS};
 use crate::list::{self, Record};
 
-/// In each round of the series every one of these comes once.
-const CASES: &[stops::Stopping] = &[
-    merges,
-    pipe_too_many,
-    any_shape,
-    closed_line,
-    ring_too_many,
-    line_downwards,
-    fitting_too_many,
-    fault_too_many,
-    every_case,
-    line,
+/// Shapes that are landed whole.
+const WHOLE: &[Shape] = &[
+    shapes::balanced_merges,
+    shapes::any,
+    shapes::line_grown_downwards,
+    shapes::all_cases,
+    shapes::line_in_any_order,
 ];
 
+/// Lists that stop.
+const STOPPING: &[Maker] = &[
+    pipe_too_many,
+    closed_line,
+    ring_too_many,
+    fitting_too_many,
+    fault_too_many,
+    cut_too_many,
+    kind_too_many,
+];
+
+/// By turns one that is landed whole and one that stops, each kind going round all of its own.
 pub fn list(random: &mut Random, turn: usize) -> Vec<u8> {
-    let case = CASES[turn % CASES.len()];
-    case(random)
+    let round = turn / 2;
+    if turn.is_multiple_of(2) {
+        list::write(&whole(random, WHOLE[round % WHOLE.len()]))
+    } else {
+        STOPPING[round % STOPPING.len()](random)
+    }
 }
 
-/// All merges of a balanced line.
-pub fn merges(random: &mut Random) -> Vec<u8> {
-    let layout = shapes::balanced_merges(random, MOST_FITTINGS);
-    whole(random, layout)
-}
-
-pub fn any_shape(random: &mut Random) -> Vec<u8> {
-    let layout = shapes::any(random, MOST_FITTINGS);
-    whole(random, layout)
-}
-
-pub fn line(random: &mut Random) -> Vec<u8> {
-    let layout = shapes::line_in_any_order(random, MOST_FITTINGS);
-    whole(random, layout)
-}
-
-pub fn line_downwards(random: &mut Random) -> Vec<u8> {
-    let layout = shapes::line_grown_downwards(random, MOST_FITTINGS);
-    whole(random, layout)
-}
-
-pub fn every_case(random: &mut Random) -> Vec<u8> {
-    let layout = shapes::all_cases(random, MOST_FITTINGS);
-    whole(random, layout)
+fn whole(random: &mut Random, shape: Shape) -> Vec<Record> {
+    whole_of(random, shape, MOST_FITTINGS)
 }
 
 /// 24: a line of all fittings that closes with the 4,096th pipe.
@@ -85,8 +75,6 @@ pub fn ring_too_many(random: &mut Random) -> Vec<u8> {
 /// 5, 6 or 7 and not 23: a 4,097th pipe with a fault of its own.
 pub fn fault_too_many(random: &mut Random) -> Vec<u8> {
     let fittings = 64;
-    let layout = full_layout(random, fittings, 0);
-    let mut records = records::of(random, &layout);
     let (first, second, length) = random.pick(&[
         (0, fittings, 1),
         (fittings, 0, 1),
@@ -94,13 +82,29 @@ pub fn fault_too_many(random: &mut Random) -> Vec<u8> {
         (0, 1, 0),
         (0, 1, LONGEST_PIPE + 1),
     ]);
-    records.push(records::pipe(first, second, length));
-    records.push(Record::Fitting);
-    list::write(&records)
+    let mut list = full_list(random, fittings);
+    list.extend(list::record_bytes(&records::pipe(first, second, length)));
+    list.extend(list::record_bytes(&Record::Fitting));
+    list
 }
 
-fn whole(random: &mut Random, layout: Layout) -> Vec<u8> {
-    list::write(&records::of(random, &layout.landable()))
+/// 3 and not 23: a 4,097th pipe that is cut.
+pub fn cut_too_many(random: &mut Random) -> Vec<u8> {
+    let mut list = full_list(random, 64);
+    list.extend(stops::cut(random, &records::pipe(0, 1, 1)));
+    list
+}
+
+/// 4, and neither 22 nor 23: an unknown kind where no fitting and no pipe has room.
+pub fn kind_too_many(random: &mut Random) -> Vec<u8> {
+    let mut list = full_list(random, MOST_FITTINGS);
+    list.push(stops::kind(random));
+    list
+}
+
+fn full_list(random: &mut Random, fittings: usize) -> Vec<u8> {
+    let layout = full_layout(random, fittings, 0);
+    list::write(&records::of(random, &layout))
 }
 
 /// A layout of 4,096 pipes. Its first fittings are a line that nothing else is joined to.
@@ -125,35 +129,45 @@ mod tests {
     use crate::list::{grow, Stop};
     use crate::refusal::Refusal;
 
-    fn stop_of(case: stops::Stopping, seed: u64) -> (usize, usize, Option<Refusal>) {
-        let (house, result) = grow(&case(&mut Random::new(seed)));
+    fn stop_of(maker: Maker, seed: u64) -> (usize, usize, Option<Refusal>) {
+        let (house, result) = grow(&maker(&mut Random::new(seed)));
         let refusal = result.err().map(Stop::refusal);
         (house.fittings(), house.pipes().len(), refusal)
     }
 
     #[test]
     fn full_lists_stop_as_named() {
-        let full = (MOST_FITTINGS, MOST_PIPES);
-        assert_eq!(stop_of(fitting_too_many, 1).2, Some(Refusal::FullFittings));
-        assert_eq!(stop_of(fitting_too_many, 1).0, full.0);
-        for seed in 0..2 {
-            let (_, pipes, refusal) = stop_of(pipe_too_many, seed);
-            assert_eq!((pipes, refusal), (full.1, Some(Refusal::FullPipes)));
-            let (_, pipes, refusal) = stop_of(ring_too_many, seed);
-            assert_eq!((pipes, refusal), (full.1, Some(Refusal::FullPipes)));
-        }
-        let (_, pipes, refusal) = stop_of(fault_too_many, 1);
-        assert_eq!(pipes, full.1);
         let faults = [Refusal::NotLanded, Refusal::SameFitting, Refusal::Length];
-        assert!(refusal.is_some_and(|refusal| faults.contains(&refusal)));
-        let line = (full.0, full.1 - 1, Some(Refusal::Ring));
+        for (maker, refusals) in [
+            (pipe_too_many as Maker, &[Refusal::FullPipes][..]),
+            (ring_too_many, &[Refusal::FullPipes]),
+            (fault_too_many, &faults),
+            (cut_too_many, &[Refusal::Cut]),
+            (kind_too_many, &[Refusal::UnknownKind]),
+        ] {
+            for seed in 0..2 {
+                let (_, pipes, refusal) = stop_of(maker, seed);
+                assert_eq!(pipes, MOST_PIPES);
+                let refusal = refusal.expect("a list that stops");
+                assert!(refusals.contains(&refusal), "{refusal:?}");
+            }
+        }
+        let line = (MOST_FITTINGS, MOST_PIPES - 1, Some(Refusal::Ring));
         assert_eq!(stop_of(closed_line, 1), line);
+        let full = (MOST_FITTINGS, MOST_PIPES, Some(Refusal::UnknownKind));
+        assert_eq!(stop_of(kind_too_many, 1), full);
+        let (fittings, _, refusal) = stop_of(fitting_too_many, 1);
+        assert_eq!(
+            (fittings, refusal),
+            (MOST_FITTINGS, Some(Refusal::FullFittings))
+        );
     }
 
     #[test]
     fn full_lists_are_whole_otherwise() {
-        for case in [merges, any_shape, line, line_downwards, every_case] {
-            assert_eq!(stop_of(case, 3).2, None);
+        for &shape in WHOLE {
+            let records = whole(&mut Random::new(3), shape);
+            assert_eq!(grow(&list::write(&records)).1, Ok(()));
         }
     }
 }

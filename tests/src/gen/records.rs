@@ -6,7 +6,7 @@ use super::random::Random;
 use crate::house::LONGEST_PIPE;
 use crate::list::Record;
 
-/// The records of a layout, which is one that the register takes.
+/// The records of a layout, in its order.
 pub fn of(random: &mut Random, layout: &Layout) -> Vec<Record> {
     let numbers = numbering(random, layout);
     let name_in_any_order = !random.one_in(4);

@@ -3,7 +3,8 @@
 use super::layout::Layout;
 use super::random::Random;
 
-type Shape = fn(&mut Random, usize) -> Layout;
+/// Draws a layout of about this size.
+pub type Shape = fn(&mut Random, usize) -> Layout;
 
 const SHAPES: &[Shape] = &[
     scattered,
@@ -128,9 +129,9 @@ pub fn curled_lines(random: &mut Random, size: usize) -> Layout {
     while layout.fittings < size {
         let fittings = random.between(3, 12);
         let line = layout.line(fittings);
-        layout.join(line[fittings - 1], line[random.between(1, fittings - 2)]);
+        layout.join(line[fittings - 1], coupling_of(random, &line));
         if random.one_in(2) {
-            layout.join(line[0], line[random.between(1, fittings - 2)]);
+            layout.join(line[0], coupling_of(random, &line));
         }
     }
     layout
@@ -155,16 +156,13 @@ pub fn tapped_line_joined_again(random: &mut Random, size: usize) -> Layout {
         let line = layout.line(fittings);
         let mut ends = vec![line[0], line[fittings - 1]];
         for _ in 0..random.between(1, 3) {
-            let mut end = line[random.between(1, fittings - 2)];
+            let mut end = coupling_of(random, &line);
             for _ in 0..random.between(1, 4) {
                 end = layout.onward(end);
             }
             ends.push(end);
         }
-        random.shuffle(&mut ends);
-        for pair in ends.chunks_exact(2) {
-            layout.join(pair[0], pair[1]);
-        }
+        join_by_twos(random, &mut layout, ends);
     }
     layout
 }
@@ -188,11 +186,21 @@ pub fn lone_couplings_extended(random: &mut Random, size: usize) -> Layout {
         }
         ends.extend([one, other]);
     }
+    join_by_twos(random, &mut layout, ends);
+    layout
+}
+
+/// Any fitting of a line but its ends.
+fn coupling_of(random: &mut Random, line: &[usize]) -> usize {
+    line[random.between(1, line.len() - 2)]
+}
+
+/// Joins these in pairs drawn at random.
+fn join_by_twos(random: &mut Random, layout: &mut Layout, mut ends: Vec<usize>) {
     random.shuffle(&mut ends);
     for pair in ends.chunks_exact(2) {
         layout.join(pair[0], pair[1]);
     }
-    layout
 }
 
 /// Lines that are extended at their low ends only, tapped here and there, some joined there.
@@ -233,7 +241,7 @@ pub fn ladder(random: &mut Random, size: usize) -> Layout {
     layout
 }
 
-/// Pipes whose two ends are drawn by their degrees, so that every case of landing comes up often.
+/// Pipes whose two ends are drawn by their degrees, which choose the case of landing.
 pub fn all_cases(random: &mut Random, size: usize) -> Layout {
     let mut layout = Layout::of_fittings(size);
     let mut degrees = vec![0; size];

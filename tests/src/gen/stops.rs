@@ -2,15 +2,12 @@
 
 use super::layout::Layout;
 use super::random::Random;
-use super::{records, shapes, small_size, whole};
+use super::{records, shapes, small_size, whole, Maker};
 use crate::house::{LONGEST_PIPE, MOST_FITTINGS};
 use crate::list::{self, Record};
 
-/// Makes a list that stops with the refusal that it is named for.
-pub type Stopping = fn(&mut Random) -> Vec<u8>;
-
 pub fn any(random: &mut Random) -> Vec<u8> {
-    let stopping = random.pick(&[
+    let maker = random.pick(&[
         no_mark,
         version,
         cut_header,
@@ -21,9 +18,10 @@ pub fn any(random: &mut Random) -> Vec<u8> {
         wrong_length,
         ring,
         ring,
+        cut_ring,
         full_fittings,
-    ] as &[Stopping]);
-    stopping(random)
+    ] as &[Maker]);
+    maker(random)
 }
 
 pub fn no_mark(random: &mut Random) -> Vec<u8> {
@@ -38,10 +36,14 @@ pub fn no_mark(random: &mut Random) -> Vec<u8> {
 }
 
 pub fn version(random: &mut Random) -> Vec<u8> {
-    let other = random.byte().max(2);
-    let version = random.pick(&[[0, 0], [2, 0], [0, 1], [1, 1], [other, 0]]);
+    let any = match u16::from_le_bytes([random.byte(), random.byte()]) {
+        list::VERSION => 0,
+        other => other,
+    };
+    let of_one_byte = u16::from(random.byte().max(2));
+    let version = random.pick(&[0, 2, 0x0100, 0x0101, of_one_byte, any]);
     let mut list = list::write(&whole(random));
-    list[3..5].copy_from_slice(&version);
+    list[3..5].copy_from_slice(&version.to_le_bytes());
     list
 }
 
@@ -61,21 +63,32 @@ pub fn cut_record(random: &mut Random) -> Vec<u8> {
     } else {
         records::pipe(landed, landed, 0)
     };
-    let bytes = list::record_bytes(&pipe);
-    let cut = random.between(1, list::PIPE_BODY);
-    [&list::write(&records[..place]), &bytes[..cut]].concat()
+    let before = list::write(&records[..place]);
+    [before, cut(random, &pipe)].concat()
+}
+
+/// The first bytes of a pipe, at least one and not all.
+pub fn cut(random: &mut Random, pipe: &Record) -> Vec<u8> {
+    let mut bytes = list::record_bytes(pipe);
+    bytes.truncate(random.between(1, list::PIPE_BODY));
+    bytes
 }
 
 pub fn unknown_kind(random: &mut Random) -> Vec<u8> {
     let records = whole(random);
     let (place, _) = place(random, &records, 0);
+    let kind = kind(random);
+    with_tail(random, &records, place, &[kind])
+}
+
+/// A byte that is no record's kind.
+pub fn kind(random: &mut Random) -> u8 {
     let near = random.pick(b"EGOQfp\x00\xFF");
     let any = random.byte();
-    let kind = match random.pick(&[near, any]) {
+    match random.pick(&[near, any]) {
         list::FITTING_KIND | list::PIPE_KIND => near,
         other => other,
-    };
-    with_tail(random, &records, place, &[kind])
+    }
 }
 
 /// One or both fittings not landed, with any length and even the same one twice.
@@ -110,19 +123,37 @@ pub fn wrong_length(random: &mut Random) -> Vec<u8> {
     with_bad_pipe(random, &records, place, (first, second, length))
 }
 
-/// A line that closes to a ring of couplings only, beside some other shape.
+/// A pipe that closes a ring, and perhaps more after it.
 pub fn ring(random: &mut Random) -> Vec<u8> {
+    let mut records = closing_a_ring(random);
+    if random.one_in(2) {
+        records.push(Record::Fitting);
+        records.push(records::pipe(0, 1, 1));
+    }
+    list::write(&records)
+}
+
+/// 3 and not 24: the pipe that would close a ring is cut.
+pub fn cut_ring(random: &mut Random) -> Vec<u8> {
+    let mut list = list::write(&closing_a_ring(random));
+    list.truncate(list.len() - random.between(1, list::PIPE_BODY));
+    list
+}
+
+/// A line beside some other shape; the last pipe makes of it a ring of couplings only.
+fn closing_a_ring(random: &mut Random) -> Vec<Record> {
     let size = small_size(random);
     let shape = shapes::any(random, size).landable();
     let fittings = random.between(2, 9);
     let mut layout = shapes::line_in_any_order(random, fittings).beside(random, shape);
     layout.join(0, fittings - 1);
     let mut records = records::of(random, &layout);
-    if random.one_in(2) {
-        records.push(Record::Fitting);
-        records.push(records::pipe(0, 1, 1));
-    }
-    list::write(&records)
+    // Fittings that no pipe names may stand behind it.
+    let last_pipe = records
+        .iter()
+        .rposition(|&record| record != Record::Fitting);
+    records.truncate(last_pipe.map_or(0, |at| at + 1));
+    records
 }
 
 /// A 4,097th fitting, with a few pipes before it.
@@ -182,21 +213,21 @@ mod tests {
     use crate::list::{grow, Stop};
     use crate::refusal::Refusal;
 
-    fn stops_of(stopping: Stopping) -> Vec<Stop> {
+    fn stops_of(maker: Maker) -> Vec<Stop> {
         let random = &mut Random::new(5);
-        let lists = (0..60).map(|_| stopping(random));
+        let lists = (0..60).map(|_| maker(random));
         let stops = lists.map(|list| grow(&list).1.expect_err("a list that stops"));
         stops.collect()
     }
 
     #[test]
     fn headers_stop_as_named() {
-        for (stopping, refusal) in [
-            (no_mark as Stopping, Refusal::NoMark),
+        for (maker, refusal) in [
+            (no_mark as Maker, Refusal::NoMark),
             (version, Refusal::Version),
             (cut_header, Refusal::Cut),
         ] {
-            for stop in stops_of(stopping) {
+            for stop in stops_of(maker) {
                 assert_eq!(stop, Stop::Header(refusal));
             }
         }
@@ -204,16 +235,17 @@ mod tests {
 
     #[test]
     fn records_stop_as_named() {
-        for (stopping, refusal) in [
-            (cut_record as Stopping, Refusal::Cut),
-            (unknown_kind, Refusal::Kind),
+        for (maker, refusal) in [
+            (cut_record as Maker, Refusal::Cut),
+            (unknown_kind, Refusal::UnknownKind),
             (not_landed, Refusal::NotLanded),
             (same_fitting, Refusal::SameFitting),
             (wrong_length, Refusal::Length),
             (ring, Refusal::Ring),
+            (cut_ring, Refusal::Cut),
             (full_fittings, Refusal::FullFittings),
         ] {
-            for stop in stops_of(stopping) {
+            for stop in stops_of(maker) {
                 assert!(
                     matches!(stop, Stop::Record(_, r) if r == refusal),
                     "{stop:?}"

@@ -1,25 +1,10 @@
-//! The houses of the comparison: full-size, of every shape that is easy or hard for a search. In each the pipes come in an order that
-//! closes no ring of couplings.
+//! Houses of full size, of every shape that is easy or hard for a search. In each the pipes come in an order that closes no ring of
+//! couplings.
+
+use crate::edges::{comb, line, tree, Edges, Random};
 
 const FULL: usize = 4096;
 const LONGEST: usize = 100_000;
-
-pub struct Random(pub u64);
-
-impl Random {
-    pub fn below(&mut self, n: usize) -> usize {
-        self.0 ^= self.0 << 13;
-        self.0 ^= self.0 >> 7;
-        self.0 ^= self.0 << 17;
-        (self.0 % n as u64) as usize
-    }
-
-    fn shuffle<T>(&mut self, xs: &mut [T]) {
-        for i in (1..xs.len()).rev() {
-            xs.swap(i, self.below(i + 1));
-        }
-    }
-}
 
 pub struct House {
     pub name: &'static str,
@@ -28,18 +13,12 @@ pub struct House {
     pub lengths: Vec<u32>,
 }
 
-type Edges = Vec<(usize, usize)>;
-
 impl House {
     fn new(name: &'static str, vertices: usize, edges: Edges, longest: usize, random: &mut Random) -> Self {
         let ends = edges.iter().flat_map(|&(a, b)| [a as u16, b as u16]).collect();
         let lengths = edges.iter().map(|_| 1 + random.below(longest) as u32).collect();
         House { name, vertices, ends, lengths }
     }
-}
-
-fn line(n: usize) -> Edges {
-    (1..n).map(|v| (v - 1, v)).collect()
 }
 
 fn shuffled_line(n: usize, random: &mut Random) -> Edges {
@@ -50,19 +29,13 @@ fn shuffled_line(n: usize, random: &mut Random) -> Edges {
     edges
 }
 
-fn comb(n: usize) -> Edges {
-    let mut edges = line(n / 2);
-    edges.extend((0..n / 2).map(|v| (v, n / 2 + v)));
-    edges
-}
-
 fn star(n: usize) -> Edges {
     (1..n).map(|v| (0, v)).collect()
 }
 
 /// A random tree on the vertices from first on, and random edges between them up to a number of edges.
 fn random_house(first: usize, n: usize, edges: usize, random: &mut Random) -> Edges {
-    let mut all: Edges = (1..n).map(|v| (first + random.below(v), first + v)).collect();
+    let mut all: Edges = tree(n, random).into_iter().map(|(a, b)| (first + a, first + b)).collect();
     while all.len() < edges {
         let (a, b) = (random.below(n), random.below(n));
         if a != b {
@@ -100,7 +73,7 @@ pub fn houses(random: &mut Random) -> Vec<House> {
         ("line, shuffled", FULL, shuffled_line(FULL, random)),
         ("comb", FULL, comb(FULL)),
         ("star", FULL, star(FULL)),
-        ("random tree", FULL, random_house(0, FULL, 0, random)),
+        ("random tree", FULL, tree(FULL, random)),
         ("random, 3,000 fittings", 3000, random_house(0, 3000, FULL, random)),
         ("random, 2,048 fittings", 2048, random_house(0, 2048, FULL, random)),
         ("two random, not joined", 3000, two),
