@@ -6,14 +6,16 @@ use mathlib.Core.Bool.{Bool, true, false, _&&_}
 use mathlib.Core.Option.{Option, none, some, Option·some-injective, Option·some-ne-none}
 use Rattle.model.specs.Register.{Register}
 use Rattle.model.specs.Tables.{Tables, Counts, fits, cleared, held}
-use Rattle.model.specs.Calls.{Call, Lent, admits, allFit, bars, gate, registerFor, scratchAfter}
+use Rattle.model.specs.Calls.{Call, Lent, allFit, bars, gate, registerFor, scratchAfter}
 use Rattle.model.proofs.Basics.Booleans.{not-both}
-use Rattle.tables.specs.Steps.{zeroed}
-use Rattle.agreement.proofs.Calls.{zeroed-cleared}
+use Rattle.model.specs.Notions.{HeldOf}
+use Rattle.model.proofs.Series.OnlyHeld.{only-held}
+use Rattle.tables.specs.Steps.{stored, zeroed}
 use Rattle.admission.specs.Lent.{lent}
 use Rattle.holding.specs.Replay.{Regrows}
-use Rattle.holding.proofs.Held.{replay-held, replay-none, stored}
+use Rattle.holding.proofs.Held.{replay-held, replay-none}
 use Rattle.admission.specs.Gate.{barred}
+use Rattle.admission.proofs.SizeLaws.{zeroed-cleared}
 
 module _ (t : Tables) (c : Counts) (s : Tables) where
   sizes-refused : (fits t && fits s) ≡ false → (some 25 ≡ barred (lent t c s)) × (s ≡ scratchAfter (lent t c s))
@@ -60,22 +62,27 @@ module _ (t : Tables) (c : Counts) (s : Tables) where
         (held-some (o .0) (o .1), scratch-is s′ b)
 
 -- of every call but grow
-module _ (c : Call) (l : Lent) (q : registerFor c l ≡ held (l .stored)) where
-  pub gate-bars : (x : ℕ) → some x ≡ barred l → gate c l ≡ bars x
-  unfolding barred gate
-  gate-bars x h = go (allFit l) refl (held (l .stored)) refl
-    where
-      go : (b : Bool) → allFit l ≡ b → (o : Option Register) → held (l .stored) ≡ o → gate c l ≡ bars x
-      go false e o f = rw (e, gate) (ap bars (sym (Option·some-injective x 25 (rw (e, barred) at h))))
-      go true e none f = rw (e, gate, q, f) (ap bars (sym (Option·some-injective x 21 (rw (e, barred, f) at h))))
-      go true e (some r) f = absurd (Option·some-ne-none x (rw (e, barred, f) at h))
+pub gate-bars : (c : Call) (l : Lent) → registerFor c l ≡ held (l .stored) → (x : ℕ) → some x ≡ barred l → gate c l ≡ bars x
+unfolding barred gate
+gate-bars c l q x h = go (allFit l) refl (held (l .stored)) refl
+  where
+    go : (b : Bool) → allFit l ≡ b → (o : Option Register) → held (l .stored) ≡ o → gate c l ≡ bars x
+    go false e o f = rw (e, gate) (ap bars (sym (Option·some-injective x 25 (rw (e, barred) at h))))
+    go true e none f = rw (e, gate, q, f) (ap bars (sym (Option·some-injective x 21 (rw (e, barred, f) at h))))
+    go true e (some r) f = absurd (Option·some-ne-none x (rw (e, barred, f) at h))
 
-  pub gate-admits : none ≡ barred l → (r : Register) × (held (l .stored) ≡ some r) × (gate c l ≡ admits r)
-  unfolding barred gate
-  gate-admits h = go (allFit l) refl (held (l .stored)) refl
-    where
-      go : (b : Bool) → allFit l ≡ b → (o : Option Register) → held (l .stored) ≡ o
-          → (r : Register) × (held (l .stored) ≡ some r) × (gate c l ≡ admits r)
-      go false e o f = absurd (Option·some-ne-none 25 (sym (rw (e, barred) at h)))
-      go true e none f = absurd (Option·some-ne-none 21 (sym (rw (e, barred, f) at h)))
-      go true e (some r) f = (r, f, rw (e, gate, q, f))
+-- an open gate: the sizes are right, and the tables hold a register
+pub record Open (l : Lent) : Type 0 where
+  pub fit : allFit l ≡ true
+  pub register : Register
+  pub holds : held (l .stored) ≡ some register
+  pub is : HeldOf (l .stored) register
+
+pub opened : (l : Lent) → none ≡ barred l → Open l
+unfolding barred
+opened l h = go (allFit l) refl (held (l .stored)) refl
+  where
+    go : (b : Bool) → allFit l ≡ b → (o : Option Register) → held (l .stored) ≡ o → Open l
+    go false e o f = absurd (Option·some-ne-none 25 (sym (rw (e, barred) at h)))
+    go true e none f = absurd (Option·some-ne-none 21 (sym (rw (e, barred, f) at h)))
+    go true e (some r) f = record { fit = e; register = r; holds = f; is = only-held (l .stored) r f }

@@ -1,34 +1,42 @@
--- The ways out of the test of sizes.
-use mathlib.Core.Path.{_≡_, refl}
+-- The sizes of tables: how a comparison of them comes out, and that zeros of the right sizes are the cleared tables.
+use mathlib.Core.Path.{_≡_, refl, ap}
 use mathlib.Core.Logic.{_≢_}
+use Prim.Native.Nat.{ℕ}
 use mathlib.Core.Bool.{Bool, true, false}
-use lib.ListN.{length}
+use mathlib.Core.List.{List, [], _∷_}
+use lib.ListN.{getD, replicate}
 use lib.Dec.{eqb}
 use borrow.Author.Tests.{eq-eqb, ne-eqb}
-use Rattle.model.specs.Tables.{Tables, sizes, rightSizes, eqList, fits}
+use Rattle.model.specs.Tables.{Tables, cleared, eqList, fits, rightSizes, sizes}
+use Rattle.model.proofs.Series.Equality.{eqList-true, tables-parts}
+use Rattle.tables.specs.Steps.{zeroed}
 
-module _ (t : Tables) where
-  pub fits-degrees : length (t .degrees) ≢ 4096 → false ≡ fits t
-  unfolding fits sizes rightSizes eqList
-  fits-degrees h = rw (ne-eqb _ _ h, eqList)
+-- ---- a comparison, number by number
 
-  pub fits-sides : length (t .degrees) ≡ 4096 → length (t .sides) ≢ 8192 → false ≡ fits t
-  unfolding fits sizes rightSizes eqList
-  fits-sides a h = rw (eq-eqb _ _ a, eqList, ne-eqb _ _ h, eqList)
+pub list-differs : (x y : ℕ) (xs ys : List ℕ) → x ≢ y → false ≡ eqList (x ∷ xs) (y ∷ ys)
+unfolding eqList
+list-differs x y xs ys h = rw (ne-eqb x y h, eqList)
 
-  pub fits-ends : length (t .degrees) ≡ 4096 → length (t .sides) ≡ 8192 → length (t .ends) ≢ 8192 → false ≡ fits t
-  unfolding fits sizes rightSizes eqList
-  fits-ends a b h = rw (eq-eqb _ _ a, eqList, eq-eqb _ _ b, eqList, ne-eqb _ _ h, eqList)
+pub list-on : (x y : ℕ) (xs ys : List ℕ) → x ≡ y → eqList xs ys ≡ eqList (x ∷ xs) (y ∷ ys)
+unfolding eqList
+list-on x y xs ys e = rw (eq-eqb x y e, eqList)
 
-  pub fits-lengths : length (t .degrees) ≡ 4096 → length (t .sides) ≡ 8192 → length (t .ends) ≡ 8192 → length (t .lengths) ≢ 4096 → false ≡ fits t
-  unfolding fits sizes rightSizes eqList
-  fits-lengths a b c h = rw (eq-eqb _ _ a, eqList, eq-eqb _ _ b, eqList, eq-eqb _ _ c, eqList, ne-eqb _ _ h, eqList)
+pub list-last : (x y : ℕ) → eqb x y ≡ eqList (x ∷ []) (y ∷ [])
+unfolding eqList
+list-last x y = go (eqb x y)
+  where
+    go : (b : Bool) → b ≡ (elim b [ true ↦ true | false ↦ false ])
+    go true = refl
+    go false = refl
 
-  last-test : (b : Bool) → b ≡ (elim b [ true ↦ true | false ↦ false ])
-  last-test true = refl
-  last-test false = refl
+-- ---- clearing
 
-  pub fits-labels : length (t .degrees) ≡ 4096 → length (t .sides) ≡ 8192 → length (t .ends) ≡ 8192 → length (t .lengths) ≡ 4096
-      → eqb (length (t .labels)) 4096 ≡ fits t
-  unfolding fits sizes rightSizes eqList
-  fits-labels a b c d = rw (eq-eqb _ _ a, eqList, eq-eqb _ _ b, eqList, eq-eqb _ _ c, eqList, eq-eqb _ _ d, eqList) (last-test (eqb (length (t .labels)) 4096))
+-- zeros of the sizes that the tables have are the cleared tables
+pub zeroed-cleared : (t : Tables) → fits t ≡ true → zeroed t ≡ cleared
+unfolding fits sizes rightSizes zeroed cleared
+zeroed-cleared t h =
+    let s = eqList-true (sizes t) rightSizes h in
+    tables-parts (zeros 0 s) (zeros 1 s) (zeros 2 s) (zeros 3 s) (zeros 4 s)
+  where
+    zeros : (i : ℕ) → sizes t ≡ rightSizes → replicate {A = ℕ} (getD (sizes t) i 0) 0 ≡ replicate {A = ℕ} (getD rightSizes i 0) 0
+    zeros i s = ap (λ (l : List ℕ). replicate {A = ℕ} (getD l i 0) 0) s

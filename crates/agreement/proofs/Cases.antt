@@ -8,19 +8,19 @@ use borrow.Author.Tests.{eqb-true}
 use Rattle.model.specs.Basics.{if_then_else_}
 use Rattle.model.specs.Graph.{Edge, degree, isLeaf}
 use Rattle.model.specs.Cases.{Class, branch, caseOf, classOf, closesRing, isolated, leaf, regular}
-use Rattle.insertion.specs.Insertion.{Placed, openBothIn, placeExtend, placeIn, placeMerge}
+use Rattle.insertion.specs.Placing.{Placed, openBothIn, placeExtend, placeIn, placeMerge, placementFor}
 use Rattle.model.proofs.Basics.Booleans.{and-true}
 use Rattle.model.proofs.Labels.Cases.{class-leaf, isLeafClass}
 
-module _ (d ends s l : List ℕ) (blocks a b e n : ℕ) where
+module _ (degrees sides ends labels : List ℕ) (blocks a b e n : ℕ) where
   abbrev pub byLeaves : Bool → Bool → Placed
   byLeaves la lb =
       if la
-      then (if lb then placeMerge d ends s l blocks a b e n else placeExtend d ends s l blocks a a b e)
-      else (if lb then placeExtend d ends s l blocks b a b e else openBothIn d s l blocks a b e)
+      then (if lb then placeMerge degrees sides ends labels blocks a b e n else placeExtend degrees sides ends labels blocks a a b e)
+      else (if lb then placeExtend degrees sides ends labels blocks b a b e else openBothIn degrees sides labels blocks a b e)
 
-  place-class : (c k : Class) → placeIn (caseOf c k) d ends s l blocks a b e n ≡ byLeaves (isLeafClass c) (isLeafClass k)
-  unfolding placeIn caseOf isLeafClass
+  place-class : (c k : Class) → placeIn (caseOf c k) degrees sides ends labels blocks a b e n ≡ byLeaves (isLeafClass c) (isLeafClass k)
+  unfolding placeIn placementFor caseOf isLeafClass
   place-class isolated isolated = refl
   place-class isolated leaf = refl
   place-class isolated regular = refl
@@ -38,7 +38,7 @@ module _ (d ends s l : List ℕ) (blocks a b e n : ℕ) where
   place-class branch regular = refl
   place-class branch branch = refl
 
-  pub place-leaves : (p q : ℕ) → placeIn (caseOf (classOf p) (classOf q)) d ends s l blocks a b e n ≡ byLeaves (eqb p 1) (eqb q 1)
+  pub place-leaves : (p q : ℕ) → placeIn (caseOf (classOf p) (classOf q)) degrees sides ends labels blocks a b e n ≡ byLeaves (eqb p 1) (eqb q 1)
   place-leaves p q = rw (class-leaf p, class-leaf q) (place-class (classOf p) (classOf q))
 
 -- only leaves close a ring

@@ -8,22 +8,22 @@ use native.Mathlib.Decide.{decLt}
 use mathlib.Core.Bool.{Bool, true, false}
 use mathlib.Core.List.{List, [], _∷_, map}
 use lib.ListN.{length, getD, length-map, List·getD-eq-default}
-use borrow.Author.Tests.{eq-eqb, ne-eqb}
 use Rattle.model.specs.Basics.{maxEdges, maxLength, sum}
 use Rattle.model.specs.Graph.{Edge, Pass, afterOf, edgeAt, endOf, endOnwards, far, isRegular, lengthAt, lengthsOf, noEdge, onwards, turn, walk}
 use Rattle.model.specs.Register.{Register}
 use Rattle.model.specs.Tables.{Tables, edgeIn, tablesOf}
 use Rattle.model.specs.Notions.{Reachable}
-use Rattle.tables.specs.Steps.{farIn, sum32, tables, turnIn}
-use Rattle.queries.specs.Chains.{Walked, walkIn, walked}
+use Rattle.tables.specs.Steps.{farIn, sum32, turnIn}
+use Rattle.queries.specs.Chains.{WalkEnd, walkEnd, walkIn}
+use Rattle.queries.proofs.WalkLaws.{walkIn-on, walkIn-stop}
 use Rattle.model.proofs.Walks.Degree.{end-first, end-second}
 use Rattle.model.proofs.Walks.Turn.{At}
-use Rattle.model.proofs.Walks.Trail.{proper-at, walk-on, walk-stop}
-use Rattle.model.proofs.Walks.Ended.{Next, next-edge}
-use Rattle.model.proofs.Series.Held.{edge-read}
+use Rattle.model.proofs.Walks.Joins.{proper-at}
+use Rattle.model.proofs.Walks.Trail.{walk-on, walk-stop, Next, next-edge}
+use Rattle.model.proofs.Series.ReadBack.{edge-read}
 use Rattle.agreement.proofs.Lockstep.{Shows, shows-regular, shows-singular, shows-turn}
 use Rattle.agreement.proofs.Tables.{far-is, shows}
-use Rattle.agreement.proofs.Reached.{landed-below, lawful, low-at, proper, room}
+use Rattle.agreement.proofs.Reached.{lawful, proper, room}
 
 -- ---- what the tables say of an edge
 
@@ -61,8 +61,8 @@ pub record Step (r : Register) (d v : ℕ) : Type 0 where
   pub at : At (r .edges) (far (r .edges) (turn (r .edges) d v) v) (turn (r .edges) d v)
 
 module _ (r : Register) (g : Reachable r) (d v : ℕ) (a : At (r .edges) v d) where
-  grown-shows : Shows (r .edges) ((tablesOf r) .degrees) ((tablesOf r) .ends) ((tablesOf r) .sides) (r .lows)
-  grown-shows = shows r (low-at r g) (landed-below r g)
+  reachable-shows : Shows (r .edges) ((tablesOf r) .degrees) ((tablesOf r) .sides) ((tablesOf r) .ends) (r .lows)
+  reachable-shows = shows r g
 
   pub steps : isRegular (r .edges) v ≡ true → Step r d v
   steps q =
@@ -70,15 +70,15 @@ module _ (r : Register) (g : Reachable r) (d v : ℕ) (a : At (r .edges) v d) wh
       let t : Tables = tablesOf r in
       let x : Next es d v (turn es d v) = next-edge es d v (turn es d v) (proper r g) a q refl in
       record {
-        regular = shows-regular es (proper r g) (t .degrees) (t .ends) (t .sides) (r .lows) grown-shows v d a q;
-        turns = shows-turn es (proper r g) (t .degrees) (t .ends) (t .sides) (r .lows) grown-shows v d (turn es d v) a q refl;
+        regular = shows-regular reachable-shows a q;
+        turns = shows-turn reachable-shows (proper r g) a q refl;
         arrives = far-is r (turn es d v) v (x .at .inside);
         inside = x .at .inside;
         at = x .across .at;
       }
 
   pub stops : isRegular (r .edges) v ≡ false → getD ((tablesOf r) .degrees) v 0 ≢ 2
-  stops q = shows-singular (r .edges) (proper r g) ((tablesOf r) .degrees) ((tablesOf r) .ends) ((tablesOf r) .sides) (r .lows) grown-shows v d a q
+  stops q = shows-singular reachable-shows a q
 
 -- ---- the sum of lengths
 
@@ -106,30 +106,18 @@ walk-sum r g n d v =
     let ss : List Pass = walk n (r .edges) d v in
     omega (arith, sum-most (r .edges) (map afterOf ss) (length-few r g), length-map ss afterOf, walk-most n (r .edges) d v)
 
-pub onwards-sum : (r : Register) → Reachable r → (d v : ℕ) → sum (lengthsOf (r .edges) (map afterOf (onwards (r .edges) d v))) ≤ 409600000
-unfolding onwards
-onwards-sum r g d v = omega (arith, walk-sum r g (length (r .edges)) d v, room r g)
-
 -- ---- the walk
 
-module _ (t : Tables) where
-  walkIn-stop : (n d v : ℕ) → getD (t .degrees) v 0 ≢ 2 → walkIn t n d v ≡ walked v 0 0
-  unfolding walkIn
-  walkIn-stop zero d v h = refl
-  walkIn-stop (suc n) d v h = rw (ne-eqb _ _ h)
-
-  walkIn-on : (n d v c w : ℕ) → getD (t .degrees) v 0 ≡ 2 → turnIn (t .sides) d v ≡ c → farIn (t .ends) c v ≡ w
-      → let rest = walkIn t n c w in
-      walkIn t (suc n) d v ≡ walked (rest .at) (suc (rest .inner)) (sum32 (getD (t .lengths) c 0) (rest .length))
-  unfolding walkIn
-  walkIn-on n d v c w h i j = rw (eq-eqb _ _ h, i, j)
+-- the walk over tables
+abbrev pub walkOver : Tables → ℕ → ℕ → ℕ → WalkEnd
+walkOver t = walkIn (t .degrees) (t .sides) (t .ends) (t .lengths)
 
 -- what a walk from v that passes `ss` comes to
-abbrev walkedBy : List Edge → ℕ → List Pass → Walked
-walkedBy es v ss = walked (endOf es v ss) (length ss) (sum (lengthsOf es (map afterOf ss)))
+abbrev walkedBy : List Edge → ℕ → List Pass → WalkEnd
+walkedBy es v ss = walkEnd (endOf es v ss) (length ss) (sum (lengthsOf es (map afterOf ss)))
 
 module _ (r : Register) (g : Reachable r) where
-  walks : (n d v : ℕ) → n ≤ maxEdges → At (r .edges) v d → walkIn (tablesOf r) n d v ≡ walkedBy (r .edges) v (walk n (r .edges) d v)
+  walks : (n d v : ℕ) → n ≤ maxEdges → At (r .edges) v d → walkOver (tablesOf r) n d v ≡ walkedBy (r .edges) v (walk n (r .edges) d v)
   unfolding walkIn walk endOf sum lengthsOf afterOf
   walks zero d v m a = refl
   walks (suc n) d v m a = go (isRegular es v) refl (λ c at. walks n c (far es c v) (omega arith) at)
@@ -141,17 +129,17 @@ module _ (r : Register) (g : Reachable r) where
       t = tablesOf r
 
       Goal : Type 0
-      Goal = walkIn t (suc n) d v ≡ walkedBy es v (walk (suc n) es d v)
+      Goal = walkOver t (suc n) d v ≡ walkedBy es v (walk (suc n) es d v)
 
       go : (b : Bool) → isRegular es v ≡ b
-          → ((c : ℕ) → At es (far es c v) c → walkIn t n c (far es c v) ≡ walkedBy es (far es c v) (walk n es c (far es c v))) → Goal
-      go false q ih = rw (walk-stop (suc n) es d v q, walkIn-stop t (suc n) d v (stops r g d v a q))
+          → ((c : ℕ) → At es (far es c v) c → walkOver t n c (far es c v) ≡ walkedBy es (far es c v) (walk n es c (far es c v))) → Goal
+      go false q ih = rw (walk-stop (suc n) es d v q, walkIn-stop (t .degrees) (t .sides) (t .ends) (t .lengths) (suc n) d v (stops r g d v a q))
       go true q ih =
           let c : ℕ = turn es d v in
           let x : Step r d v = steps r g d v a q in
           rw (
             walk-on n es d v q,
-            walkIn-on t n d v c (far es c v) (x .regular) (x .turns) (x .arrives),
+            walkIn-on (t .degrees) (t .sides) (t .ends) (t .lengths) n d v c (far es c v) (x .regular) (x .turns) (x .arrives),
             ih c (x .at),
             length-is r c (x .inside),
             sum32-is (lengthAt es c) (sum (lengthsOf es (map afterOf (walk n es c (far es c v)))))
@@ -159,19 +147,7 @@ module _ (r : Register) (g : Reachable r) where
           )
 
   pub walk-agrees : (d v : ℕ) → At (r .edges) v d
-      → walkIn (tablesOf r) (length (r .edges)) d v
-      ≡ walked (endOnwards (r .edges) d v) (length (onwards (r .edges) d v)) (sum (lengthsOf (r .edges) (map afterOf (onwards (r .edges) d v))))
+      → walkOver (tablesOf r) (length (r .edges)) d v
+      ≡ walkEnd (endOnwards (r .edges) d v) (length (onwards (r .edges) d v)) (sum (lengthsOf (r .edges) (map afterOf (onwards (r .edges) d v))))
   unfolding endOnwards onwards
   walk-agrees d v a = walks (length (r .edges)) d v (room r g) a
-
--- ---- a walk does not read the labels
-
-abbrev pub withLabels : Tables → List ℕ → Tables
-withLabels t labels = tables (t .degrees) (t .sides) (t .ends) (t .lengths) labels
-
-pub walkIn-labels : (t : Tables) (labels : List ℕ) (n d v : ℕ) → walkIn (withLabels t labels) n d v ≡ walkIn t n d v
-unfolding walkIn
-walkIn-labels t labels zero d v = refl
-walkIn-labels t labels (suc n) d v =
-    let c = turnIn (t .sides) d v in
-    rw (walkIn-labels t labels n c (farIn (t .ends) c v))

@@ -1,29 +1,29 @@
 -- A leaf of the new edge whose other end is no leaf: its chain goes on over the edge.
 use mathlib.Core.Path.{_≡_, refl, sym, ap, _∙_}
 use mathlib.Core.Logic.{_≢_}
-use Prim.Native.Nat.{ℕ, _+_, _*_, _<_}
+use Prim.Native.Nat.{ℕ, _+_, _<_}
 use native.Mathlib.Omega.{arith}
 use mathlib.Core.Bool.{Bool, true, false, not}
 use mathlib.Core.List.{List, [], _∷_, _++_}
 use lib.ListN.{length, getD}
 use lib.Dec.{eqb}
-use borrow.Author.Tests.{eq-eqb, ne-eqb}
 use Rattle.model.specs.Basics.{maxVertices}
 use Rattle.model.specs.Graph.{Edge, Pass, degree, endsAt, far, isRegular, onlyEdge, onwards, turn, walk}
 use Rattle.model.specs.Labels.{Labelling, Marks, attach, base, extend, labelPath, next}
-use Rattle.tables.specs.Steps.{farIn, more16, nextIn}
-use Rattle.labels.specs.Labelling.{after, extendAt, extendIn, labelVertexIn, worn}
+use Rattle.tables.specs.Steps.{farIn, most16, most32}
+use Rattle.tables.proofs.Sums.{more16-is, nextIn-is}
+use Rattle.labels.specs.Labelling.{countAhead, extendIn, labelVertexIn}
+use Rattle.labels.proofs.Labels.{extend-begun, extend-on}
 use Rattle.model.proofs.Walks.Degree.{Proper, degree-snoc, is-two, not-two, proper-snoc}
-use Rattle.model.proofs.Walks.Turn.{At}
-use Rattle.model.proofs.Walks.Trail.{across, walk-on, walk-stop}
+use Rattle.model.proofs.Walks.Turn.{At, OneEdge, one-edge, onlyEdge-is}
+use Rattle.model.proofs.Walks.Joins.{across, far-ne}
+use Rattle.model.proofs.Walks.Trail.{walk-on, walk-stop}
 use Rattle.model.proofs.Walks.Snoc.{far-old}
 use Rattle.model.proofs.Walks.NewEdge.{at-last, at-new, length-new}
-use Rattle.model.proofs.Walks.Ended.{far-ne}
-use Rattle.model.proofs.Walks.RingFree.{OneEdge, one-edge}
-use Rattle.model.proofs.Walks.Rings.{onlyEdge-is}
 use Rattle.model.proofs.Labels.Following.{here}
 use Rattle.agreement.proofs.Linked.{Linked}
-use Rattle.agreement.proofs.Laying.{Between, Everywhere, Kept, Off, between, kept-where, lay-kept, layIn, next-agrees}
+use Rattle.agreement.proofs.Passes.{Between, Off, between}
+use Rattle.agreement.proofs.Laying.{Everywhere, HoldsMarks, kept-where, lay-kept, layIn}
 use Rattle.agreement.proofs.Opening.{OpenedBoth}
 
 -- ---- attaching: the two cases of the definition
@@ -41,43 +41,25 @@ pub attach-some : (blocks d : ℕ) (u : Pass) (us path : List Pass) (m : Marks)
 unfolding attach
 attach-some blocks d u us path m = refl
 
--- ---- the two cases of the table function
-
-pub more16-agrees : (n : ℕ) → n < 65535 → more16 n ≡ n + 1
-unfolding more16
-more16-agrees n h = omega arith
-
-module _ (degrees ends sides labels : List ℕ) (blocks x e d u : ℕ) (a : getD sides (2 * x) 0 ≡ d) (b : farIn ends d x ≡ u) where
-  extend-after : (up : Bool) (label : ℕ) → getD degrees u 0 ≡ 2 → not (eqb (getD sides (2 * u) 0) d) ≡ up → nextIn up (getD labels u 0) ≡ label
-      → extendIn degrees ends sides labels blocks x e
-      ≡ worn (labelVertexIn sides labels x label d e up .sides) (labelVertexIn sides labels x label d e up .labels) blocks
-  unfolding extendIn extendAt
-  extend-after up label h i j = rw (a, b, eq-eqb _ _ h, i, j)
-
-  extend-new : (k : ℕ) → getD degrees u 0 ≢ 2 → more16 blocks ≡ k
-      → extendIn degrees ends sides labels blocks x e
-      ≡ worn (labelVertexIn sides labels x (base k) d e true .sides) (labelVertexIn sides labels x (base k) d e true .labels) k
-  unfolding extendIn extendAt
-  extend-new k h i = rw (a, b, ne-eqb _ _ h, i)
-
 -- ---- a leaf of before becomes regular
 
-module _ (es : List Edge) (n : Edge) (pr : Proper es) (df : n .first ≢ n .second) (x : ℕ) (one : degree es x ≡ 1) where
-  pub leaf-at : At es x (onlyEdge es x)
-  leaf-at =
-      let e : OneEdge es x = one-edge es x pr one in
-      rw (onlyEdge-is es x (e .edge) pr one (e .at)) (e .at)
+pub leaf-at : (es : List Edge) → Proper es → (x : ℕ) → degree es x ≡ 1 → At es x (onlyEdge es x)
+leaf-at es pr x one =
+    let e : OneEdge es x = one-edge es x pr one in
+    rw (onlyEdge-is es x (e .edge) pr one (e .at)) (e .at)
 
-  pub leaf-between : endsAt x n ≡ 1 → Between (es ++ (n ∷ [])) x (onlyEdge es x) (length es)
-  leaf-between o =
-      between (es ++ (n ∷ [])) x (onlyEdge es x) (length es) (proper-snoc es n pr df) (omega (arith, degree-snoc es n x))
-      (at-new es n leaf-at) (at-last es n o) (λ e. omega (arith, leaf-at .inside))
+pub leaf-between : (es : List Edge) (n : Edge) → Proper es → n .first ≢ n .second → (x : ℕ) → degree es x ≡ 1 → endsAt x n ≡ 1
+    → Between (es ++ (n ∷ [])) x (onlyEdge es x) (length es)
+leaf-between es n pr df x one o =
+    let a : At es x (onlyEdge es x) = leaf-at es pr x one in
+    between (es ++ (n ∷ [])) x (onlyEdge es x) (length es) (proper-snoc es n pr df) (omega (arith, degree-snoc es n x))
+    (at-new es n a) (at-last es n o) (λ e. omega (arith, a .inside))
 
 -- ---- they agree
 
 -- the sides, labels and blocks that a labelling says
-pub record Wears (es : List Edge) (sides labels : List ℕ) (blocks : ℕ) (g : Labelling) : Type 0 where
-  pub kept : Kept es Everywhere sides labels (g .marks)
+pub record HoldsLabelling (es : List Edge) (sides labels : List ℕ) (blocks : ℕ) (g : Labelling) : Type 0 where
+  pub kept : HoldsMarks es Everywhere sides labels (g .marks)
   pub blocks-are : blocks ≡ g .blocks
 
 module _ (es : List Edge) (n : Edge) (pr : Proper es) (df : n .first ≢ n .second) (below : (v d : ℕ) → At (es ++ (n ∷ [])) v d → v < maxVertices)
@@ -99,13 +81,13 @@ module _ (es : List Edge) (n : Edge) (pr : Proper es) (df : n .first ≢ n .seco
   off-path : (v : ℕ) → Off path v → endsAt v n ≡ 1 → degree es v ≢ 1
   off-path v f = apart v (λ e. f 0 _ here (sym e))
 
-  pub extended : (sides labels : List ℕ) (blocks : ℕ) (m : Marks) → OpenedBoth es n sides labels m → blocks < 65535 → ((v : ℕ) → getD labels v 0 < 4294967295)
-      → let w = extendIn degrees ends sides labels blocks x (length es) in Wears new (w .sides) (w .labels) (w .count) (extend es new blocks x m)
-  unfolding extend onwards layIn after
+  pub extended : (sides labels : List ℕ) (blocks : ℕ) (m : Marks) → OpenedBoth es n sides labels m → blocks < most16 → ((v : ℕ) → getD labels v 0 < most32)
+      → let w = extendIn degrees sides ends labels blocks x (length es) in HoldsLabelling new (w .sides) (w .labels) (w .count) (extend es new blocks x m)
+  unfolding extend onwards layIn countAhead
   extended sides labels blocks m q bb lb = go (isRegular new u) refl
     where
       a : At es x d
-      a = leaf-at es n pr df x one
+      a = leaf-at es pr x one
 
       u-is : far new d x ≡ u
       u-is = far-old es n d x (a .inside)
@@ -114,31 +96,33 @@ module _ (es : List Edge) (n : Edge) (pr : Proper es) (df : n .first ≢ n .seco
       u-below = below u d (at-new es n ((across es d x pr a) .at))
 
       -- the one vertex is labelled
-      laid : (up : Bool) (label : ℕ) → let w = labelVertexIn sides labels x label d (length es) up in Kept new Everywhere (w .sides) (w .labels) (labelPath up label path m)
+      laid : (up : Bool) (label : ℕ) → let w = labelVertexIn sides labels x label d (length es) up in HoldsMarks new Everywhere (w .sides) (w .labels) (labelPath up label path m)
       laid up label = lay-kept new below up label path sides labels m (leaf-between es n pr df x one o, tt) (kept-where (Off path) off-path (q .kept))
 
-      go : (c : Bool) → isRegular new u ≡ c → let w = extendIn degrees ends sides labels blocks x (length es) in
-          Wears new (w .sides) (w .labels) (w .count) (attach blocks d (walk (length new) new d (far new d x)) path m)
+      go : (c : Bool) → isRegular new u ≡ c → let w = extendIn degrees sides ends labels blocks x (length es) in
+          HoldsLabelling new (w .sides) (w .labels) (w .count) (attach blocks d (walk (length new) new d (far new d x)) path m)
       go true c =
           let k : Linked new sides (m .lows) u = q .kept .links u u-below (apart u (far-ne es d x pr a)) in
           let up : Bool = not (eqb (getD (m .lows) u 0) d) in
           let label : ℕ = getD (m .labels) u 0 in
           let t : getD labels u 0 ≡ label = ap (λ (l : List ℕ). getD l u 0) (q .kept .labels-are) in
+          let w = labelVertexIn sides labels x (next up label) d (length es) up in
           let s : walk (length new) new d (far new d x) ≡ record { before = d; at = u; after = turn new d u } ∷ walk (length es) new (turn new d u) (far new (turn new d u) u) =
           rw (u-is, length-new es n) (walk-on (length es) new d u c) in
           rw (
             s,
             attach-some blocks d (record { before = d; at = u; after = turn new d u }) (walk (length es) new (turn new d u) (far new (turn new d u) u)) path m,
-            extend-after degrees ends sides labels blocks x (length es) d u (q .leaf x o one) (fars d x (a .inside)) up (next up label) (ds u u-below ∙ is-two new u c)
-                (ap (λ (z : ℕ). not (eqb z d)) ((k .regular (is-two new u c)) .0)) (rw t (next-agrees up label (omega (arith, lb u, t)))),
+            ← extend-on degrees sides ends labels (w .sides) (w .labels) blocks x (length es) d u (w .count) (sym (q .leaf x o one), sym (fars d x (a .inside))) label (next up label) up
+                (ds u u-below ∙ is-two new u c) (ap (λ (z : ℕ). not (eqb z d)) (sym ((k .regular (is-two new u c)) .0))) (sym t) (sym (nextIn-is up label (omega (arith, lb u, t)))) refl,
           )
           (record { kept = laid up (next up label); blocks-are = refl })
       go false c =
+          let w = labelVertexIn sides labels x (base (blocks + 1)) d (length es) true in
           let s : walk (length new) new d (far new d x) ≡ [] = rw u-is (walk-stop (length new) new d u c) in
           rw (
             s,
             attach-none blocks d path m,
-            extend-new degrees ends sides labels blocks x (length es) d u (q .leaf x o one) (fars d x (a .inside)) (blocks + 1) (λ z. not-two new u c (sym (ds u u-below) ∙ z))
-                (more16-agrees blocks bb),
+            ← extend-begun degrees sides ends labels (w .sides) (w .labels) blocks x (length es) d u (w .count) (sym (q .leaf x o one), sym (fars d x (a .inside))) (blocks + 1) (base (blocks + 1))
+                (λ z. not-two new u c (sym (ds u u-below) ∙ z)) (sym (more16-is blocks bb)) refl refl,
           )
           (record { kept = laid true (base (blocks + 1)); blocks-are = refl })

@@ -14,35 +14,41 @@ use borrow.Author.Tests.{ne-eqb, eqb-true, eqb-false, ltb-true}
 use Rattle.model.specs.Basics.{if_then_else_, maxVertices, sum}
 use Rattle.model.specs.Graph.{Edge, afterOf, degree, far, isRegular, lengthAt, lengthsOf, onwards, turn}
 use Rattle.model.specs.Distance.{lengthVia}
-use Rattle.model.specs.Register.{Register}
+use Rattle.model.specs.Register.{Register, lowEdgeOf}
 use Rattle.model.specs.Queries.{chainAt, find, lengthTo, reach, reached, refuses}
 use Rattle.model.specs.Tables.{Tables, countsOf, tablesOf}
 use Rattle.model.specs.Notions.{Reachable}
-use Rattle.queries.specs.Chains.{findIn, firstAt, firstFrom, lengthToIn, nameIn, reachIn}
+use Rattle.queries.specs.Chains.{firstAt, firstFrom}
+use Rattle.queries.specs.Finding.{findIn, lengthToIn, reachIn}
 use Rattle.model.proofs.Walks.Degree.{is-two, two-is}
 use Rattle.model.proofs.Walks.Turn.{At, Turned, TwoEdges, turned, two-edges}
-use Rattle.model.proofs.Walks.Trail.{across}
-use Rattle.model.proofs.Series.Labelled.{Labelled, find-none, find-own, label-not-zero, regular-landed}
+use Rattle.model.proofs.Walks.Joins.{across}
+use Rattle.model.proofs.Series.Labelled.{Labelled, label-not-zero, regular-landed}
+use Rattle.model.proofs.Series.Answers.{find-none, find-own}
+use Rattle.model.proofs.Series.Small.{reaches-small}
 use Rattle.agreement.proofs.Lists.{PairAt}
 use Rattle.agreement.proofs.Tables.{degrees-read, far-is, sides-linked}
 use Rattle.agreement.proofs.Reached.{few, labelled, labels-long, low-at, no-label, proper}
-use Rattle.agreement.proofs.Chaining.{length-few, length-is, onwards-sum, sum32-is, walk-agrees}
-use Rattle.agreement.proofs.Lowest.{name-agrees, one-name}
+use Rattle.agreement.proofs.Chaining.{length-is, sum32-is, walk-agrees}
+use Rattle.agreement.proofs.Lowest.{nameOver, name-agrees, one-name}
 
 -- the sides of a regular vertex
 sides-are : (r : Register) → Reachable r → (v : ℕ) → v < maxVertices → degree (r .edges) v ≡ 2
-    → PairAt ((tablesOf r) .sides) v (getD (r .lows) v 0) (turn (r .edges) (getD (r .lows) v 0) v)
-sides-are r g v h two = sides-linked r (low-at r g) v h .regular two
+    → PairAt ((tablesOf r) .sides) v (lowEdgeOf r v) (turn (r .edges) (lowEdgeOf r v) v)
+sides-are r g v h two = sides-linked r g v h .regular two
 
 -- ---- reach
 
-length-to : (r : Register) → Reachable r → (d v : ℕ) → At (r .edges) v d → lengthToIn (tablesOf r) (length (r .edges)) d v ≡ lengthTo (r .edges) d v
+abbrev lengthOver : Tables → ℕ → ℕ → ℕ → ℕ
+lengthOver t = lengthToIn (t .degrees) (t .sides) (t .ends) (t .lengths)
+
+length-to : (r : Register) → Reachable r → (d v : ℕ) → At (r .edges) v d → lengthOver (tablesOf r) (length (r .edges)) d v ≡ lengthTo (r .edges) d v
 unfolding lengthToIn lengthTo lengthVia sum lengthsOf
 length-to r g d v a =
     let es : List Edge = r .edges in
     let w : ℕ = far es d v in
     rw (length-is r d (a .inside), far-is r d v (a .inside), walk-agrees r g d w ((across es d v (proper r g) a) .at))
-    (sum32-is (lengthAt es d) (sum (lengthsOf es (map afterOf (onwards es d w)))) (omega (arith, length-few r g d, onwards-sum r g d w)))
+    (sum32-is (lengthAt es d) (sum (lengthsOf es (map afterOf (onwards es d w)))) (omega (arith, reaches-small r g d v (a .inside))))
 
 pub reach-agrees : (r : Register) → Reachable r → (v : ℕ) → reachIn (tablesOf r) (countsOf r) v ≡ reach r v
 unfolding reachIn reach countsOf isRegular
@@ -55,11 +61,11 @@ reach-agrees r g v = below (ltb v (r .vertices)) refl
     t = tablesOf r
 
     low : ℕ
-    low = getD (r .lows) v 0
+    low = lowEdgeOf r v
 
     regular : (b : Bool) → v < r .vertices → eqb (degree es v) 2 ≡ b
         → (if not (eqb (getD (t .degrees) v 0) 2) then refuses 8
-        else reached (lengthToIn t (length es) (getD (t .sides) (2 * v) 0) v) (lengthToIn t (length es) (getD (t .sides) (2 * v + 1) 0) v))
+        else reached (lengthOver t (length es) (getD (t .sides) (2 * v) 0) v) (lengthOver t (length es) (getD (t .sides) (2 * v + 1) 0) v))
         ≡ (if not (eqb (degree es v) 2) then refuses 8 else reached (lengthTo es low v) (lengthTo es (turn es low v) v))
     regular false l e = rw (degrees-read r v (omega (arith, few r g)), e)
     regular true l e =
@@ -118,11 +124,11 @@ module _ (r : Register) (g : Reachable r) where
 
   -- the chain of a regular vertex, by its edge on the low side
   chain-found : (v : ℕ) → v < maxVertices → degree (r .edges) v ≡ 2
-      → nameIn (tablesOf r) (length (r .edges)) (getD ((tablesOf r) .sides) (2 * v) 0) ≡ chainAt r v
+      → nameOver (tablesOf r) (length (r .edges)) (getD ((tablesOf r) .sides) (2 * v) 0) ≡ chainAt r v
   unfolding chainAt
   chain-found v h two =
       let es : List Edge = r .edges in
-      let low : ℕ = getD (r .lows) v 0 in
+      let low : ℕ = lowEdgeOf r v in
       let a : At es v low = low-at r g v two in
       let e : TwoEdges es v = two-edges es v (proper r g) two in
       rw ((sides-are r g v h two) .0, e .list)

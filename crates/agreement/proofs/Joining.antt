@@ -1,66 +1,56 @@
 -- Two leaves are joined by the new edge: the one's chain keeps its labels, and the labels that follow are laid along the other's.
 use mathlib.Core.Path.{_≡_, refl, sym, ap, _∙_}
-use mathlib.Core.Logic.{_≢_, _⊎_, inl, inr}
+use mathlib.Core.Logic.{_≢_}
 use Prim.Native.Nat.{ℕ, zero, suc, _+_, _*_, _≤_, _<_}
 use native.Mathlib.Omega.{arith}
-use mathlib.Core.Bool.{Bool, true, not}
+use mathlib.Core.Bool.{Bool, true, false, not}
 use mathlib.Core.List.{List, [], _∷_, _++_}
 use lib.ListN.{length, getD, set}
 use lib.Dec.{eqb}
 use Rattle.model.specs.Basics.{maxVertices, maxEdges}
 use Rattle.model.specs.Graph.{Edge, Pass, degree, endsAt, far, isRegular, onlyEdge}
 use Rattle.model.specs.Labels.{Labelling, Marks, attach, base, inwards, joinPath, labelPath, next, relabelCount}
-use Rattle.tables.specs.Steps.{farIn, nextIn}
-use Rattle.labels.specs.Labelling.{Worn, after, beginIn, joinIn, labelVertexIn, relabelIn}
-use Rattle.model.proofs.Walks.Degree.{Proper, endsAt-le, is-two, two-ends, zero-or-one}
+use Rattle.tables.specs.Steps.{most32}
+use Rattle.tables.proofs.Sums.{nextIn-is}
+use Rattle.labels.specs.Labelling.{countAhead, labelVertexIn}
+use Rattle.labels.specs.Merging.{Merged, beginIn, joinIn, merged}
+use Rattle.labels.proofs.Merges.{join-law}
+use Rattle.model.proofs.Walks.Degree.{Proper, is-two}
 use Rattle.model.proofs.Walks.Turn.{At}
-use Rattle.model.proofs.Walks.Trail.{across}
+use Rattle.model.proofs.Walks.Joins.{across}
 use Rattle.model.proofs.Walks.Ended.{trail-short}
 use Rattle.model.proofs.Walks.RingFree.{RingFree}
-use Rattle.model.proofs.Labels.Following.{Ith, here, later, re-bare, re-same}
+use Rattle.model.proofs.Labels.Following.{Ith, here, later}
+use Rattle.model.proofs.Labels.Relabellings.{relabelCount-bare, relabelCount-same}
 use Rattle.model.proofs.Labels.Inwards.{Inward, inward, trail-head, trail-regular}
 use Rattle.model.proofs.Walks.Once.{at-once}
-use Rattle.agreement.proofs.Linked.{Linked, linked-old, turn-agrees}
+use Rattle.agreement.proofs.Linked.{Linked, linked-old, off-ends, turn-agrees}
 use Rattle.agreement.proofs.Lockstep.{Shows}
-use Rattle.agreement.proofs.Laying.{AllBetween, all-old, between-ith, Between, Everywhere, Kept, Off, Once, Turns, between-back, lay-counts, lay-kept, layIn, next-agrees, next-most, once-cons, relabel-lays, trail-between, turn-other}
-use Rattle.agreement.proofs.Extending.{Wears, attach-none, attach-some, leaf-at, leaf-between}
+use Rattle.agreement.proofs.Passes.{AllBetween, Between, Off, Once, all-old, between-back, between-ith, once-cons, trail-between}
+use Rattle.agreement.proofs.Laying.{Everywhere, HoldsMarks, Turns, lay-counts, lay-kept, layIn, next-most, relabel-lays, turn-other}
+use Rattle.agreement.proofs.Extending.{HoldsLabelling, attach-none, attach-some, leaf-at, leaf-between}
 
--- ---- the table function
-
-module _ (degrees ends sides labels : List ℕ) (x y e n dx dy u w l₁ l₂ l₃ : ℕ) (up : Bool) (a : getD sides (2 * x) 0 ≡ dx) (b : getD sides (2 * y) 0 ≡ dy)
-    (c : farIn ends dx x ≡ u) (f : farIn ends dy y ≡ w) (g : not (eqb (getD sides (2 * u) 0) dx) ≡ up)
-    (i : nextIn up (getD labels u 0) ≡ l₁) (j : nextIn up l₁ ≡ l₂) (k : nextIn up l₂ ≡ l₃) where
-  abbrev one : Worn
-  one = labelVertexIn sides labels x l₁ dx e up
-
-  abbrev two : Worn
-  two = labelVertexIn (one .sides) (one .labels) y l₂ e dy up
-
-  join-is : joinIn degrees ends sides labels x y e n ≡ after (one .count) (after (two .count) (relabelIn degrees ends up n (two .sides) (two .labels) dy w l₃))
-  unfolding joinIn
-  join-is = rw (a, b, c, f, g, i, j, k)
-
--- ---- they agree
-
-pub record Joined (es : List Edge) (labels : List ℕ) (w : Worn) (blocks count : ℕ) (g : Labelling) : Type 0 where
-  pub wears : Wears es (w .sides) (w .labels) blocks g
-  pub counts : relabelCount labels (w .labels) ≡ count
+-- no ring; the tables hold labelling g; the count is that of the relabelled
+pub record MergedAs (es : List Edge) (labels : List ℕ) (p : Merged) (g : Labelling) : Type 0 where
+  pub ring : p .ring ≡ false
+  pub holds : HoldsLabelling es (p .sides) (p .labels) (p .blocks) g
+  pub counts : relabelCount labels (p .labels) ≡ p .relabellings
 
 -- tables that show the edges before edge n, whose ends are then below 4,096
-pub record Ground (es : List Edge) (n : Edge) (degrees ends sides labels : List ℕ) (m : Marks) : Type 0 where
+pub record Ground (es : List Edge) (n : Edge) (degrees sides ends labels : List ℕ) (m : Marks) : Type 0 where
   pub proper : Proper es
   pub differ : n .first ≢ n .second
   pub rings : RingFree es
   pub room : length es ≤ maxEdges
   pub below : (v d : ℕ) → At (es ++ (n ∷ [])) v d → v < maxVertices
-  pub shows : Shows es degrees ends sides (m .lows)
+  pub shows : Shows es degrees sides ends (m .lows)
   pub labels-are : labels ≡ m .labels
   pub sides-long : length sides ≡ 2 * maxVertices
   pub lows-long : length (m .lows) ≡ maxVertices
   -- the labels that follow any of them stay within 32 bits
-  pub small : (v : ℕ) → getD labels v 0 + 8192 < 4294967295
+  pub small : (v : ℕ) → getD labels v 0 + 8192 < most32
 
-module _ (es : List Edge) (n : Edge) (degrees ends sides labels : List ℕ) (m : Marks) (k : Ground es n degrees ends sides labels m)
+module _ {es : List Edge} {n : Edge} {degrees sides ends labels : List ℕ} {m : Marks} (k : Ground es n degrees sides ends labels m)
     (x y : ℕ) (lx : degree es x ≡ 1) (ly : degree es y ≡ 1) (ox : endsAt x n ≡ 1) (oy : endsAt y n ≡ 1) (xy : x ≢ y) where
   pr : Proper es
   pr = k .proper
@@ -68,7 +58,7 @@ module _ (es : List Edge) (n : Edge) (degrees ends sides labels : List ℕ) (m :
   df : n .first ≢ n .second
   df = k .differ
 
-  sh : Shows es degrees ends sides (m .lows)
+  sh : Shows es degrees sides ends (m .lows)
   sh = k .shows
 
   abbrev new : List Edge
@@ -84,24 +74,16 @@ module _ (es : List Edge) (n : Edge) (degrees ends sides labels : List ℕ) (m :
   path = joinPath es x y
 
   ax : At es x dx
-  ax = leaf-at es n pr df x lx
+  ax = leaf-at es pr x lx
 
   ay : At es y dy
-  ay = leaf-at es n pr df y ly
+  ay = leaf-at es pr y ly
 
   no-leaf : (v z : ℕ) → degree es v ≡ 2 → degree es z ≡ 1 → v ≢ z
   no-leaf v z two one e = let q : degree es z ≡ 2 = rw e at two in omega arith
 
   meets : (v : ℕ) → v ≢ x → v ≢ y → endsAt v n ≡ 0
-  meets v a b = go (zero-or-one (endsAt v n) (endsAt-le v n df))
-    where
-      which : (v ≡ x) ⊎ (v ≡ y) → endsAt v n ≡ 0
-      which (inl e) = absurd (a e)
-      which (inr e) = absurd (b e)
-
-      go : (endsAt v n ≡ 0) ⊎ (endsAt v n ≡ 1) → endsAt v n ≡ 0
-      go (inl z) = z
-      go (inr o) = which (two-ends n x y v ox oy xy o)
+  meets v a b = off-ends n x y v df ox oy xy a b
 
   -- the walk from y inwards
   iy : Inward es y dy (inwards es y)
@@ -138,7 +120,7 @@ module _ (es : List Edge) (n : Edge) (degrees ends sides labels : List ℕ) (m :
       first zero s here = λ e. xy (sym e)
       first (suc i) s (later j) = walk-off x lx i s j
 
-  path-start : Kept new (Off path) sides labels m
+  path-start : HoldsMarks new (Off path) sides labels m
   unfolding joinPath
   path-start = record {
     labels-are = k .labels-are;
@@ -147,11 +129,11 @@ module _ (es : List Edge) (n : Edge) (degrees ends sides labels : List ℕ) (m :
     lows-long = k .lows-long;
   }
 
-  laid-kept : (up : Bool) (label : ℕ) → let w = layIn up label path sides labels in Kept new Everywhere (w .sides) (w .labels) (labelPath up label path m)
+  laid-kept : (up : Bool) (label : ℕ) → let w = layIn up label path sides labels in HoldsMarks new Everywhere (w .sides) (w .labels) (labelPath up label path m)
   laid-kept up label = lay-kept new (k .below) up label path sides labels m path-between path-start
 
   laid-counts : (up : Bool) (label : ℕ) → let w = layIn up label path sides labels in relabelCount labels (w .labels) ≡ w .count
-  laid-counts up label = omega (arith, lay-counts labels up label path sides labels refl path-once (λ i s j. refl), re-same labels)
+  laid-counts up label = omega (arith, lay-counts labels up label path sides labels refl path-once (λ i s j. refl), relabelCount-same labels)
 
   side-is : (z : ℕ) → degree es z ≡ 1 → z < maxVertices → getD sides (2 * z) 0 ≡ onlyEdge es z
   side-is z one l = ((sh .links z l) .leaf one) .0
@@ -173,13 +155,13 @@ module _ (es : List Edge) (n : Edge) (degrees ends sides labels : List ℕ) (m :
       ∙ turn-agrees es sides (m .lows) (s .at) (s .before) pr (sh .links (s .at) (sh .below (s .at) (s .before) (t .before-at))) (t .regular) (t .before-at)
       ∙ t .forth
 
-  join-lays : (u : ℕ) → u ≡ far es dx x → isRegular es u ≡ true → joinIn degrees ends sides labels x y (length es) (length es) ≡ layIn (up u) (label u) path sides labels
-  unfolding joinPath layIn
+  join-lays : (u : ℕ) → u ≡ far es dx x → isRegular es u ≡ true → joinIn degrees sides ends labels x y (length es) (length es) ≡ layIn (up u) (label u) path sides labels
+  unfolding joinPath layIn countAhead
   join-lays u e c =
       let u-below : u < maxVertices = sh .below u dx (rw e ((across es dx x pr ax) .at)) in
       let q : Linked es sides (m .lows) u = sh .links u u-below in
       let t : getD labels u 0 ≡ getD (m .labels) u 0 = ap (λ (l : List ℕ). getD l u 0) (k .labels-are) in
-      let s : getD labels u 0 + 8192 < 4294967295 = k .small u in
+      let s : getD labels u 0 + 8192 < most32 = k .small u in
       let l₁ : ℕ = label u in
       let l₂ : ℕ = next (up u) l₁ in
       let l₃ : ℕ = next (up u) l₂ in
@@ -188,46 +170,53 @@ module _ (es : List Edge) (n : Edge) (degrees ends sides labels : List ℕ) (m :
       let b₃ : l₃ ≤ l₂ + 1 = next-most (up u) l₂ in
       let w₁ = labelVertexIn sides labels x l₁ dx (length es) (up u) in
       let w₂ = labelVertexIn (w₁ .sides) (w₁ .labels) y l₂ (length es) dy (up u) in
-      join-is degrees ends sides labels x y (length es) (length es) dx dy u (far es dy y) l₁ l₂ l₃ (up u) (side-is x lx (sh .below x dx ax)) (side-is y ly (sh .below y dy ay))
-      (sh .fars-are dx x (ax .inside) ∙ sym e) (sh .fars-are dy y (ay .inside)) (ap (λ (z : ℕ). not (eqb z dx)) ((q .regular (is-two es u c)) .0))
-      (rw t (next-agrees (up u) (getD (m .labels) u 0) (omega arith))) (next-agrees (up u) l₁ (omega arith)) (next-agrees (up u) l₂ (omega arith))
-      ∙ ap (λ (w : Worn). after (w₁ .count) (after (w₂ .count) w))
-      (relabel-lays es pr degrees ends sides (m .lows) sh (up u) (length es) (w₂ .sides) (w₂ .labels) l₃ walk-at (iy .trail) (iy .singular) (omega (arith, walk-short))
-      (omega (arith, walk-short, k .room)) walk-once (turns l₁ l₂ (up u)))
+      let w₃ = layIn (up u) l₃ (inwards es y) (w₂ .sides) (w₂ .labels) in
+      sym (join-law degrees sides ends labels (w₁ .sides) (w₁ .labels) (w₂ .sides) (w₂ .labels) (w₃ .sides) (w₃ .labels) x y (length es) (length es) dx dy u (far es dy y)
+      (getD (m .labels) u 0) l₁ l₂ l₃ (w₁ .count) (w₂ .count) (w₃ .count) (up u)
+      (sym (side-is x lx (sh .below x dx ax)), e ∙ sym (sh .fars-are dx x (ax .inside))) (sym (side-is y ly (sh .below y dy ay)), sym (sh .fars-are dy y (ay .inside)))
+      (ap (λ (z : ℕ). not (eqb z dx)) (sym ((q .regular (is-two es u c)) .0))) (sym t) (sym (nextIn-is (up u) (getD (m .labels) u 0) (omega arith)))
+      (sym (nextIn-is (up u) l₁ (omega arith))) refl refl (sym (nextIn-is (up u) l₂ (omega arith)))
+      (sym (relabel-lays pr sh (up u) (length es) (w₂ .sides) (w₂ .labels) l₃ walk-at (iy .trail) (iy .singular) (omega (arith, walk-short))
+      (omega (arith, walk-short, k .room)) walk-once (turns l₁ l₂ (up u)))))
 
   first-of : (ss : List Pass) → 0 < length ss → (u : Pass) × (us : List Pass) × (ss ≡ u ∷ us)
   first-of [] h = absurd (omega arith)
   first-of (u ∷ us) h = (u, us, refl)
 
   pub joins : (blocks : ℕ) → 0 < length (inwards es x)
-      → let j = joinIn degrees ends sides labels x y (length es) (length es) in Joined new labels j blocks (j .count) (attach blocks dx (inwards es x) path m)
+      → let j = joinIn degrees sides ends labels x y (length es) (length es) in
+      MergedAs new labels (merged false (j .sides) (j .labels) blocks (j .count)) (attach blocks dx (inwards es x) path m)
   joins blocks h = go (first-of (inwards es x) h)
     where
       go : ((u : Pass) × (us : List Pass) × (inwards es x ≡ u ∷ us))
-          → let j = joinIn degrees ends sides labels x y (length es) (length es) in Joined new labels j blocks (j .count) (attach blocks dx (inwards es x) path m)
+          → let j = joinIn degrees sides ends labels x y (length es) (length es) in
+          MergedAs new labels (merged false (j .sides) (j .labels) blocks (j .count)) (attach blocks dx (inwards es x) path m)
       go (u, us, e) =
           let hd = trail-head u us ((inward es pr (k .rings) x dx lx ax) .trail) e in
           let c : isRegular es (u .at) ≡ true = rw (hd .head-at) (hd .head-regular) in
           rw (join-lays (u .at) (hd .head-at) c, e, attach-some blocks dx u us path m) (record {
-            wears = record { kept = laid-kept (up (u .at)) (label (u .at)); blocks-are = refl };
+            ring = refl;
+            holds = record { kept = laid-kept (up (u .at)) (label (u .at)); blocks-are = refl };
             counts = laid-counts (up (u .at)) (label (u .at));
           })
 
   -- neither chain has any: a new block
   begin-lays : (i : ℕ) → inwards es y ≡ [] → let l = layIn true (base i) path sides labels in let w = beginIn sides labels x dx y dy (length es) i in
       (w .sides ≡ l .sides) × (w .labels ≡ l .labels)
-  unfolding joinPath layIn after beginIn next
+  unfolding joinPath layIn countAhead beginIn next
   begin-lays i e = rw e (refl, refl)
 
   begin-counts : (i : ℕ) → getD labels x 0 ≡ 0 → getD labels y 0 ≡ 0 → relabelCount labels (beginIn sides labels x dx y dy (length es) i .labels) ≡ 0
   unfolding beginIn labelVertexIn
-  begin-counts i zx zy = omega (arith, re-bare labels (set labels x (base i)) y (base i + 1) zy, re-bare labels labels x (base i) zx, re-same labels)
+  begin-counts i zx zy = omega (arith, relabelCount-bare labels (set labels x (base i)) y (base i + 1) zy, relabelCount-bare labels labels x (base i) zx, relabelCount-same labels)
 
   pub begins : (blocks : ℕ) → inwards es x ≡ [] → inwards es y ≡ [] → getD labels x 0 ≡ 0 → getD labels y 0 ≡ 0
-      → Joined new labels (beginIn sides labels x dx y dy (length es) (blocks + 1)) (blocks + 1) 0 (attach blocks dx (inwards es x) path m)
+      → let w = beginIn sides labels x dx y dy (length es) (blocks + 1) in
+      MergedAs new labels (merged false (w .sides) (w .labels) (blocks + 1) 0) (attach blocks dx (inwards es x) path m)
   begins blocks a b zx zy =
       let p = begin-lays (blocks + 1) b in
       rw (a, attach-none blocks dx path m) (record {
-        wears = record { kept = rw (p .0, p .1) (laid-kept true (base (blocks + 1))); blocks-are = refl };
+        ring = refl;
+        holds = record { kept = rw (p .0, p .1) (laid-kept true (base (blocks + 1))); blocks-are = refl };
         counts = begin-counts (blocks + 1) zx zy;
       })

@@ -5,24 +5,26 @@ use Prim.Native.Nat.{ℕ, _+_, _≤_, _<_}
 use native.Mathlib.Omega.{arith}
 use mathlib.Core.Bool.{Bool, true, false, not, _&&_, _||_}
 use mathlib.Core.List.{List, [], _∷_, _++_}
-use lib.ListN.{length, getD, set}
+use lib.ListN.{length, set}
 use lib.Dec.{eqb, leb, ltb}
 use borrow.Author.Tests.{eqb-false, leb-false, ltb-true, not-false}
 use Rattle.model.specs.Basics.{if_then_else_, maxEdges, maxLength}
 use Rattle.model.specs.Graph.{Edge}
-use Rattle.model.specs.Cases.{caseOf, classOf, closesRing}
+use Rattle.model.specs.Cases.{closesRing}
 use Rattle.model.specs.Labels.{labelEdge, relabelCount}
 use Rattle.model.specs.Register.{Landed, Register, landEdge, landed, marksOf, refused, withEdge}
 use Rattle.model.specs.Tables.{Counts, Tables, countsOf, tablesOf}
 use Rattle.model.specs.Notions.{Reachable}
-use Rattle.tables.specs.Steps.{more16, setPair, sum32, tables}
-use Rattle.insertion.specs.Insertion.{LandingIn, Placed, counts, done, insertIn, landIn, landingIn, placeIn, refusedIn}
+use Rattle.tables.specs.Steps.{more16, setPair, sum32}
+use Rattle.tables.proofs.Sums.{more16-is, sum32-is}
+use Rattle.model.proofs.Series.Equality.{counts-parts, tables-parts}
+use Rattle.insertion.specs.Placing.{Placed, placedBy}
+use Rattle.insertion.specs.Insertion.{CheckIn, LandingIn, checkIn, counts, done, failed, insertIn, landChecked, landIn, landingIn, refusedIn}
 use Rattle.model.proofs.Basics.Booleans.{and-true}
 use Rattle.model.proofs.Walks.NewEdge.{length-new}
 use Rattle.model.proofs.Series.Small.{total-small}
 use Rattle.agreement.proofs.Lists.{ends-stored, lengths-stored}
 use Rattle.agreement.proofs.Relabelled.{relabelled-most}
-use Rattle.agreement.proofs.Extending.{more16-agrees}
 use Rattle.agreement.proofs.Tables.{degrees-are, linked-sides}
 use Rattle.agreement.proofs.Reached.{labels-long}
 use Rattle.agreement.proofs.Inserting.{Stands, ring-placed, stands}
@@ -32,53 +34,21 @@ unfoldable pub shownIn : Register → Landed → LandingIn
 shownIn r (landed r′) = landingIn (tablesOf r′) (done (countsOf r′))
 shownIn r (refused x) = landingIn (tablesOf r) (refusedIn x)
 
--- ---- the two ways out of the table function
-
-abbrev placed-by : Tables → Counts → Edge → Placed
-placed-by t c e =
-    placeIn (caseOf (classOf (getD (t .degrees) (e .first) 0)) (classOf (getD (t .degrees) (e .second) 0)))
-    (t .degrees) (t .ends) (t .sides) (t .labels) (c .blocks) (e .first) (e .second) (c .edges) (c .edges)
-
-module _ (t : Tables) (c : Counts) (e : Edge) (p : Placed) (is : placed-by t c e ≡ p) where
-  insert-ring : p .ring ≡ true → insertIn t c e ≡ landingIn t (refusedIn 24)
-  unfolding insertIn
-  insert-ring h = rw (is, h)
-
-  insert-done : p .ring ≡ false → insertIn t c e ≡ landingIn
-      (tables (p .degrees) (p .sides) (setPair (t .ends) (c .edges) (e .first) (e .second)) (set (t .lengths) (c .edges) (e .len)) (p .labels))
-      (done (counts (c .vertices) (more16 (c .edges)) (p .blocks) (sum32 (c .relabellings) (p .relabellings))))
-  unfolding insertIn
-  insert-done h = rw (is, h)
-
-pub tables-are : (t : Tables) (d s e l b : List ℕ) → d ≡ t .degrees → s ≡ t .sides → e ≡ t .ends → l ≡ t .lengths → b ≡ t .labels → tables d s e l b ≡ t
-tables-are t d s e l b h i j k m = rw (h, i, j, k, m)
-
-counts-are : (c : Counts) (v e b n : ℕ) → v ≡ c .vertices → e ≡ c .edges → b ≡ c .blocks → n ≡ c .relabellings → counts v e b n ≡ c
-counts-are c v e b n h i j k = rw (h, i, j, k)
-
-sum32-agrees : (m n : ℕ) → m + n < 4294967295 → sum32 m n ≡ m + n
-unfolding sum32
-sum32-agrees m n h = omega arith
-
 -- ---- an edge that passed the first refusals
 
 module _ (r : Register) (e : Edge) (g : Reachable r) (fa : e .first < r .vertices) (fb : e .second < r .vertices) (df : e .first ≢ e .second) (rm : length (r .edges) < maxEdges) where
   abbrev p : Placed
-  p = placeIn (caseOf (classOf (getD ((tablesOf r) .degrees) (e .first) 0)) (classOf (getD ((tablesOf r) .degrees) (e .second) 0)))
-      ((tablesOf r) .degrees) ((tablesOf r) .ends) ((tablesOf r) .sides) (r .labels) (r .blocks) (e .first) (e .second) (length (r .edges)) (length (r .edges))
+  p = placedBy (tablesOf r) (countsOf r) e
 
   abbrev r′ : Register
   r′ = withEdge r e
 
-  placed-is : placed-by (tablesOf r) (countsOf r) e ≡ p
-  unfolding tablesOf countsOf
-  placed-is = refl
-
   pub rings-agree : closesRing (r .edges) (e .first) (e .second) ≡ true → insertIn (tablesOf r) (countsOf r) e ≡ landingIn (tablesOf r) (refusedIn 24)
-  rings-agree c = insert-ring (tablesOf r) (countsOf r) e p placed-is (ring-placed r e g fa fb df c)
+  unfolding insertIn
+  rings-agree c = rw (ring-placed r e g fa fb df c)
 
   module _ (c : closesRing (r .edges) (e .first) (e .second) ≡ false) where
-    st : Stands (r .edges ++ (e ∷ [])) (r .labels) p (labelEdge (r .edges) e (r .blocks) (record { labels = r .labels; lows = r .lows }))
+    st : Stands (r .edges ++ (e ∷ [])) (r .labels) p (labelEdge (r .edges) e (r .blocks) (marksOf r))
     st = stands r e g fa fb df c
 
     degrees-new : p .degrees ≡ (tablesOf r′) .degrees
@@ -86,8 +56,8 @@ module _ (r : Register) (e : Edge) (g : Reachable r) (fa : e .first < r .vertice
     degrees-new = degrees-are r′ (p .degrees) (st .long) (st .degrees-are)
 
     sides-new : p .sides ≡ (tablesOf r′) .sides
-    unfolding withEdge marksOf
-    sides-new = linked-sides r′ (p .sides) (st .wears .kept .sides-long) (λ v l. st .wears .kept .links v l tt)
+    unfolding withEdge
+    sides-new = linked-sides r′ (p .sides) (st .holds .kept .sides-long) (λ v l. st .holds .kept .links v l tt)
 
     ends-new : setPair ((tablesOf r) .ends) ((countsOf r) .edges) (e .first) (e .second) ≡ (tablesOf r′) .ends
     unfolding withEdge tablesOf countsOf
@@ -98,42 +68,42 @@ module _ (r : Register) (e : Edge) (g : Reachable r) (fa : e .first < r .vertice
     lengths-new = lengths-stored (r .edges) e rm
 
     labels-new : p .labels ≡ (tablesOf r′) .labels
-    unfolding withEdge tablesOf marksOf
-    labels-new = st .wears .kept .labels-are
+    unfolding withEdge tablesOf
+    labels-new = st .holds .kept .labels-are
 
     edges-new : more16 ((countsOf r) .edges) ≡ (countsOf r′) .edges
     unfolding withEdge countsOf
-    edges-new = omega (arith, more16-agrees (length (r .edges)) (omega arith), length-new (r .edges) e)
+    edges-new = omega (arith, more16-is (length (r .edges)) (omega arith), length-new (r .edges) e)
 
     blocks-new : p .blocks ≡ (countsOf r′) .blocks
-    unfolding withEdge countsOf marksOf
-    blocks-new = st .wears .blocks-are
+    unfolding withEdge countsOf
+    blocks-new = st .holds .blocks-are
 
     vertices-new : (countsOf r) .vertices ≡ (countsOf r′) .vertices
     unfolding withEdge countsOf
     vertices-new = refl
 
     relabellings-new : sum32 ((countsOf r) .relabellings) (p .relabellings) ≡ (countsOf r′) .relabellings
-    unfolding withEdge countsOf marksOf
+    unfolding withEdge countsOf
     relabellings-new =
         let most : p .relabellings ≤ 4096 = omega (arith, st .counts, relabelled-most (r .labels) (p .labels), labels-long r g) in
-        sum32-agrees (r .relabellings) (p .relabellings) (omega (arith, total-small r g))
-        ∙ ap (λ (n : ℕ). r .relabellings + n) (sym (st .counts) ∙ ap (λ (l : List ℕ). relabelCount (r .labels) l) (st .wears .kept .labels-are))
+        sum32-is (r .relabellings) (p .relabellings) (omega (arith, total-small r g))
+        ∙ ap (λ (n : ℕ). r .relabellings + n) (sym (st .counts) ∙ ap (λ (l : List ℕ). relabelCount (r .labels) l) (st .holds .kept .labels-are))
 
     pub inserts-agree : insertIn (tablesOf r) (countsOf r) e ≡ landingIn (tablesOf r′) (done (countsOf r′))
+    unfolding insertIn
     inserts-agree =
-        insert-done (tablesOf r) (countsOf r) e p placed-is (st .ring)
-        ∙ ap₂ {C = LandingIn} (λ (t : Tables) (c : Counts). landingIn t (done c))
-        (tables-are (tablesOf r′) _ _ _ _ _ degrees-new sides-new ends-new lengths-new labels-new)
-        (counts-are (countsOf r′) _ _ _ _ vertices-new edges-new blocks-new relabellings-new)
+        rw (st .ring) (ap₂ {C = LandingIn} (λ (t : Tables) (c : Counts). landingIn t (done c))
+        (tables-parts degrees-new sides-new ends-new lengths-new labels-new)
+        (counts-parts vertices-new edges-new blocks-new relabellings-new))
 
 -- ---- with every refusal, in its order
 
-same-if : (r : Register) (b : Bool) (n : ℕ) (x : LandingIn) (y : Landed) → (b ≡ false → x ≡ shownIn r y)
-    → (if b then landingIn (tablesOf r) (refusedIn n) else x) ≡ shownIn r (if b then refused n else y)
+same-if : (r : Register) (e : Edge) (b : Bool) (n : ℕ) (x : CheckIn) (y : Landed) → (b ≡ false → landChecked (tablesOf r) (countsOf r) e x ≡ shownIn r y)
+    → landChecked (tablesOf r) (countsOf r) e (if b then failed n else x) ≡ shownIn r (if b then refused n else y)
 unfolding shownIn
-same-if r true n x y h = refl
-same-if r false n x y h = h refl
+same-if r e true n x y h = refl
+same-if r e false n x y h = h refl
 
 last-agrees : (r : Register) (e : Edge) → Reachable r → e .first < r .vertices → e .second < r .vertices → e .first ≢ e .second → length (r .edges) < maxEdges
     → (c : Bool) → closesRing (r .edges) (e .first) (e .second) ≡ c
@@ -143,12 +113,12 @@ last-agrees r e g fa fb df rm true c = rw c (rings-agree r e g fa fb df rm c)
 last-agrees r e g fa fb df rm false c = rw c (inserts-agree r e g fa fb df rm c)
 
 pub land-agrees : (r : Register) (e : Edge) → Reachable r → landIn (tablesOf r) (countsOf r) e ≡ shownIn r (landEdge r e)
-unfolding landIn landEdge countsOf
+unfolding landIn checkIn landEdge countsOf
 land-agrees r e g =
-    same-if r (not (ltb (e .first) (r .vertices) && ltb (e .second) (r .vertices))) 5 _ _ (λ h₅.
-    same-if r (eqb (e .first) (e .second)) 6 _ _ (λ h₆.
-    same-if r (eqb (e .len) 0 || ltb maxLength (e .len)) 7 _ _ (λ h₇.
-    same-if r (leb maxEdges (length (r .edges))) 23 _ _ (λ h₂₃.
+    same-if r e (not (ltb (e .first) (r .vertices) && ltb (e .second) (r .vertices))) 5 _ _ (λ h₅.
+    same-if r e (eqb (e .first) (e .second)) 6 _ _ (λ h₆.
+    same-if r e (eqb (e .len) 0 || ltb maxLength (e .len)) 7 _ _ (λ h₇.
+    same-if r e (leb maxEdges (length (r .edges))) 23 _ _ (λ h₂₃.
     last-agrees r e g (ltb-true _ _ (ends h₅ .0)) (ltb-true _ _ (ends h₅ .1)) (eqb-false _ _ h₆) (leb-false _ _ h₂₃) (closesRing (r .edges) (e .first) (e .second)) refl))))
   where
     ends : not (ltb (e .first) (r .vertices) && ltb (e .second) (r .vertices)) ≡ false → (ltb (e .first) (r .vertices) ≡ true) × (ltb (e .second) (r .vertices) ≡ true)

@@ -1,19 +1,21 @@
+-- Landing, in the order of the argument: Same .. Tables on the tables, Cases and Inserting for one edge, Landing with the refusals.
+-- Queries: Chaining (a walk), Lowest and Naming (a name), Sheeting, Finding.
 pub mod Same
 pub mod Lists
 pub mod Relabelled
 pub mod Linked
 pub mod Lockstep
+pub mod Passes
 pub mod Laying
 pub mod Opening
 pub mod Extending
 pub mod Joining
 pub mod Merging
-pub mod Tables
 pub mod Reached
+pub mod Tables
 pub mod Cases
 pub mod Inserting
 pub mod Landing
-pub mod Calls
 pub mod Chaining
 pub mod Lowest
 pub mod Naming

@@ -1,6 +1,6 @@
 -- Linked: at a vertex the table of sides says what the edges say. Then turns and far ends by the tables are those of the edges.
 use mathlib.Core.Path.{_≡_, sym, _∙_}
-use mathlib.Core.Logic.{_≢_}
+use mathlib.Core.Logic.{_≢_, _⊎_, inl, inr}
 use Prim.Native.Nat.{ℕ, _+_, _*_, _<_}
 use native.Mathlib.Omega.{arith}
 use native.Mathlib.Decide.{ℕ-discrete}
@@ -12,11 +12,10 @@ use borrow.Author.Tests.{eq-eqb, ne-eqb}
 use Rattle.model.specs.Basics.{if_then_else_}
 use Rattle.model.specs.Graph.{Edge, degree, edgeAt, endsAt, far, incident, onlyEdge, turn}
 use Rattle.tables.specs.Steps.{farIn, setPair, turnIn}
-use Rattle.model.proofs.Walks.Degree.{Proper, degree-snoc}
-use Rattle.model.proofs.Walks.Turn.{At, two-edges}
+use Rattle.model.proofs.Walks.Degree.{Proper, degree-snoc, endsAt-le, two-ends, zero-or-one}
+use Rattle.model.proofs.Walks.Turn.{At, two-edges, turn-between}
 use Rattle.model.proofs.Walks.Snoc.{turn-old, incidentFrom-old}
 use Rattle.model.proofs.Walks.NewEdge.{at-new}
-use Rattle.model.proofs.Walks.RingFree.{turn-between}
 use Rattle.agreement.proofs.Lists.{PairAt, pair-here, pair-other}
 
 pub record Linked (es : List Edge) (sides lows : List ℕ) (v : ℕ) : Type 0 where
@@ -79,6 +78,18 @@ linked-here es sides lows v low high l h two a e =
     }
 
 -- ---- one edge more, at a vertex that it does not meet
+
+-- a vertex that is neither end
+pub off-ends : (n : Edge) (x y v : ℕ) → n .first ≢ n .second → endsAt x n ≡ 1 → endsAt y n ≡ 1 → x ≢ y → v ≢ x → v ≢ y → endsAt v n ≡ 0
+off-ends n x y v df ox oy xy a b = go (zero-or-one (endsAt v n) (endsAt-le v n df))
+  where
+    which : (v ≡ x) ⊎ (v ≡ y) → endsAt v n ≡ 0
+    which (inl e) = absurd (a e)
+    which (inr e) = absurd (b e)
+
+    go : (endsAt v n ≡ 0) ⊎ (endsAt v n ≡ 1) → endsAt v n ≡ 0
+    go (inl z) = z
+    go (inr o) = which (two-ends n x y v ox oy xy o)
 
 module _ (es : List Edge) (n : Edge) (pr : Proper es) (v : ℕ) (z : endsAt v n ≡ 0) where
   pub degree-old : degree (es ++ (n ∷ [])) v ≡ degree es v

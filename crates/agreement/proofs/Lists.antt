@@ -12,23 +12,17 @@ use Rattle.model.specs.Graph.{Edge}
 use Rattle.model.specs.Register.{Register}
 use Rattle.model.specs.Tables.{edgeLengths, endsOf, highSide, lowSide, padded, sidesOf}
 use Rattle.tables.specs.Steps.{setPair}
-use Rattle.model.proofs.Basics.Lists.{length-upTo}
-use Rattle.model.proofs.Series.Held.{length-ends, length-lengths}
+use Rattle.model.proofs.Basics.Lists.{length-upTo, getD-counted}
+use Rattle.model.proofs.Series.ReadBack.{length-ends, length-lengths}
 
 -- ---- a map of 0, 1, ..
-
-getD-counted : (g : ℕ → ℕ) (at n i : ℕ) → i < n → getD (map g (countFrom at n)) i 0 ≡ g (at + i)
-unfolding countFrom
-getD-counted g at zero i h = absurd (not-suc-le-zero h)
-getD-counted g at (suc n) zero h = ap g (omega arith)
-getD-counted g at (suc n) (suc i) h = getD-counted g (suc at) n i (omega arith) ∙ ap g (omega arith)
 
 pub length-mapped : (g : ℕ → ℕ) (n : ℕ) → length (map g (upTo n)) ≡ n
 length-mapped g n = length-map (upTo n) g ∙ length-upTo n
 
 pub getD-upTo : (g : ℕ → ℕ) (n i : ℕ) → i < n → getD (map g (upTo n)) i 0 ≡ g i
 unfolding upTo
-getD-upTo g n i h = getD-counted g 0 n i h ∙ ap g (omega arith)
+getD-upTo g n i h = getD-counted g 0 0 n i h ∙ ap g (omega arith)
 
 -- a list is the map that its elements say
 pub is-map : (g : ℕ → ℕ) (n : ℕ) (xs : List ℕ) → length xs ≡ n → ((i : ℕ) → i < n → getD xs i 0 ≡ g i) → xs ≡ map g (upTo n)

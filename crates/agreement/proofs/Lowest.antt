@@ -1,24 +1,22 @@
 -- The name of a chain: two walks over the tables that keep the least number find it.
 use mathlib.Core.Path.{_≡_, refl, sym, ap, _∙_}
-use mathlib.Core.Logic.{_≢_}
 use Prim.Native.Nat.{ℕ, zero, suc, _≤_, _<_, min}
 use native.Mathlib.Omega.{arith}
 use mathlib.Core.Bool.{Bool, true, false}
 use mathlib.Core.List.{List, [], _∷_, _++_, map, reverse, reverse-cons, List·Memᴰ as Mem}
-use lib.ListN.{length, getD}
-use borrow.Author.Tests.{eq-eqb, ne-eqb}
+use lib.ListN.{length}
 use Rattle.model.specs.Basics.{least}
 use Rattle.model.specs.Graph.{Edge, afterOf, chainOf, edgeAt, far, isRegular, nameOf, onwards, turn, walk}
 use Rattle.model.specs.Register.{Register}
 use Rattle.model.specs.Tables.{Tables, tablesOf}
 use Rattle.model.specs.Notions.{Reachable}
-use Rattle.tables.specs.Steps.{farIn, turnIn}
 use Rattle.queries.specs.Chains.{lowestIn, nameIn}
+use Rattle.queries.proofs.LookupLaws.{lowest-on, lowest-stop}
 use Rattle.model.proofs.Walks.Degree.{Proper}
 use Rattle.model.proofs.Walks.Turn.{At}
 use Rattle.model.proofs.Walks.Trail.{walk-on, walk-stop}
 use Rattle.model.proofs.Walks.RingFree.{RingFree}
-use Rattle.model.proofs.Chains.Partition.{On, chain-mem, mem-chain, on, same-name}
+use Rattle.model.proofs.Chains.Partition.{chain-has, chain-name}
 use Rattle.model.proofs.Chains.Own.{chain-inner, inner-chain}
 use Rattle.agreement.proofs.Reached.{proper, rings}
 use Rattle.agreement.proofs.Tables.{ends-are}
@@ -70,19 +68,11 @@ name-is es d =
 
 -- ---- the name, by two walks that keep the least number
 
-module _ (t : Tables) where
-  lowest-stop : (n x d v : ℕ) → getD (t .degrees) v 0 ≢ 2 → lowestIn t n x d v ≡ x
-  unfolding lowestIn
-  lowest-stop zero x d v h = refl
-  lowest-stop (suc n) x d v h = rw (ne-eqb _ _ h)
-
-  lowest-on : (n x d v c w : ℕ) → getD (t .degrees) v 0 ≡ 2 → turnIn (t .sides) d v ≡ c → farIn (t .ends) c v ≡ w
-      → lowestIn t (suc n) x d v ≡ min c (lowestIn t n x c w)
-  unfolding lowestIn
-  lowest-on n x d v c w h i j = rw (eq-eqb _ _ h, i, j)
+abbrev lowestOver : Tables → ℕ → ℕ → ℕ → ℕ → ℕ
+lowestOver t = lowestIn (t .degrees) (t .sides) (t .ends)
 
 lowest-agrees : (r : Register) → Reachable r → (n x d v : ℕ) → At (r .edges) v d
-    → lowestIn (tablesOf r) n x d v ≡ lower (map afterOf (walk n (r .edges) d v)) x
+    → lowestOver (tablesOf r) n x d v ≡ lower (map afterOf (walk n (r .edges) d v)) x
 unfolding lowestIn walk lower afterOf
 lowest-agrees r g zero x d v a = refl
 lowest-agrees r g (suc n) x d v a = go (isRegular es v) refl (λ c at. lowest-agrees r g n x c (far es c v) at)
@@ -94,15 +84,18 @@ lowest-agrees r g (suc n) x d v a = go (isRegular es v) refl (λ c at. lowest-ag
     t = tablesOf r
 
     go : (b : Bool) → isRegular es v ≡ b
-        → ((c : ℕ) → At es (far es c v) c → lowestIn t n x c (far es c v) ≡ lower (map afterOf (walk n es c (far es c v))) x)
-        → lowestIn t (suc n) x d v ≡ lower (map afterOf (walk (suc n) es d v)) x
-    go false q ih = rw (walk-stop (suc n) es d v q, lowest-stop t (suc n) x d v (stops r g d v a q))
+        → ((c : ℕ) → At es (far es c v) c → lowestOver t n x c (far es c v) ≡ lower (map afterOf (walk n es c (far es c v))) x)
+        → lowestOver t (suc n) x d v ≡ lower (map afterOf (walk (suc n) es d v)) x
+    go false q ih = rw (walk-stop (suc n) es d v q, ← lowest-stop (t .degrees) (t .sides) (t .ends) (suc n) x d v (stops r g d v a q))
     go true q ih =
         let c : ℕ = turn es d v in
         let y : Step r d v = steps r g d v a q in
-        rw (walk-on n es d v q, lowest-on t n x d v c (far es c v) (y .regular) (y .turns) (y .arrives), ih c (y .at))
+        rw (walk-on n es d v q, lowest-on (t .degrees) (t .sides) (t .ends) n x d v c (far es c v) (y .regular) (y .turns) (y .arrives), ih c (y .at))
 
-pub name-agrees : (r : Register) → Reachable r → (d : ℕ) → d < length (r .edges) → nameIn (tablesOf r) (length (r .edges)) d ≡ nameOf (r .edges) d
+abbrev pub nameOver : Tables → ℕ → ℕ → ℕ
+nameOver t = nameIn (t .degrees) (t .sides) (t .ends)
+
+pub name-agrees : (r : Register) → Reachable r → (d : ℕ) → d < length (r .edges) → nameOver (tablesOf r) (length (r .edges)) d ≡ nameOf (r .edges) d
 unfolding nameIn onwards
 name-agrees r g d h =
     let es : List Edge = r .edges in
@@ -119,7 +112,7 @@ name-agrees r g d h =
 -- the edges of a regular vertex lie on one chain
 pub one-name : (r : Register) → Reachable r → (v d c : ℕ) → isRegular (r .edges) v ≡ true → At (r .edges) v d → At (r .edges) v c
     → nameOf (r .edges) d ≡ nameOf (r .edges) c
-one-name r g v d c q a b = same-name es pr rf (o .line) d c (o .mem) (mem-chain es pr rf (o .line) d c (o .mem) (inner-chain es pr rf d c v (a .inside) inner b))
+one-name r g v d c q a b = sym (chain-name es pr rf c d (a .inside) (inner-chain es pr rf d c v (a .inside) inner b))
   where
     es : List Edge
     es = r .edges
@@ -130,8 +123,5 @@ one-name r g v d c q a b = same-name es pr rf (o .line) d c (o .mem) (mem-chain 
     rf : RingFree es
     rf = rings r g
 
-    o : On es pr rf d
-    o = on es pr rf d (a .inside)
-
     inner : Mem v ((chainOf es d) .inner)
-    inner = chain-inner es pr rf d d v (a .inside) (chain-mem es pr rf (o .line) d d (o .mem) (o .mem)) a q
+    inner = chain-inner es pr rf d d v (a .inside) (chain-has es d) a q

@@ -1,66 +1,33 @@
 -- Both ends are leaves: two chains become one, or the edge closes a ring.
 use mathlib.Core.Path.{_≡_, refl, sym, ap, _∙_}
 use mathlib.Core.Logic.{_≢_}
-use Prim.Native.Nat.{ℕ, _+_, _*_, _≤_, _<_}
+use Prim.Native.Nat.{ℕ, _*_, _≤_, _<_}
 use native.Mathlib.Omega.{arith}
 use native.Mathlib.Decide.{ℕ-discrete, decLe, decLt}
 use mathlib.Core.Bool.{true, false}
 use mathlib.Core.List.{List, [], _∷_, _++_}
 use lib.ListN.{length, getD}
 use lib.Dec.{eqb}
-use borrow.Author.Tests.{eq-eqb, eqb-false, eqb-true, le-leb, lt-leb, ne-eqb}
+use borrow.Author.Tests.{eq-eqb, eqb-false, eqb-true, le-leb, lt-leb}
 use Rattle.model.specs.Graph.{Edge, Pass, degree, endOf, endOnwards, endsAt, far, isLeaf, onlyEdge, onwards}
 use Rattle.model.specs.Cases.{closesRing}
-use Rattle.model.specs.Labels.{Labelling, Marks, attach, inwards, joinPath, merge, relabelCount}
-use Rattle.tables.specs.Steps.{farIn, more16}
+use Rattle.model.specs.Labels.{Labelling, Marks, attach, inwards, joinPath, merge}
+use Rattle.tables.specs.Steps.{farIn, most16}
+use Rattle.tables.proofs.Sums.{more16-is}
 use Rattle.tables.specs.Walks.{Met, lockstepIn}
-use Rattle.labels.specs.Labelling.{Merged, Worn, beginIn, joinIn, mergeAt, mergeIn, merged}
-use Rattle.model.proofs.Walks.Degree.{Proper}
-use Rattle.model.proofs.Walks.Turn.{At}
-use Rattle.model.proofs.Walks.Trail.{Across, Trail, across, backwards, length-backwards, trail-back}
-use Rattle.model.proofs.Chains.Lines.{trail-at}
+use Rattle.labels.specs.Merging.{Merged, keeperFor, keeperIn, mergeIn, merged}
+use Rattle.labels.specs.declared.merging.Keeper.{Keeper}
+use Rattle.labels.specs.declared.merging.Keeper.the-variants.{Chain, Neither}
+use Rattle.labels.proofs.Merges.{first-keeps, merge-kept, merge-ring, neither-keeps, second-keeps, tie-keeps}
+use Rattle.model.proofs.Walks.Degree.{Proper, leaf-singular}
+use Rattle.model.proofs.Walks.Turn.{At, onlyEdge-is}
+use Rattle.model.proofs.Walks.Trail.{Trail, backwards, length-backwards, trail-back, trail-at, trail-endOf}
 use Rattle.model.proofs.Walks.Ended.{trail-short, trail-unique}
-use Rattle.model.proofs.Walks.Rings.{leaf-singular, onlyEdge-is, trail-endOf}
 use Rattle.model.proofs.Labels.Inwards.{Inward, inward}
-use Rattle.agreement.proofs.Lockstep.{Found, Shows, found, shows-singular}
-use Rattle.agreement.proofs.Extending.{Wears, leaf-at, more16-agrees}
-use Rattle.agreement.proofs.Joining.{Ground, Joined, begins, joins}
-
--- ---- the table function, by what the lockstep walk finds
-
-module _ (degrees ends sides labels : List ℕ) (blocks a b e n da db : ℕ) (m : Met) where
-  abbrev at : Merged
-  at = mergeAt degrees ends sides labels blocks a b e n da db m
-
-  abbrev from : Worn → Merged
-  from w = merged false (w .sides) (w .labels) blocks (w .count)
-
-  at-ring : m .first ≡ b → at ≡ merged true sides labels blocks 0
-  unfolding mergeAt
-  at-ring h = rw (eq-eqb (m .first) b h)
-
-  module _ (off : m .first ≢ b) where
-    at-second : getD degrees (m .second) 0 ≡ 2 → at ≡ from (joinIn degrees ends sides labels b a e n)
-    unfolding mergeAt
-    at-second h = rw (ne-eqb (m .first) b off, eq-eqb (getD degrees (m .second) 0) 2 h)
-
-    at-first : getD degrees (m .second) 0 ≢ 2 → getD degrees (m .first) 0 ≡ 2 → at ≡ from (joinIn degrees ends sides labels a b e n)
-    unfolding mergeAt
-    at-first h g = rw (ne-eqb (m .first) b off, ne-eqb (getD degrees (m .second) 0) 2 h, eq-eqb (getD degrees (m .first) 0) 2 g)
-
-    at-tie : getD degrees (m .second) 0 ≢ 2 → getD degrees (m .first) 0 ≢ 2 → m .steps ≢ 0 → at ≡ from (joinIn degrees ends sides labels a b e n)
-    unfolding mergeAt
-    at-tie h g i = rw (ne-eqb (m .first) b off, ne-eqb (getD degrees (m .second) 0) 2 h, ne-eqb (getD degrees (m .first) 0) 2 g, ne-eqb (m .steps) 0 i)
-
-    at-new : (k : ℕ) → getD degrees (m .second) 0 ≢ 2 → getD degrees (m .first) 0 ≢ 2 → m .steps ≡ 0 → more16 blocks ≡ k
-        → let w = beginIn sides labels a da b db e k in at ≡ merged false (w .sides) (w .labels) k 0
-    unfolding mergeAt
-    at-new k h g i j = rw (ne-eqb (m .first) b off, ne-eqb (getD degrees (m .second) 0) 2 h, ne-eqb (getD degrees (m .first) 0) 2 g, eq-eqb (m .steps) 0 i, j)
-
-merge-at : (degrees ends sides labels : List ℕ) (blocks a b e n da db u w : ℕ) → getD sides (2 * a) 0 ≡ da → getD sides (2 * b) 0 ≡ db → farIn ends da a ≡ u → farIn ends db b ≡ w
-    → mergeIn degrees ends sides labels blocks a b e n ≡ mergeAt degrees ends sides labels blocks a b e n da db (lockstepIn degrees sides ends n da u db w)
-unfolding mergeIn
-merge-at degrees ends sides labels blocks a b e n da db u w p q r s = rw (p, q, r, s)
+use Rattle.agreement.proofs.Lockstep.{Meets, Shows, lockstep-meets, shows-singular}
+use Rattle.agreement.proofs.Extending.{leaf-at}
+use Rattle.agreement.proofs.Joining.{Ground, MergedAs, begins, joins}
+use Rattle.model.proofs.Walks.Joins.{Across, across}
 
 -- ---- the ring
 
@@ -87,17 +54,12 @@ no-pass (s ∷ ss) e = absurd (omega arith)
 
 -- ---- they agree
 
-pub record MergedAs (es : List Edge) (labels : List ℕ) (p : Merged) (g : Labelling) : Type 0 where
-  pub ring : p .ring ≡ false
-  pub wears : Wears es (p .sides) (p .labels) (p .blocks) g
-  pub counts : relabelCount labels (p .labels) ≡ p .relabellings
-
-module _ (es : List Edge) (n : Edge) (degrees ends sides labels : List ℕ) (m : Marks) (k : Ground es n degrees ends sides labels m)
+module _ {es : List Edge} {n : Edge} {degrees sides ends labels : List ℕ} {m : Marks} (k : Ground es n degrees sides ends labels m)
     (a b : ℕ) (la : degree es a ≡ 1) (lb : degree es b ≡ 1) (oa : endsAt a n ≡ 1) (ob : endsAt b n ≡ 1) (ab : a ≢ b) (blocks : ℕ) where
   pr : Proper es
   pr = k .proper
 
-  sh : Shows es degrees ends sides (m .lows)
+  sh : Shows es degrees sides ends (m .lows)
   sh = k .shows
 
   abbrev new : List Edge
@@ -113,13 +75,13 @@ module _ (es : List Edge) (n : Edge) (degrees ends sides labels : List ℕ) (m :
   met = lockstepIn degrees sides ends (length es) da (far es da a) db (far es db b)
 
   abbrev merging : Merged
-  merging = mergeIn degrees ends sides labels blocks a b (length es) (length es)
+  merging = mergeIn degrees sides ends labels blocks a b (length es) (length es)
 
   at-a : At es a da
-  at-a = leaf-at es n pr (k .differ) a la
+  at-a = leaf-at es pr a la
 
   at-b : At es b db
-  at-b = leaf-at es n pr (k .differ) b lb
+  at-b = leaf-at es pr b lb
 
   ia : Inward es a da (inwards es a)
   ia = inward es pr (k .rings) a da la at-a
@@ -133,19 +95,22 @@ module _ (es : List Edge) (n : Edge) (degrees ends sides labels : List ℕ) (m :
   next-b : At es (far es db b) db
   next-b = (across es db b pr at-b) .at
 
-  finds : Found degrees met (length (inwards es a)) (length (inwards es b)) (ia .to) (ib .to)
-  finds = found es pr degrees ends sides (m .lows) sh (length es) next-a next-b (ia .trail) (ib .trail) (ia .singular) (ib .singular)
+  finds : Meets degrees met (length (inwards es a)) (length (inwards es b)) (ia .to) (ib .to)
+  finds = lockstep-meets pr sh (length es) next-a next-b (ia .trail) (ib .trail) (ia .singular) (ib .singular)
       (omega (arith, trail-short es pr next-a (ia .trail) (ia .singular)))
 
-  merges-at : merging ≡ mergeAt degrees ends sides labels blocks a b (length es) (length es) da db met
-  merges-at = merge-at degrees ends sides labels blocks a b (length es) (length es) da db (far es da a) (far es db b)
-      (((sh .links a (sh .below a da at-a)) .leaf la) .0) (((sh .links b (sh .below b db at-b)) .leaf lb) .0) (sh .fars-are da a (at-a .inside)) (sh .fars-are db b (at-b .inside))
+  side-a : (da ≡ getD sides (2 * a) 0) × (far es da a ≡ farIn ends da a)
+  side-a = (sym (((sh .links a (sh .below a da at-a)) .leaf la) .0), sym (sh .fars-are da a (at-a .inside)))
 
-  pub merges-ring : closesRing es a b ≡ true → merging ≡ merged true sides labels blocks 0
+  side-b : (db ≡ getD sides (2 * b) 0) × (far es db b ≡ farIn ends db b)
+  side-b = (sym (((sh .links b (sh .below b db at-b)) .leaf lb) .0), sym (sh .fars-are db b (at-b .inside)))
+
+  pub merges-ring : closesRing es a b ≡ true → merged true sides labels blocks 0 ≡ merging
   merges-ring c =
       let to : ia .to ≡ b = eqb-true (ia .to) b (sym (ring-is es a b la lb ia) ∙ c) in
       let even : length (inwards es a) ≡ length (inwards es b) = ring-even es a b pr la lb at-a ia ib to in
-      merges-at ∙ at-ring degrees ends sides labels blocks a b (length es) (length es) da db met (finds .first-ends (omega arith) ∙ to)
+      merge-ring degrees sides ends labels blocks a b (length es) (length es) da (far es da a) db (far es db b) met side-a side-b refl true blocks 0
+      (finds .first-ends (omega arith) ∙ to) (refl, (refl, refl))
 
   -- otherwise no walker ends at b
   no-end : ia .to ≢ b → met .first ≢ b
@@ -159,10 +124,10 @@ module _ (es : List Edge) (n : Edge) (degrees ends sides labels : List ℕ) (m :
       go (no l) = let two : getD degrees b 0 ≡ 2 = rw e at (finds .first-on (omega arith)) in omega (arith, one)
 
   first-off : length (inwards es a) ≤ length (inwards es b) → getD degrees (met .first) 0 ≢ 2
-  first-off l = rw (finds .first-ends l) (shows-singular es pr degrees ends sides (m .lows) sh (ia .to) (ia .onto) (trail-at pr next-a (ia .trail)) (ia .singular))
+  first-off l = rw (finds .first-ends l) (shows-singular sh (trail-at pr next-a (ia .trail)) (ia .singular))
 
   second-off : length (inwards es b) ≤ length (inwards es a) → getD degrees (met .second) 0 ≢ 2
-  second-off l = rw (finds .second-ends l) (shows-singular es pr degrees ends sides (m .lows) sh (ib .to) (ib .onto) (trail-at pr next-b (ib .trail)) (ib .singular))
+  second-off l = rw (finds .second-ends l) (shows-singular sh (trail-at pr next-b (ib .trail)) (ib .singular))
 
   merge-first : length (inwards es b) ≤ length (inwards es a) → merge es blocks a b m ≡ attach blocks da (inwards es a) (joinPath es a b) m
   unfolding merge
@@ -172,43 +137,31 @@ module _ (es : List Edge) (n : Edge) (degrees ends sides labels : List ℕ) (m :
   unfolding merge
   merge-second l = rw (lt-leb (length (inwards es b)) (length (inwards es a)) l)
 
-  pub merges : closesRing es a b ≡ false → blocks < 65535 → getD labels a 0 ≡ 0 → getD labels b 0 ≡ 0 → MergedAs new labels merging (merge es blocks a b m)
+  pub merges : closesRing es a b ≡ false → blocks < most16 → getD labels a 0 ≡ 0 → getD labels b 0 ≡ 0 → MergedAs new labels merging (merge es blocks a b m)
   merges c bb za zb =
       go (decLt (length (inwards es a)) (length (inwards es b))) (decLt (length (inwards es b)) (length (inwards es a))) (ℕ-discrete (length (inwards es a)) 0)
     where
       off : met .first ≢ b
       off = no-end (eqb-false (ia .to) b (sym (ring-is es a b la lb ia) ∙ c))
 
-      is : (w : Worn) (i count : ℕ) (g : Labelling) → Joined new labels w i count g
-          → mergeAt degrees ends sides labels blocks a b (length es) (length es) da db met ≡ merged false (w .sides) (w .labels) i count → merge es blocks a b m ≡ g
-          → MergedAs new labels merging (merge es blocks a b m)
-      is w i count g j p q = rw (merges-at ∙ p, q) (record { ring = refl; wears = j .wears; counts = j .counts })
+      -- the keeper is the chain that keeps its labels
+      keeps : (keeper : Keeper) (g : Labelling) → keeper ≡ keeperFor degrees a b met → merge es blocks a b m ≡ g
+          → MergedAs new labels (keeperIn keeper degrees sides ends labels blocks a b (length es) (length es) da db) g → MergedAs new labels merging (merge es blocks a b m)
+      keeps keeper g p q j =
+          rw (← merge-kept degrees sides ends labels blocks a b (length es) (length es) da (far es da a) db (far es db b) met side-a side-b refl keeper off p, q) j
 
-      -- the chain of a keeps its labels
-      keeps-a : length (inwards es b) ≤ length (inwards es a) → 0 < length (inwards es a)
-          → (let w = joinIn degrees ends sides labels a b (length es) (length es) in
-          mergeAt degrees ends sides labels blocks a b (length es) (length es) da db met ≡ merged false (w .sides) (w .labels) blocks (w .count))
-          → MergedAs new labels merging (merge es blocks a b m)
-      keeps-a l h p =
-          is (joinIn degrees ends sides labels a b (length es) (length es)) blocks _ _
-          (joins es n degrees ends sides labels m k a b la lb oa ob ab blocks h) p (merge-first l)
+      keeps-a : Chain a b ≡ keeperFor degrees a b met → length (inwards es b) ≤ length (inwards es a) → 0 < length (inwards es a) → MergedAs new labels merging (merge es blocks a b m)
+      keeps-a p l h = keeps (Chain a b) _ p (merge-first l) (joins k a b la lb oa ob ab blocks h)
 
       go : Dec (length (inwards es a) < length (inwards es b)) → Dec (length (inwards es b) < length (inwards es a)) → Dec (length (inwards es a) ≡ 0)
           → MergedAs new labels merging (merge es blocks a b m)
       go (yes l) r z =
-          is (joinIn degrees ends sides labels b a (length es) (length es)) blocks _ _
-          (joins es n degrees ends sides labels m k b a lb la ob oa (λ e. ab (sym e)) blocks (omega arith))
-          (at-second degrees ends sides labels blocks a b (length es) (length es) da db met off (finds .second-on l)) (merge-second l)
-      go (no l) (yes r) z =
-          keeps-a (omega arith) (omega arith)
-          (at-first degrees ends sides labels blocks a b (length es) (length es) da db met off (second-off (omega arith)) (finds .first-on r))
+          keeps (Chain b a) _ (second-keeps degrees a b met (finds .second-on l)) (merge-second l)
+          (joins k b a lb la ob oa (λ e. ab (sym e)) blocks (omega arith))
+      go (no l) (yes r) z = keeps-a (first-keeps degrees a b met (second-off (omega arith)) (finds .first-on r)) (omega arith) (omega arith)
       go (no l) (no r) (no z) =
-          keeps-a (omega arith) (omega arith)
-          (at-tie degrees ends sides labels blocks a b (length es) (length es) da db met off (second-off (omega arith)) (first-off (omega arith)) (λ e. omega (arith, finds .steps)))
+          keeps-a (tie-keeps degrees a b met (second-off (omega arith)) (first-off (omega arith)) (λ e. omega (arith, finds .steps))) (omega arith) (omega arith)
       go (no l) (no r) (yes z) =
-          is (beginIn sides labels a da b db (length es) (blocks + 1)) (blocks + 1) 0 _
-          (begins es n degrees ends sides labels m k a b la lb oa ob ab blocks
-          (no-pass (inwards es a) z) (no-pass (inwards es b) (omega arith)) za zb)
-          (at-new degrees ends sides labels blocks a b (length es) (length es) da db met off (blocks + 1) (second-off (omega arith)) (first-off (omega arith))
-          (omega (arith, finds .steps)) (more16-agrees blocks bb))
-          (merge-first (omega arith))
+          keeps Neither _ (neither-keeps degrees a b met (second-off (omega arith)) (first-off (omega arith)) (omega (arith, finds .steps))) (merge-first (omega arith))
+          (rw (more16-is blocks bb)
+          (begins k a b la lb oa ob ab blocks (no-pass (inwards es a) z) (no-pass (inwards es b) (omega arith)) za zb))

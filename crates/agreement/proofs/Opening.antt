@@ -11,30 +11,18 @@ use Rattle.model.specs.Basics.{maxVertices}
 use Rattle.model.specs.Graph.{Edge, degree, endsAt, isRegular, onlyEdge}
 use Rattle.model.specs.Labels.{Marks, mark, split}
 use Rattle.tables.specs.Steps.{setPair}
-use Rattle.labels.specs.Labelling.{Worn, worn}
-use Rattle.insertion.specs.Insertion.{openBothIn, openIn}
-use Rattle.model.proofs.Walks.Degree.{Proper, degree-snoc, end-first, end-second, endsAt-le, proper-snoc, two-ends, zero-or-one}
+use Rattle.labels.specs.Labelling.{MarksIn}
+use Rattle.insertion.specs.Placing.{openBothIn, openIn}
+use Rattle.insertion.proofs.Places.{open-isolated, open-left, open-regular}
+use Rattle.model.proofs.Walks.Degree.{Proper, degree-snoc, end-first, end-second, proper-snoc, two-ends}
 use Rattle.model.proofs.Walks.NewEdge.{at-last}
-use Rattle.model.proofs.Walks.Rings.{onlyEdge-is}
+use Rattle.model.proofs.Walks.Turn.{onlyEdge-is}
 use Rattle.model.proofs.Labels.Splits.{unlabel}
 use Rattle.agreement.proofs.Lists.{length-pair, pair-here, pair-other}
-use Rattle.agreement.proofs.Linked.{Linked, linked-same, linked-other, linked-old}
-use Rattle.agreement.proofs.Laying.{Kept}
+use Rattle.agreement.proofs.Linked.{Linked, linked-old, linked-other, linked-same, off-ends}
+use Rattle.agreement.proofs.Laying.{HoldsMarks}
 
--- ---- the cases of both functions
-
-module _ (degrees sides labels : List ℕ) (x e : ℕ) where
-  open-isolated : getD degrees x 0 ≡ 0 → openIn degrees sides labels x e ≡ worn (setPair sides x e 0) labels 0
-  unfolding openIn
-  open-isolated h = rw (eq-eqb (getD degrees x 0) 0 h)
-
-  open-regular : getD degrees x 0 ≡ 2 → openIn degrees sides labels x e ≡ worn (setPair sides x 0 0) (set labels x 0) 0
-  unfolding openIn
-  open-regular h = rw h
-
-  open-left : getD degrees x 0 ≢ 0 → getD degrees x 0 ≢ 2 → openIn degrees sides labels x e ≡ worn sides labels 0
-  unfolding openIn
-  open-left a b = rw (ne-eqb _ _ a, ne-eqb _ _ b)
+-- ---- an end of the marks
 
 unlabel-regular : (es : List Edge) (x : ℕ) (m : Marks) → degree es x ≡ 2 → unlabel es x m ≡ mark x 0 0 m
 unfolding unlabel split isRegular
@@ -46,7 +34,8 @@ unlabel-left es x m h = rw (ne-eqb (degree es x) 2 h)
 
 -- ---- one end
 
-record Opened (es new : List Edge) (sides : List ℕ) (x : ℕ) (m : Marks) (w : Worn) (m′ : Marks) : Type 0 where
+-- end x opened: as the new list says, but a leaf of before as the old one says; all others as they were
+record EndOpened (es new : List Edge) (sides : List ℕ) (x : ℕ) (m : Marks) (w : MarksIn) (m′ : Marks) : Type 0 where
   here : degree es x ≢ 1 → Linked new (w .sides) (m′ .lows) x
   left : degree es x ≡ 1 → Linked es (w .sides) (m′ .lows) x
   others : (qs : List Edge) (v : ℕ) → v ≢ x → Linked qs sides (m .lows) v → Linked qs (w .sides) (m′ .lows) v
@@ -58,19 +47,19 @@ module _ (es : List Edge) (n : Edge) (pr : Proper es) (df : n .first ≢ n .seco
   abbrev new : List Edge
   new = es ++ (n ∷ [])
 
-  opened : (degrees sides labels : List ℕ) (x : ℕ) (m : Marks) → endsAt x n ≡ 1 → x < maxVertices → getD degrees x 0 ≡ degree es x
+  end-opened : (degrees sides labels : List ℕ) (x : ℕ) (m : Marks) → endsAt x n ≡ 1 → x < maxVertices → getD degrees x 0 ≡ degree es x
       → labels ≡ m .labels → length sides ≡ 2 * maxVertices → length (m .lows) ≡ maxVertices → Linked es sides (m .lows) x
-      → Opened es new sides x m (openIn degrees sides labels x (length es)) (unlabel es x m)
+      → EndOpened es new sides x m (openIn degrees sides labels x (length es)) (unlabel es x m)
   unfolding mark
-  opened degrees sides labels x m o b dx et ls ll k = go (ℕ-discrete (degree es x) 0) (ℕ-discrete (degree es x) 2)
+  end-opened degrees sides labels x m o b dx et ls ll k = go (ℕ-discrete (degree es x) 0) (ℕ-discrete (degree es x) 2)
     where
       more : degree new x ≡ degree es x + 1
       more = omega (arith, degree-snoc es n x)
 
-      go : Dec (degree es x ≡ 0) → Dec (degree es x ≡ 2) → Opened es new sides x m (openIn degrees sides labels x (length es)) (unlabel es x m)
+      go : Dec (degree es x ≡ 0) → Dec (degree es x ≡ 2) → EndOpened es new sides x m (openIn degrees sides labels x (length es)) (unlabel es x m)
       go (yes z) q =
           let p = pair-here sides x (length es) 0 (omega arith) in
-          rw (open-isolated degrees sides labels x (length es) (dx ∙ z), unlabel-left es x m (λ y. omega arith)) (record {
+          rw (← open-isolated degrees sides labels x (length es) (setPair sides x (length es) 0) (dx ∙ z) refl, unlabel-left es x m (λ y. omega arith)) (record {
             here = λ _. record {
               low-at = λ y. absurd (omega (arith, more));
               regular = λ y. absurd (omega (arith, more));
@@ -84,7 +73,7 @@ module _ (es : List Edge) (n : Edge) (pr : Proper es) (df : n .first ≢ n .seco
             lows-long = ll;
           })
       go (no z) (yes q) =
-          rw (open-regular degrees sides labels x (length es) (dx ∙ q), unlabel-regular es x m q) (record {
+          rw (← open-regular degrees sides labels x (length es) (setPair sides x 0 0) (set labels x 0) (dx ∙ q) refl, unlabel-regular es x m q) (record {
             here = λ _. record {
               low-at = λ y. absurd (omega (arith, more));
               regular = λ y. absurd (omega (arith, more));
@@ -98,7 +87,7 @@ module _ (es : List Edge) (n : Edge) (pr : Proper es) (df : n .first ≢ n .seco
             lows-long = length-set (m .lows) x 0 ∙ ll;
           })
       go (no z) (no q) =
-          rw (open-left degrees sides labels x (length es) (λ y. z (sym dx ∙ y)) (λ y. q (sym dx ∙ y)), unlabel-left es x m q) (record {
+          rw (← open-left degrees sides labels x (length es) (λ y. z (sym dx ∙ y)) (λ y. q (sym dx ∙ y)), unlabel-left es x m q) (record {
             here = λ nl. record {
               low-at = λ y. absurd (nl (omega (arith, more)));
               regular = λ y. absurd (nl (omega (arith, more)));
@@ -116,7 +105,7 @@ module _ (es : List Edge) (n : Edge) (pr : Proper es) (df : n .first ≢ n .seco
 
 pub record OpenedBoth (es : List Edge) (n : Edge) (sides labels : List ℕ) (m : Marks) : Type 0 where
   -- all is as the new list says, but for a leaf of before, which is as the old list says
-  pub kept : Kept (es ++ (n ∷ [])) (λ v. endsAt v n ≡ 1 → degree es v ≢ 1) sides labels m
+  pub kept : HoldsMarks (es ++ (n ∷ [])) (λ v. endsAt v n ≡ 1 → degree es v ≢ 1) sides labels m
   pub leaf : (x : ℕ) → endsAt x n ≡ 1 → degree es x ≡ 1 → getD sides (2 * x) 0 ≡ onlyEdge es x
 
 pub opened-both : (es : List Edge) (n : Edge) (degrees sides labels : List ℕ) (blocks : ℕ) (m : Marks) → Proper es → n .first ≢ n .second
@@ -137,10 +126,10 @@ opened-both es n degrees sides labels blocks m pr df la lb ds et ls ll k =
     b : ℕ
     b = n .second
 
-    w₁ : Worn
+    w₁ : MarksIn
     w₁ = openIn degrees sides labels a (length es)
 
-    w₂ : Worn
+    w₂ : MarksIn
     w₂ = openIn degrees (w₁ .sides) (w₁ .labels) b (length es)
 
     m₁ : Marks
@@ -152,26 +141,18 @@ opened-both es n degrees sides labels blocks m pr df la lb ds et ls ll k =
     ba : b ≢ a
     ba e = df (sym e)
 
-    q₁ : Opened es (es ++ (n ∷ [])) sides a m w₁ m₁
-    q₁ = opened es n pr df degrees sides labels a m (end-first n df) la (ds a la) et ls ll (k a la)
+    q₁ : EndOpened es (es ++ (n ∷ [])) sides a m w₁ m₁
+    q₁ = end-opened es n pr df degrees sides labels a m (end-first n df) la (ds a la) et ls ll (k a la)
 
-    q₂ : Opened es (es ++ (n ∷ [])) (w₁ .sides) b m₁ w₂ m₂
-    q₂ = opened es n pr df degrees (w₁ .sides) (w₁ .labels) b m₁ (end-second n df) lb (ds b lb) (q₁ .labels-are) (q₁ .sides-long) (q₁ .lows-long) (q₁ .others es b ba (k b lb))
-
-    off : (v : ℕ) → v ≢ a → v ≢ b → (endsAt v n ≡ 0) ⊎ (endsAt v n ≡ 1) → endsAt v n ≡ 0
-    off v x y (inl z) = z
-    off v x y (inr o) = absurd (neither (two-ends n a b v (end-first n df) (end-second n df) df o))
-      where
-        neither : (v ≡ a) ⊎ (v ≡ b) → ⊥
-        neither (inl e) = x e
-        neither (inr e) = y e
+    q₂ : EndOpened es (es ++ (n ∷ [])) (w₁ .sides) b m₁ w₂ m₂
+    q₂ = end-opened es n pr df degrees (w₁ .sides) (w₁ .labels) b m₁ (end-second n df) lb (ds b lb) (q₁ .labels-are) (q₁ .sides-long) (q₁ .lows-long) (q₁ .others es b ba (k b lb))
 
     link : (v : ℕ) → v < maxVertices → (endsAt v n ≡ 1 → degree es v ≢ 1) → Dec (v ≡ b) → Dec (v ≡ a) → Linked (es ++ (n ∷ [])) (w₂ .sides) (m₂ .lows) v
     link v l r (yes e) d = rw e (q₂ .here (rw e at (r (rw e (end-second n df)))))
     link v l r (no y) (yes e) = rw e (q₂ .others (es ++ (n ∷ [])) a df (q₁ .here (rw e at (r (rw e (end-first n df))))))
     link v l r (no y) (no x) =
         q₂ .others (es ++ (n ∷ [])) v y (q₁ .others (es ++ (n ∷ [])) v x
-        (linked-old es n pr v (off v x y (zero-or-one (endsAt v n) (endsAt-le v n df))) sides (m .lows) (k v l)))
+        (linked-old es n pr v (off-ends n a b v df (end-first n df) (end-second n df) df x y) sides (m .lows) (k v l)))
 
     still : (x : ℕ) → degree es x ≡ 1 → (x ≡ a) ⊎ (x ≡ b) → getD (w₂ .sides) (2 * x) 0 ≡ onlyEdge es x
     still x one (inl e) = rw e (((q₂ .others es a df (q₁ .left (rw e at one))) .leaf (rw e at one)) .0)

@@ -3,12 +3,12 @@ use mathlib.Core.Path.{_≡_}
 use mathlib.Core.Logic.{_≢_}
 use Prim.Native.Nat.{ℕ, _≤_, _<_}
 use native.Mathlib.Omega.{arith}
-use mathlib.Core.List.{List, [], _∷_, _++_}
+use mathlib.Core.List.{[], _∷_, _++_}
 use mathlib.Core.Option.{some}
 use lib.ListN.{length, getD}
 use Rattle.model.specs.Basics.{maxEdges, maxVertices}
 use Rattle.model.specs.Graph.{Edge, degree}
-use Rattle.model.specs.Register.{Register, marksOf}
+use Rattle.model.specs.Register.{Register, lowEdgeOf, marksOf}
 use Rattle.model.specs.Tables.{held, storedOf}
 use Rattle.model.specs.Notions.{Reachable}
 use Rattle.model.proofs.Walks.Degree.{Proper}
@@ -17,13 +17,13 @@ use Rattle.model.proofs.Walks.RingFree.{RingFree}
 use Rattle.model.proofs.Groups.Origins.{lowAt}
 use Rattle.model.proofs.Series.Held.{GrowsAgain}
 use Rattle.model.proofs.Series.Labelled.{Labelled, ends-landed}
-use Rattle.model.proofs.Series.Facts.{kept-held}
+use Rattle.model.proofs.Series.Kept.{kept-held}
 use Rattle.model.proofs.Series.Lawful.{AllLawful, edges-lawful}
 use Rattle.model.proofs.Series.Reachable as reachable
 
 module _ (r : Register) (g : Reachable r) where
   pub labelled : Labelled r
-  labelled = (reachable.full r g) .kept .labelled
+  labelled = reachable.labelled r g
 
   pub proper : Proper (r .edges)
   proper = labelled .sound .proper
@@ -50,9 +50,9 @@ module _ (r : Register) (g : Reachable r) where
   pub lows-long : length (r .lows) ≡ maxVertices
   lows-long = labelled .lows-long
 
-  pub low-at : (v : ℕ) → degree (r .edges) v ≡ 2 → At (r .edges) v (getD (r .lows) v 0)
+  pub low-at : (v : ℕ) → degree (r .edges) v ≡ 2 → At (r .edges) v (lowEdgeOf r v)
   unfolding lowAt marksOf
-  low-at = (reachable.full r g) .sided .low-at
+  low-at = (reachable.kept r g) .sided .low-at
 
   pub no-label : (v : ℕ) → degree (r .edges) v ≢ 2 → getD (r .labels) v 0 ≡ 0
   unfolding marksOf
@@ -64,7 +64,7 @@ module _ (r : Register) (g : Reachable r) where
 
   -- what is stored for it is held, and growing its own vertices and edges leaves it again
   pub stored-held : held (storedOf r) ≡ some r
-  stored-held = kept-held r ((reachable.full r g) .kept)
+  stored-held = kept-held r (reachable.kept r g)
 
   pub regrows : GrowsAgain r
-  regrows = (reachable.full r g) .kept .regrows
+  regrows = (reachable.kept r g) .regrows

@@ -1,5 +1,5 @@
 -- Five tables that keep their lengths.
-use mathlib.Core.Path.{_≡_, refl}
+use mathlib.Core.Path.{_≡_, refl, _∙_}
 use Prim.Native.Nat.{ℕ}
 use mathlib.Core.List.{List}
 use lib.ListN.{length}
@@ -13,3 +13,15 @@ pub record Same (d₀ s₀ e₀ l₀ t₀ d s e l t : List ℕ) : Type 0 where
 
 pub same-refl : (d s e l t : List ℕ) → Same d s e l t d s e l t
 same-refl d s e l t = record { degrees = refl; sides = refl; ends = refl; lengths = refl; labels = refl }
+
+-- .. and keep them in one call more, which may keep others too
+pub same-on : {d₀ s₀ e₀ l₀ t₀ d s e l t d′ s′ e′ l′ t′ : List ℕ} {R : Type 0}
+    → (length d′ ≡ length d) × ((length s′ ≡ length s) × ((length e′ ≡ length e) × ((length l′ ≡ length l) × ((length t′ ≡ length t) × R))))
+    → Same d₀ s₀ e₀ l₀ t₀ d s e l t → Same d₀ s₀ e₀ l₀ t₀ d′ s′ e′ l′ t′
+same-on k same = record {
+  degrees = k .0 ∙ same .degrees;
+  sides = k .1 .0 ∙ same .sides;
+  ends = k .1 .1 .0 ∙ same .ends;
+  lengths = k .1 .1 .1 .0 ∙ same .lengths;
+  labels = k .1 .1 .1 .1 .0 ∙ same .labels;
+}

@@ -10,16 +10,17 @@ use lib.Seq.{getD-set-other, getD-set-same}
 use borrow.Author.Tests.{eq-eqb, ne-eqb}
 use Rattle.model.specs.Basics.{maxEdges, maxVertices}
 use Rattle.model.specs.Graph.{Edge, degree, edgeAt, endsAt, far, isLeaf, isRegular, onlyEdge, same, turn}
-use Rattle.model.specs.Register.{Register}
+use Rattle.model.specs.Register.{Register, lowEdgeOf}
 use Rattle.model.specs.Tables.{edgeIn, highSide, lowSide, tablesOf}
-use Rattle.tables.specs.Steps.{farIn, more16, raiseBothIn, raiseIn}
-use Rattle.model.proofs.Walks.Counting.{same-eq, same-most, same-ne}
+use Rattle.model.specs.Notions.{Reachable}
+use Rattle.tables.specs.Steps.{farIn, more16, most16, raiseBothIn, raiseIn}
 use Rattle.model.proofs.Walks.Degree.{Proper, degree-snoc, endsAt-le}
-use Rattle.model.proofs.Walks.Turn.{At}
-use Rattle.model.proofs.Series.Held.{edge-read}
 use Rattle.agreement.proofs.Lists.{PairAt, by-pairs, getD-upTo, is-map, length-mapped, length-sidesOf, sidesOf-read}
 use Rattle.agreement.proofs.Linked.{Linked, far-agrees}
 use Rattle.agreement.proofs.Lockstep.{Shows}
+use Rattle.agreement.proofs.Reached.{landed-below, low-at}
+use Rattle.model.proofs.Basics.Counting.{same-eq, same-most, same-ne}
+use Rattle.model.proofs.Series.ReadBack.{edge-read}
 
 -- ---- the two sides of a vertex, by its degree
 
@@ -27,7 +28,7 @@ abbrev SidesAre : Register → ℕ → ℕ → ℕ → Type 0
 SidesAre r v low high = (lowSide r v ≡ low) × (highSide r v ≡ high)
 
 module _ (r : Register) (v : ℕ) where
-  sides-regular : degree (r .edges) v ≡ 2 → SidesAre r v (getD (r .lows) v 0) (turn (r .edges) (getD (r .lows) v 0) v)
+  sides-regular : degree (r .edges) v ≡ 2 → SidesAre r v (lowEdgeOf r v) (turn (r .edges) (lowEdgeOf r v) v)
   unfolding lowSide highSide isLeaf isRegular
   sides-regular h = (rw h, rw h)
 
@@ -49,13 +50,12 @@ pub sides-long : (r : Register) → length ((tablesOf r) .sides) ≡ 2 * maxVert
 unfolding tablesOf
 sides-long r = length-sidesOf r maxVertices
 
--- it is linked where the low edge of each regular vertex is at it
-pub sides-linked : (r : Register) → ((v : ℕ) → degree (r .edges) v ≡ 2 → At (r .edges) v (getD (r .lows) v 0)) → (v : ℕ) → v < maxVertices
-    → Linked (r .edges) ((tablesOf r) .sides) (r .lows) v
-sides-linked r at v h =
+-- it is linked
+pub sides-linked : (r : Register) → Reachable r → (v : ℕ) → v < maxVertices → Linked (r .edges) ((tablesOf r) .sides) (r .lows) v
+sides-linked r g v h =
     let p = sides-read r v h in
     record {
-      low-at = at v;
+      low-at = low-at r g v;
       regular = λ d. let q = sides-regular r v d in (p .0 ∙ q .0, p .1 ∙ q .1);
       leaf = λ d. let q = sides-leaf r v d in (p .0 ∙ q .0, p .1 ∙ q .1);
       other = λ a b. let q = sides-other r v a b in (p .0 ∙ q .0, p .1 ∙ q .1);
@@ -100,13 +100,13 @@ length-raise : (degrees : List ℕ) (x : ℕ) → length (raiseIn degrees x) ≡
 unfolding raiseIn
 length-raise degrees x = length-set degrees x _
 
-raise-read : (degrees : List ℕ) (x v : ℕ) → x < length degrees → getD degrees x 0 < 65535 → getD (raiseIn degrees x) v 0 ≡ getD degrees v 0 + same x v
+raise-read : (degrees : List ℕ) (x v : ℕ) → x < length degrees → getD degrees x 0 < most16 → getD (raiseIn degrees x) v 0 ≡ getD degrees v 0 + same x v
 unfolding raiseIn more16
 raise-read degrees x v l h = go (ℕ-discrete v x)
   where
     go : Dec (v ≡ x) → getD (raiseIn degrees x) v 0 ≡ getD degrees v 0 + same x v
-    go (yes e) = rw e (omega (arith, getD-set-same degrees x (min (getD degrees x 0 + 1) 65535) 0 l, same-eq x x refl))
-    go (no n) = omega (arith, getD-set-other degrees x v (min (getD degrees x 0 + 1) 65535) 0 n, same-ne x v (λ e. n (sym e)))
+    go (yes e) = rw e (omega (arith, getD-set-same degrees x (min (getD degrees x 0 + 1) most16) 0 l, same-eq x x refl))
+    go (no n) = omega (arith, getD-set-other degrees x v (min (getD degrees x 0 + 1) most16) 0 n, same-ne x v (λ e. n (sym e)))
 
 pub length-raised : (degrees : List ℕ) (a b : ℕ) → length (raiseBothIn degrees a b) ≡ length degrees
 unfolding raiseBothIn
@@ -119,9 +119,9 @@ unfolding raiseBothIn endsAt
 raised es n degrees pr room long la lb h v l =
     let a = n .first in
     let b = n .second in
-    let da : getD degrees a 0 < 65535 = omega (arith, h a la, degree-most es a pr) in
+    let da : getD degrees a 0 < most16 = omega (arith, h a la, degree-most es a pr) in
     let one = raise-read degrees a b (omega arith) da in
-    let db : getD (raiseIn degrees a) b 0 < 65535 = omega (arith, one, same-most a b, h b lb, degree-most es b pr) in
+    let db : getD (raiseIn degrees a) b 0 < most16 = omega (arith, one, same-most a b, h b lb, degree-most es b pr) in
     omega (
       arith,
       raise-read (raiseIn degrees a) b v (omega (arith, length-raise degrees a)) db,
@@ -139,6 +139,6 @@ ends-are r d h = (ap (λ (e : Edge). e .first) (edge-read r d h), ap (λ (e : Ed
 pub far-is : (r : Register) (d v : ℕ) → d < length (r .edges) → farIn ((tablesOf r) .ends) d v ≡ far (r .edges) d v
 far-is r d v h = far-agrees (r .edges) ((tablesOf r) .ends) d v (ends-are r d h)
 
-pub shows : (r : Register) → ((v : ℕ) → degree (r .edges) v ≡ 2 → At (r .edges) v (getD (r .lows) v 0)) → ((v d : ℕ) → At (r .edges) v d → v < maxVertices)
-    → Shows (r .edges) ((tablesOf r) .degrees) ((tablesOf r) .ends) ((tablesOf r) .sides) (r .lows)
-shows r at below = record { degrees-are = degrees-read r; fars-are = far-is r; links = sides-linked r at; below = below }
+pub shows : (r : Register) → Reachable r
+    → Shows (r .edges) ((tablesOf r) .degrees) ((tablesOf r) .sides) ((tablesOf r) .ends) (r .lows)
+shows r g = record { degrees-are = degrees-read r; fars-are = far-is r; links = sides-linked r g; below = landed-below r g }

@@ -5,13 +5,13 @@ use admission::gate::clear_if_fit;
 use counters::answers::ListAnswer;
 use counters::counts::Counts;
 use counters::refusals::Refusal;
-use register::records::land_list;
+use register::records::grow_list;
 ghost use mathlib.Core.Path.{_≡_};
+ghost use mathlib.Core.List.{[]};
 ghost use Rattle.model.specs.Calls.{grows, step};
-ghost use Rattle.counters.specs.Answers.{countsIn};
+ghost use Rattle.counters.specs.Answers.{countsIn, listReply};
 ghost use Rattle.tables.specs.Steps.{tables};
-ghost use Rattle.admission.specs.Lent.{lent};
-ghost use Rattle.calls.specs.Meaning.{outcome};
+ghost use Rattle.admission.specs.Lent.{lent, outcome};
 
 // The counts go in and come back by value: `grow` takes its counts apart for it, and its proof cites this contract. `grow_from` promises
 // the same and goes through `grow`.
@@ -30,7 +30,7 @@ pub fn grow_with(
     list: &[u8],
 ) -> Landing
     ensures { λ r. ⌜ outcome (tables (now (degrees .exit)) (now (sides .exit)) (now (ends .exit)) (now (lengths .exit)) (now (labels .exit))) (countsIn (r .counts))
-        (tables (now (sdegrees .exit)) (now (ssides .exit)) (now (sends .exit)) (now (slengths .exit)) (now (slabels .exit))) (r .answer)
+        (tables (now (sdegrees .exit)) (now (ssides .exit)) (now (sends .exit)) (now (slengths .exit)) (now (slabels .exit))) [] (listReply (r .answer))
         ≡ step (grows (now (list .entry)))
         (lent (tables (now (degrees .entry)) (now (sides .entry)) (now (ends .entry)) (now (lengths .entry)) (now (labels .entry))) (countsIn counts)
         (tables (now (sdegrees .entry)) (now (ssides .entry)) (now (sends .entry)) (now (slengths .entry)) (now (slabels .entry)))) ⌝ }
@@ -52,7 +52,7 @@ pub fn grow_with(
             answer: ListAnswer::Refused(Refusal::WrongSize),
         };
     }
-    let reading = land_list(degrees, sides, ends, lengths, labels, Counts::none(), list);
+    let reading = grow_list(degrees, sides, ends, lengths, labels, list);
     landing_of(reading)
 }
 
@@ -72,7 +72,7 @@ pub fn grow(
     list: &[u8],
 ) -> ListAnswer
     ensures { λ r. ⌜ outcome (tables (now (degrees .exit)) (now (sides .exit)) (now (ends .exit)) (now (lengths .exit)) (now (labels .exit))) (countsIn (now (counts .exit)))
-        (tables (now (sdegrees .exit)) (now (ssides .exit)) (now (sends .exit)) (now (slengths .exit)) (now (slabels .exit))) r
+        (tables (now (sdegrees .exit)) (now (ssides .exit)) (now (sends .exit)) (now (slengths .exit)) (now (slabels .exit))) [] (listReply r)
         ≡ step (grows (now (list .entry)))
         (lent (tables (now (degrees .entry)) (now (sides .entry)) (now (ends .entry)) (now (lengths .entry)) (now (labels .entry))) (countsIn (now (counts .entry)))
         (tables (now (sdegrees .entry)) (now (ssides .entry)) (now (sends .entry)) (now (slengths .entry)) (now (slabels .entry)))) ⌝ }
@@ -113,7 +113,7 @@ pub fn grow_from(
     list: &[u8],
 ) -> Landing
     ensures { λ r. ⌜ outcome (tables (now (degrees .exit)) (now (sides .exit)) (now (ends .exit)) (now (lengths .exit)) (now (labels .exit))) (countsIn (r .counts))
-        (tables (now (sdegrees .exit)) (now (ssides .exit)) (now (sends .exit)) (now (slengths .exit)) (now (slabels .exit))) (r .answer)
+        (tables (now (sdegrees .exit)) (now (ssides .exit)) (now (sends .exit)) (now (slengths .exit)) (now (slabels .exit))) [] (listReply (r .answer))
         ≡ step (grows (now (list .entry)))
         (lent (tables (now (degrees .entry)) (now (sides .entry)) (now (ends .entry)) (now (lengths .entry)) (now (labels .entry))) (countsIn c)
         (tables (now (sdegrees .entry)) (now (ssides .entry)) (now (sends .entry)) (now (slengths .entry)) (now (slabels .entry)))) ⌝ }

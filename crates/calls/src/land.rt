@@ -7,11 +7,11 @@ use counters::answers::ListAnswer;
 use counters::counts::Counts;
 use register::records::land_list;
 ghost use mathlib.Core.Path.{_≡_};
+ghost use mathlib.Core.List.{[]};
 ghost use Rattle.model.specs.Calls.{lands, step};
-ghost use Rattle.counters.specs.Answers.{countsIn};
+ghost use Rattle.counters.specs.Answers.{countsIn, listReply};
 ghost use Rattle.tables.specs.Steps.{tables};
-ghost use Rattle.admission.specs.Lent.{lent};
-ghost use Rattle.calls.specs.Meaning.{outcome};
+ghost use Rattle.admission.specs.Lent.{lent, outcome};
 
 // The counts go in and come back by value: `land` takes its counts apart for it, and its proof cites this contract.
 pub fn land_with(
@@ -29,7 +29,7 @@ pub fn land_with(
     list: &[u8],
 ) -> Landing
     ensures { λ r. ⌜ outcome (tables (now (degrees .exit)) (now (sides .exit)) (now (ends .exit)) (now (lengths .exit)) (now (labels .exit))) (countsIn (r .counts))
-        (tables (now (sdegrees .exit)) (now (ssides .exit)) (now (sends .exit)) (now (slengths .exit)) (now (slabels .exit))) (r .answer)
+        (tables (now (sdegrees .exit)) (now (ssides .exit)) (now (sends .exit)) (now (slengths .exit)) (now (slabels .exit))) [] (listReply (r .answer))
         ≡ step (lands (now (list .entry)))
         (lent (tables (now (degrees .entry)) (now (sides .entry)) (now (ends .entry)) (now (lengths .entry)) (now (labels .entry))) (countsIn counts)
         (tables (now (sdegrees .entry)) (now (ssides .entry)) (now (sends .entry)) (now (slengths .entry)) (now (slabels .entry)))) ⌝ }
@@ -75,7 +75,7 @@ pub fn land(
     list: &[u8],
 ) -> ListAnswer
     ensures { λ r. ⌜ outcome (tables (now (degrees .exit)) (now (sides .exit)) (now (ends .exit)) (now (lengths .exit)) (now (labels .exit))) (countsIn (now (counts .exit)))
-        (tables (now (sdegrees .exit)) (now (ssides .exit)) (now (sends .exit)) (now (slengths .exit)) (now (slabels .exit))) r
+        (tables (now (sdegrees .exit)) (now (ssides .exit)) (now (sends .exit)) (now (slengths .exit)) (now (slabels .exit))) [] (listReply r)
         ≡ step (lands (now (list .entry)))
         (lent (tables (now (degrees .entry)) (now (sides .entry)) (now (ends .entry)) (now (lengths .entry)) (now (labels .entry))) (countsIn (now (counts .entry)))
         (tables (now (sdegrees .entry)) (now (ssides .entry)) (now (sends .entry)) (now (slengths .entry)) (now (slabels .entry)))) ⌝ }

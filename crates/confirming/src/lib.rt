@@ -4,11 +4,10 @@ use search::dijkstra::dijkstra;
 use search::relax::relax_all;
 use search::shortest::start;
 use tables::access::of32;
-ghost use mathlib.Core.Path.{_≡_};
 ghost use Prim.Native.Nat.{_≤_, _<_};
 ghost use lib.ListN.{length};
 ghost use Rattle.model.specs.Basics.{maxVertices};
-ghost use Rattle.search.specs.Search.{Searchable, Settled};
+ghost use Rattle.search.specs.Search.{Searchable};
 ghost use Rattle.confirming.specs.Rounds.{FirstRound};
 
 // How many distances the first confirming round lowers. With 0 the search had settled them.
@@ -18,18 +17,17 @@ pub extern "C" fn confirming_changes(
     lengths: &[u32],
     edges: u16,
     from: u16,
-    to: u16,
+    goal: u16,
     heads: &mut [u16],
     heap: &mut [u16],
     next: &mut [u16],
     distances: &mut [u32],
     keys: &mut [u32],
 ) -> u16
-    requires { ⌜ Searchable (now ends) (now lengths) edges × ((from < maxVertices) × ((to < maxVertices) × (maxVertices ≤ length (now distances)))) ⌝ }
-    ensures { λ r. ⌜ FirstRound (now (ends .entry)) (now (lengths .entry)) edges to from (now (distances .exit)) r
-        × (r ≡ 0 → Settled (now (ends .entry)) (now (lengths .entry)) edges to from (now (distances .exit))) ⌝ }
+    requires { ⌜ Searchable (now ends) (now lengths) edges × ((from < maxVertices) × ((goal < maxVertices) × (maxVertices ≤ length (now distances)))) ⌝ }
+    ensures { λ r. ⌜ FirstRound (now (ends .entry)) (now (lengths .entry)) edges goal from (now (distances .exit)) r ⌝ }
 {
-    start(distances, to);
+    start(distances, goal);
     dijkstra(
         ends,
         lengths,
@@ -39,9 +37,9 @@ pub extern "C" fn confirming_changes(
         next,
         distances,
         keys,
-        to,
+        goal,
         from,
     );
     let best = of32(distances, from);
-    relax_all(ends, lengths, distances, edges, to, best)
+    relax_all(ends, lengths, distances, edges, best)
 }

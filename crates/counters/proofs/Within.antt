@@ -1,12 +1,11 @@
--- The three ways out of a test of bounds.
-use mathlib.Core.Path.{_≡_, sym}
+-- The three ways out of a test of bounds, and what its answer tells.
+use mathlib.Core.Path.{_≡_, refl, sym}
 use Prim.Native.Nat.{ℕ, _≤_, _<_}
 use native.Mathlib.Omega.{arith}
 use mathlib.Core.Bool.{Bool, true, false, _&&_}
-use mathlib.Core.Option.{Option, none, some}
+use mathlib.Core.Option.{none, some, Option·some-injective, Option·some-ne-none}
 use lib.Dec.{leb}
-use borrow.Author.Tests.{le-leb, lt-leb}
-use Rattle.model.specs.Basics.{if_then_else_}
+use borrow.Author.Tests.{le-leb, lt-leb, leb-false}
 use Rattle.counters.specs.Numbers.{within}
 
 pub within-yes : (low high n : ℕ) → low ≤ n → n ≤ high → some n ≡ within low high n
@@ -20,3 +19,19 @@ within-below low high n h = rw (lt-leb low n h)
 pub within-above : (low high n : ℕ) → low ≤ n → high < n → none ≡ within low high n
 unfolding within
 within-above low high n l h = rw (le-leb low n l, lt-leb n high h)
+
+pub within-is : (low high n v : ℕ) → some v ≡ within low high n → v ≡ n
+unfolding within
+within-is low high n v e = go (leb low n && leb n high) refl
+  where
+    go : (b : Bool) → (leb low n && leb n high) ≡ b → v ≡ n
+    go true q = Option·some-injective v n (rw q at e)
+    go false q = absurd (Option·some-ne-none v (rw q at e))
+
+pub within-none : (high n : ℕ) → none ≡ within 0 high n → high < n
+unfolding within
+within-none high n e = go (leb n high) refl
+  where
+    go : (b : Bool) → leb n high ≡ b → high < n
+    go true q = absurd (Option·some-ne-none n (sym (rw (le-leb 0 n (omega arith), q) at e)))
+    go false q = leb-false n high q

@@ -1,5 +1,4 @@
 -- Document 01's values of the answers to grow and land, and of the head.
-use Prim.Native.Nat.{ℕ}
 use Rattle.model.specs.Format.{whole, stopped}
 use Rattle.model.specs.Queries.{Reply, read, refuses}
 use Rattle.model.specs.Tables as T

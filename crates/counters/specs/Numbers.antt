@@ -16,11 +16,11 @@ within low high n = if leb low n && leb n high then some n else none
 
 abbrev pub vertexIn : CheckedVertex → Option ℕ
 vertexIn (vertex.Is v) = some (v .0)
-vertexIn vertex.TooLarge = none
+vertexIn vertex.OutOfRange = none
 
 abbrev pub labelIn : CheckedLabel → Option ℕ
 labelIn (label.Is l) = some (l .0)
-labelIn label.TooLarge = none
+labelIn label.OutOfRange = none
 
 abbrev pub millimetresIn : CheckedMillimetres → Option ℕ
 millimetresIn (millimetres.Is l) = some (l .0)

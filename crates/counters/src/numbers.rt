@@ -13,7 +13,7 @@ pub struct Vertex(pub u16);
 
 pub enum CheckedVertex {
     Is(Vertex),
-    TooLarge,
+    OutOfRange,
 }
 
 impl Vertex {
@@ -25,7 +25,7 @@ impl Vertex {
         if n <= (Vertex::MAX as u32) {
             return CheckedVertex::Is(Vertex(n as u16));
         }
-        CheckedVertex::TooLarge
+        CheckedVertex::OutOfRange
     }
 }
 
@@ -34,19 +34,20 @@ pub struct Label(pub u32);
 
 pub enum CheckedLabel {
     Is(Label),
-    TooLarge,
+    OutOfRange,
 }
 
 impl Label {
     pub const MAX: u32 = 4294967295;
 
+    // Document 01 asks a checked constructor of each counter; no call here needs it.
     pub fn new(n: u64) -> CheckedLabel
         ensures { λ r. ⌜ labelIn r ≡ within 0 (2 ^ 32 - 1) n ⌝ }
     {
         if n <= (Label::MAX as u64) {
             return CheckedLabel::Is(Label(n as u32));
         }
-        CheckedLabel::TooLarge
+        CheckedLabel::OutOfRange
     }
 }
 

@@ -1,53 +1,37 @@
--- The tables of a register that landing leaves can be searched, and their edges are the register's. A caller that has passed its replay
--- has such a register: its tables and its counts are those that are lent.
-use mathlib.Core.Path.{_≡_, ap}
-use Prim.Native.Nat.{ℕ, _+_, _*_, _≤_, _<_}
+-- The tables of a register that landing leaves can be searched.
+use Prim.Native.Nat.{ℕ, _*_, _≤_}
 use native.Mathlib.Omega.{arith}
 use mathlib.Core.List.{List}
-use lib.ListN.{length, getD, drop, replicate, length-append}
+use lib.ListN.{length, drop, replicate, length-append}
 use Rattle.model.specs.Basics.{inFront, maxEdges}
-use Rattle.model.specs.Graph.{Edge, edgeAt}
 use Rattle.model.specs.Register.{Register}
-use Rattle.model.specs.Notions.{Reachable}
-use Rattle.model.specs.Tables.{Tables, edgeIn, edgeLengths, endsOf, padded, tablesOf}
-use Rattle.model.proofs.Series.Held.{edge-read, length-ends, length-lengths}
+use Rattle.model.specs.Notions.{HeldOf, Reachable}
+use Rattle.model.specs.Tables.{Stored, countsOf, edgeLengths, endsOf, padded, storedOf, tablesOf}
+use Rattle.model.proofs.Series.ReadBack.{first-read, second-read, length-read, length-ends, length-lengths}
 use Rattle.model.proofs.Series.Labelled.{Labelled}
 use Rattle.model.proofs.Series.Lawful.{edges-lawful}
-use Rattle.model.proofs.Series.Reachable.{full}
+use Rattle.model.proofs.Series.Reachable.{labelled}
 use Rattle.search.specs.Search.{Searchable}
+use Rattle.distance.specs.Measure.{Measurable}
 
 padded-long : (n : ℕ) (xs : List ℕ) → length xs ≤ length (padded n xs)
 unfolding padded inFront
 padded-long n xs = omega (arith, length-append xs (drop (length xs) (replicate n 0)))
 
-module _ (r : Register) (k : Reachable r) where
-  kept : Labelled r
-  kept = (full r k) .kept .labelled
+searchable : (r : Register) → Reachable r → Searchable ((tablesOf r) .ends) ((tablesOf r) .lengths) (length (r .edges))
+unfolding tablesOf
+searchable r k =
+    let kept : Labelled r = labelled r k in
+    record {
+      few = kept .room;
+      ends-room = omega (arith, padded-long (2 * maxEdges) (endsOf (r .edges)), length-ends (r .edges));
+      lengths-room = omega (arith, padded-long maxEdges (edgeLengths (r .edges)), length-lengths (r .edges));
+      firsts = λ d l. omega (arith, first-read r d l, edges-lawful r k d l .first-landed, kept .few);
+      seconds = λ d l. omega (arith, second-read r d l, edges-lawful r k d l .second-landed, kept .few);
+      short = λ d l. omega (arith, length-read r d l, edges-lawful r k d l .most-length);
+      long = λ d l. omega (arith, length-read r d l, edges-lawful r k d l .some-length);
+    }
 
-  first-read : (d : ℕ) → d < length (r .edges) → getD ((tablesOf r) .ends) (2 * d) 0 ≡ (edgeAt (r .edges) d) .first
-  unfolding edgeIn
-  first-read d l = ap (λ (e : Edge). e .first) (edge-read r d l)
-
-  second-read : (d : ℕ) → d < length (r .edges) → getD ((tablesOf r) .ends) (2 * d + 1) 0 ≡ (edgeAt (r .edges) d) .second
-  unfolding edgeIn
-  second-read d l = ap (λ (e : Edge). e .second) (edge-read r d l)
-
-  length-read : (d : ℕ) → d < length (r .edges) → getD ((tablesOf r) .lengths) d 0 ≡ (edgeAt (r .edges) d) .len
-  unfolding edgeIn
-  length-read d l = ap (λ (e : Edge). e .len) (edge-read r d l)
-
-  pub register-searchable : Searchable ((tablesOf r) .ends) ((tablesOf r) .lengths) (length (r .edges))
-  unfolding tablesOf
-  register-searchable = record {
-    few = kept .room;
-    ends-room = omega (arith, padded-long (2 * maxEdges) (endsOf (r .edges)), length-ends (r .edges));
-    lens-room = omega (arith, padded-long maxEdges (edgeLengths (r .edges)), length-lengths (r .edges));
-    firsts = λ d l. omega (arith, first-read d l, edges-lawful r k d l .first-landed, kept .few);
-    seconds = λ d l. omega (arith, second-read d l, edges-lawful r k d l .second-landed, kept .few);
-    short = λ d l. omega (arith, length-read d l, edges-lawful r k d l .most-length);
-    long = λ d l. omega (arith, length-read d l, edges-lawful r k d l .some-length);
-  }
-
-  -- the same of lent tables and a lent count that are the register's
-  pub searchable : (t : Tables) (m : ℕ) → tablesOf r ≡ t → length (r .edges) ≡ m → Searchable (t .ends) (t .lengths) m
-  searchable t m e q = rw (← e, ← q) register-searchable
+pub measurable : {s : Stored} {r : Register} → HeldOf s r → Measurable (s .tables .ends) (s .tables .lengths) (s .counts)
+unfolding storedOf countsOf
+measurable {r = r} h = rw (h .stored-is) (searchable r (h .reachable), labelled r (h .reachable) .few)

@@ -1,4 +1,4 @@
-// A distance between two vertices of a register: refusal 5, then the search. Scratch that is all zero is so again at the end.
+// A distance between two vertices of a register: refusal 5, then the search. Scratch ends all zero.
 use counters::counts::Counts;
 use counters::numbers::Vertex;
 use counters::refusals::Refusal;
@@ -7,16 +7,15 @@ use search::shortest::search;
 use tables::whole::clear_tables;
 ghost use mathlib.Core.Path.{_≡_};
 ghost use mathlib.Core.List.{List};
-ghost use Prim.Native.Nat.{ℕ, _≤_, _<_};
+ghost use Prim.Native.Nat.{ℕ, _≤_};
 ghost use lib.ListN.{length};
 ghost use Rattle.model.specs.Basics.{maxVertices};
-ghost use Rattle.model.specs.Tables.{edgesIn};
-ghost use Rattle.model.specs.Distance.{distance};
 ghost use Rattle.model.specs.Queries as queries;
 ghost use Rattle.counters.specs.Answers.{countsIn};
 ghost use Rattle.tables.specs.Steps.{tables, zeroed};
-ghost use Rattle.search.specs.Search.{Searchable, measuredIn};
-ghost use Rattle.distance.specs.Measure.{distanceReply, measureIn};
+ghost use Rattle.search.specs.Search.{measuredIn};
+ghost use Rattle.distance.specs.Meaning.{distanceReply};
+ghost use Rattle.distance.specs.Measure.{Measurable, measureIn};
 
 // What outsiders are answered.
 pub enum Distance {
@@ -25,7 +24,7 @@ pub enum Distance {
     Refused(Refusal),
 }
 
-fn answer(measured: Measured) -> Distance
+fn distance_of(measured: Measured) -> Distance
     ensures { λ r. ⌜ distanceReply r ≡ queries.measured (measuredIn measured) ⌝ }
 {
     match measured {
@@ -34,42 +33,48 @@ fn answer(measured: Measured) -> Distance
     }
 }
 
-// The search, and its scratch cleared.
-fn search_cleared(
+// What the scratch holds at the end is of no use to the caller.
+fn measure_in(
     ends: &[u16],
     lengths: &[u32],
-    edges: u16,
-    from: u16,
-    to: u16,
+    counts: Counts,
     heads: &mut [u16],
     heap: &mut [u16],
     next: &mut [u16],
     distances: &mut [u32],
     keys: &mut [u32],
-) -> Measured
-    requires { ⌜ Searchable (now ends) (now lengths) edges × ((from < maxVertices) × ((to < maxVertices) × (maxVertices ≤ length (now distances)))) ⌝ }
-    ensures { λ r. ⌜ (tables (now (heads .exit)) (now (heap .exit)) (now (next .exit)) (now (distances .exit)) (now (keys .exit))
-        ≡ zeroed (tables (now (heads .entry)) (now (heap .entry)) (now (next .entry)) (now (distances .entry)) (now (keys .entry))))
-        × ((degrees sides labels : List ℕ) → measuredIn r
-        ≡ distance (edgesIn (tables degrees sides (now (ends .entry)) (now (lengths .entry)) labels) edges) from to) ⌝ }
+    from: Vertex,
+    to: Vertex,
+) -> Distance
+    requires { ⌜ Measurable (now ends) (now lengths) (countsIn counts) × (maxVertices ≤ length (now distances)) ⌝ }
+    ensures { λ r. ⌜ ((degrees sides labels : List ℕ) → distanceReply r
+        ≡ measureIn (tables degrees sides (now (ends .entry)) (now (lengths .entry)) labels) (countsIn counts) (from .0) (to .0)) ⌝ }
 {
-    let r = search(
+    let v = from.0;
+    let w = to.0;
+    if counts.vertices <= v {
+        return Distance::Refused(Refusal::NotLanded);
+    }
+    if counts.vertices <= w {
+        return Distance::Refused(Refusal::NotLanded);
+    }
+    let edges = counts.edges;
+    let measured = search(
         ends,
         lengths,
         edges,
-        from,
-        to,
+        v,
+        w,
         heads,
         heap,
         next,
         distances,
         keys,
     );
-    clear_tables(heads, heap, next, distances, keys);
-    r
+    distance_of(measured)
 }
 
-// The tables are those of a register, as a replay has shown.
+// The tables are those of a register, as a replay has shown. The scratch tables serve the search as heads, heap, next, distances and keys.
 pub fn measure(
     ends: &[u16],
     lengths: &[u32],
@@ -82,34 +87,24 @@ pub fn measure(
     from: Vertex,
     to: Vertex,
 ) -> Distance
-    requires { ⌜ Searchable (now ends) (now lengths) (counts .edges) × ((counts .vertices ≤ maxVertices) × (maxVertices ≤ length (now slengths))) ⌝ }
-    ensures { λ r. ⌜ (tables (now (sdegrees .entry)) (now (ssides .entry)) (now (sends .entry)) (now (slengths .entry)) (now (slabels .entry))
-        ≡ zeroed (tables (now (sdegrees .entry)) (now (ssides .entry)) (now (sends .entry)) (now (slengths .entry)) (now (slabels .entry)))
-        → tables (now (sdegrees .exit)) (now (ssides .exit)) (now (sends .exit)) (now (slengths .exit)) (now (slabels .exit))
-        ≡ tables (now (sdegrees .entry)) (now (ssides .entry)) (now (sends .entry)) (now (slengths .entry)) (now (slabels .entry)))
+    requires { ⌜ Measurable (now ends) (now lengths) (countsIn counts) × (maxVertices ≤ length (now slengths)) ⌝ }
+    ensures { λ r. ⌜ (tables (now (sdegrees .exit)) (now (ssides .exit)) (now (sends .exit)) (now (slengths .exit)) (now (slabels .exit))
+        ≡ zeroed (tables (now (sdegrees .entry)) (now (ssides .entry)) (now (sends .entry)) (now (slengths .entry)) (now (slabels .entry))))
         × ((degrees sides labels : List ℕ) → distanceReply r
         ≡ measureIn (tables degrees sides (now (ends .entry)) (now (lengths .entry)) labels) (countsIn counts) (from .0) (to .0)) ⌝ }
 {
-    let v = from.0;
-    let w = to.0;
-    if counts.vertices <= v {
-        return Distance::Refused(Refusal::NotLanded);
-    }
-    if counts.vertices <= w {
-        return Distance::Refused(Refusal::NotLanded);
-    }
-    let edges = counts.edges;
-    let measured = search_cleared(
+    let answer = measure_in(
         ends,
         lengths,
-        edges,
-        v,
-        w,
+        counts,
         sdegrees,
         ssides,
         sends,
         slengths,
         slabels,
+        from,
+        to,
     );
-    answer(measured)
+    clear_tables(sdegrees, ssides, sends, slengths, slabels);
+    answer
 }

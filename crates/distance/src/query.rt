@@ -11,9 +11,8 @@ ghost use mathlib.Core.List.{[]};
 ghost use Rattle.model.specs.Calls.{measures, step};
 ghost use Rattle.counters.specs.Answers.{countsIn};
 ghost use Rattle.tables.specs.Steps.{tables};
-ghost use Rattle.admission.specs.Lent.{lent};
-ghost use Rattle.lookups.specs.Meaning.{answered};
-ghost use Rattle.distance.specs.Measure.{distanceReply};
+ghost use Rattle.admission.specs.Lent.{lent, outcome};
+ghost use Rattle.distance.specs.Meaning.{distanceReply};
 
 pub fn distance(
     degrees: &[u16],
@@ -30,7 +29,7 @@ pub fn distance(
     from: Vertex,
     to: Vertex,
 ) -> Distance
-    ensures { λ r. ⌜ answered (tables (now (degrees .entry)) (now (sides .entry)) (now (ends .entry)) (now (lengths .entry)) (now (labels .entry))) (countsIn counts)
+    ensures { λ r. ⌜ outcome (tables (now (degrees .entry)) (now (sides .entry)) (now (ends .entry)) (now (lengths .entry)) (now (labels .entry))) (countsIn counts)
         (tables (now (sdegrees .exit)) (now (ssides .exit)) (now (sends .exit)) (now (slengths .exit)) (now (slabels .exit))) [] (distanceReply r)
         ≡ step (measures (from .0) (to .0))
         (lent (tables (now (degrees .entry)) (now (sides .entry)) (now (ends .entry)) (now (lengths .entry)) (now (labels .entry))) (countsIn counts)

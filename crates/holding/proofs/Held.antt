@@ -10,35 +10,37 @@ use borrow.Author.Tests.{le-leb, lt-leb}
 use Rattle.model.specs.Basics.{countFrom, maxVertices, upTo}
 use Rattle.model.specs.Graph.{Edge}
 use Rattle.model.specs.Register.{Landed, Register, empty, landEdge, landVertex, landed, refused, withVertex}
-use Rattle.model.specs.Tables.{Counts, Stored, Tables, cleared, countsOf, edgeIn, edgesIn, growFrom, held, landEdges, landVertices, storedOf, tablesOf}
+use Rattle.model.specs.Tables.{Counts, Tables, cleared, countsOf, edgeIn, edgesIn, growFrom, held, landEdges, landVertices, storedOf, tablesOf}
 use Rattle.model.specs.Notions.{Reachable, with-edge}
 use Rattle.model.proofs.Computing.{computing}
+use Rattle.tables.specs.Steps.{edgeOf, stored}
 use Rattle.insertion.specs.Insertion.{LandingIn, counts, done, landingIn, refusedIn}
 use Rattle.model.proofs.Series.Held.{grow-again, grown-from, onVertices, vertices-grow}
-use Rattle.model.proofs.Series.OnlyHeld.{grow-reaches, only-held, vertices-reach}
-use Rattle.model.proofs.Series.Reachable.{reachable-empty, vertex-lands}
+use Rattle.model.proofs.Series.OnlyHeld.{grow-reaches, held-counts, held-tables, only-held, vertices-reach}
+use Rattle.model.proofs.Series.Reachable.{reachable-empty}
 use Rattle.agreement.proofs.Reached.{stored-held, regrows}
 use Rattle.agreement.proofs.Landing.{edge-parts, shownIn}
-use Rattle.holding.specs.Replay.{ownEdge, regrowIn, replayIn}
+use Rattle.holding.specs.Replay.{regrowIn, replayIn}
 use Rattle.holding.proofs.ReplayLaws.{done-is, refused-done}
+use Rattle.model.proofs.Series.Accepted.{vertex-lands}
 
 -- ---- edges one after the other
 
 -- what the tables answer, of what the definition leaves: the same register, or the same refusal
-abbrev pub Agrees : Landed → LandingIn → Type 0
+abbrev Agrees : Landed → LandingIn → Type 0
 Agrees (landed r) l = l ≡ landingIn (tablesOf r) (done (countsOf r))
 Agrees (refused x) l = l .answer ≡ refusedIn x
 
 module _ (own : Tables) where
-  own-is : (e : ℕ) → ownEdge (own .ends) (own .lengths) e ≡ edgeIn own e
-  unfolding ownEdge edgeIn
+  own-is : (e : ℕ) → edgeOf (own .ends) (own .lengths) e ≡ edgeIn own e
+  unfolding edgeOf edgeIn
   own-is e = refl
 
   -- n edges from number e on
   abbrev edgesFrom : ℕ → ℕ → List Edge
   edgesFrom n e = map (edgeIn own) (countFrom e n)
 
-  pub replay-agrees : (n e : ℕ) (r : Register) → Reachable r → Agrees (landEdges (edgesFrom n e) r) (replayIn (own .ends) (own .lengths) n e (tablesOf r) (countsOf r))
+  replay-agrees : (n e : ℕ) (r : Register) → Reachable r → Agrees (landEdges (edgesFrom n e) r) (replayIn (own .ends) (own .lengths) n e (tablesOf r) (countsOf r))
   unfolding replayIn landEdges countFrom shownIn
   replay-agrees zero e r g = refl
   replay-agrees (suc n) e r g = go (landEdge r (edgeIn own e)) refl (λ r′ h. replay-agrees n (e + 1) r′ h)
@@ -67,13 +69,13 @@ module _ (n : ℕ) where
   unfolding countsOf onVertices
   on-counts = refl
 
-  on-grown : n ≤ maxVertices → Reachable (onVertices n)
-  on-grown h = vertices-reach n empty (onVertices n) reachable-empty (vertices-grow n h)
+  on-reachable : n ≤ maxVertices → Reachable (onVertices n)
+  on-reachable h = vertices-reach n empty (onVertices n) reachable-empty (vertices-grow n h)
 
 -- more than 4,096 are refused
-vertex-full : (r : Register) → maxVertices ≤ r .vertices → landVertex r ≡ refused 22
+full-refused : (r : Register) → maxVertices ≤ r .vertices → landVertex r ≡ refused 22
 unfolding landVertex
-vertex-full r h = rw (le-leb maxVertices (r .vertices) h)
+full-refused r h = rw (le-leb maxVertices (r .vertices) h)
 
 one-more : (r : Register) → (withVertex r) .vertices ≡ r .vertices + 1
 unfolding withVertex
@@ -87,7 +89,7 @@ vertices-over (suc n) r l h = go (decLe maxVertices (r .vertices)) (λ a b. vert
     go : Dec (maxVertices ≤ r .vertices)
         → ((withVertex r) .vertices ≤ maxVertices → maxVertices < (withVertex r) .vertices + n → landVertices n (withVertex r) ≡ refused 22)
         → landVertices (suc n) r ≡ refused 22
-    go (yes q) ih = rw (vertex-full r q, landVertices)
+    go (yes q) ih = rw (full-refused r q, landVertices)
     go (no q) ih = rw (vertex-lands r (omega arith), landVertices) (ih (omega (arith, one-more r)) (omega (arith, one-more r)))
 
 no-vertices : empty .vertices ≡ 0
@@ -100,13 +102,13 @@ grow-over n es h = rw (vertices-over n empty (omega (arith, no-vertices)) (omega
 
 -- ---- growing again, on the tables and by the definition
 
-abbrev pub growing : Tables → Counts → Landed
+abbrev growing : Tables → Counts → Landed
 growing t c = growFrom (c .vertices) (edgesIn t (c .edges))
 
-abbrev pub regrown : Tables → Counts → LandingIn
+abbrev regrown : Tables → Counts → LandingIn
 regrown t c = regrowIn (t .ends) (t .lengths) c cleared
 
-pub regrow-agrees : (t : Tables) (c : Counts) → Agrees (growing t c) (regrown t c)
+regrow-agrees : (t : Tables) (c : Counts) → Agrees (growing t c) (regrown t c)
 unfolding regrowIn edgesIn upTo
 regrow-agrees t c = go (decLe (c .vertices) maxVertices)
   where
@@ -115,21 +117,15 @@ regrow-agrees t c = go (decLe (c .vertices) maxVertices)
         let n = c .vertices in
         let r = onVertices n in
         let es = edgesIn t (c .edges) in
-        let a = replay-agrees t (c .edges) 0 r (on-grown n q) in
+        let a = replay-agrees t (c .edges) 0 r (on-reachable n q) in
         rw (grown-from n es r (landEdges es r) (vertices-grow n q) refl, le-leb n maxVertices q, ← on-tables n, ← on-counts n) a
     go (no q) = rw (grow-over (c .vertices) (edgesIn t (c .edges)) (omega arith), lt-leb (c .vertices) maxVertices (omega arith)) refl
 
 -- ---- the claim
 
-abbrev pub stored : Tables → Counts → Stored
-stored t c = record { tables = t; counts = c }
-
-storedOf-is : (r : Register) (t : Tables) (c : Counts) → tablesOf r ≡ t → countsOf r ≡ c → storedOf r ≡ stored t c
-unfolding storedOf
-storedOf-is r t c h k = rw (h, k)
-
 -- a replay that leaves the tables and counts themselves finds the register that they hold
 pub replay-held : (t : Tables) (c : Counts) → regrown t c ≡ landingIn t (done c) → (r : Register) × (held (stored t c) ≡ some r)
+unfolding storedOf
 replay-held t c e = go (growing t c) refl (regrow-agrees t c)
   where
     go : (l : Landed) → growing t c ≡ l → Agrees (growing t c) (regrown t c) → (r : Register) × (held (stored t c) ≡ some r)
@@ -137,26 +133,23 @@ replay-held t c e = go (growing t c) refl (regrow-agrees t c)
         let a′ : regrown t c ≡ landingIn (tablesOf r) (done (countsOf r)) = rw q at a in
         let i = done-is (tablesOf r) t (countsOf r) c (sym a′ ∙ e) in
         let g : Reachable r = grow-reaches (c .vertices) (edgesIn t (c .edges)) r q in
-        (r, rw (← storedOf-is r t c (i .0) (i .1)) (stored-held r g))
+        (r, rw (i .0, i .1) at (stored-held r g))
     go (refused x) q a =
         let a′ : (regrown t c) .answer ≡ refusedIn x = rw q at a in
         absurd (refused-done t t x c (ap (landingIn t) (sym a′ ∙ ap (λ (l : LandingIn). l .answer) e)))
 
 -- what is stored for a register that landing leaves is left by its own replay
-pub stored-replays : (r : Register) → Reachable r → regrown (tablesOf r) (countsOf r) ≡ landingIn (tablesOf r) (done (countsOf r))
+stored-replays : (r : Register) → Reachable r → regrown (tablesOf r) (countsOf r) ≡ landingIn (tablesOf r) (done (countsOf r))
 unfolding storedOf
 stored-replays r g =
     let q : growing (tablesOf r) (countsOf r) ≡ landed r = grow-again r (regrows r g) in
     rw q at (regrow-agrees (tablesOf r) (countsOf r))
 
 -- so tables and counts that hold a register are left by their own replay
-pub held-replays : (t : Tables) (c : Counts) (r : Register) → held (stored t c) ≡ some r → regrown t c ≡ landingIn t (done c)
-unfolding storedOf
+held-replays : (t : Tables) (c : Counts) (r : Register) → held (stored t c) ≡ some r → regrown t c ≡ landingIn t (done c)
 held-replays t c r e =
     let h = only-held (stored t c) r e in
-    let i : t ≡ tablesOf r = ap (λ (s : Stored). s .tables) (h .stored-is) in
-    let j : c ≡ countsOf r = ap (λ (s : Stored). s .counts) (h .stored-is) in
-    rw (i, j) (stored-replays r (h .reachable))
+    rw (held-tables h, held-counts h) at (stored-replays r (h .reachable))
 
 pub replay-none : (t : Tables) (c : Counts) → regrown t c ≢ landingIn t (done c) → held (stored t c) ≡ none
 replay-none t c n = go (held (stored t c)) refl

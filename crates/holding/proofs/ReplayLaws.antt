@@ -5,26 +5,28 @@ use native.Mathlib.Nat.{not-suc-le-zero}
 use native.Mathlib.Numerals.{sub-one}
 use mathlib.Core.List.{List}
 use native.Mathlib.Omega.{arith}
-use mathlib.Core.Bool.{Bool, true, false}
+use mathlib.Core.Bool.{Bool, false}
 use lib.ListN.{getD}
 use lib.Dec.{eqb}
 use borrow.Author.Tests.{le-leb, lt-leb, eqb-true, eq-eqb}
+use Rattle.model.specs.Basics.{maxVertices}
 use Rattle.model.specs.Tables.{Tables, Counts, edgeIn}
-use Rattle.tables.specs.Steps.{tables, zeroed}
+use Rattle.model.proofs.Series.Equality.{counts-parts}
+use Rattle.tables.specs.Steps.{edgeOf, tables, zeroed, Tells}
 use Rattle.tables.proofs.Lists.{differ}
 use Rattle.insertion.specs.Insertion.{AnswerIn, done, refusedIn, LandingIn, landingIn, counts, landIn}
 use Rattle.agreement.proofs.Same.{Same}
-use Rattle.holding.specs.Replay.{ownEdge, replayIn, regrowIn, Regrows}
+use Rattle.holding.specs.Replay.{replayIn, regrowIn, Regrows}
 
 module _ (es ls : List ℕ) where
-  pub replay-full : (c : Counts) (t : Tables) → 4096 < c .vertices → landingIn t (refusedIn 22) ≡ regrowIn es ls c t
+  pub replay-full : (c : Counts) (t : Tables) → maxVertices < c .vertices → landingIn t (refusedIn 22) ≡ regrowIn es ls c t
   unfolding regrowIn
-  replay-full c t h = rw (lt-leb (c .vertices) 4096 h)
+  replay-full c t h = rw (lt-leb (c .vertices) maxVertices h)
 
-  pub replay-all : (c : Counts) (t : Tables) (l : LandingIn) → c .vertices ≤ 4096
+  pub replay-all : (c : Counts) (t : Tables) (l : LandingIn) → c .vertices ≤ maxVertices
       → l ≡ replayIn es ls (c .edges) 0 t (counts (c .vertices) 0 0 0) → l ≡ regrowIn es ls c t
   unfolding regrowIn
-  replay-all c t l h e = rw (le-leb (c .vertices) 4096 h) e
+  replay-all c t l h e = rw (le-leb (c .vertices) maxVertices h) e
 
   pub replay-end : (n e : ℕ) (t : Tables) (c : Counts) → n ≤ 0 → landingIn t (done c) ≡ replayIn es ls n e t c
   unfolding replayIn
@@ -39,42 +41,39 @@ answer-of e = ap (λ (l : LandingIn). l .answer) e
 
 -- the edge that the code reads
 own-edge : (es ls : List ℕ) (e i a b l : ℕ) → i ≡ 2 * e → a ≡ getD es i 0 → b ≡ getD es (i + 1) 0 → l ≡ getD ls e 0
-    → record { first = a; second = b; len = l } ≡ ownEdge es ls e
-unfolding ownEdge edgeIn
+    → record { first = a; second = b; len = l } ≡ edgeOf es ls e
+unfolding edgeOf edgeIn
 own-edge es ls e i a b l p q r s = rw (q, r, s, p)
 
-step-on : (es ls : List ℕ) (n e : ℕ) (t t′ : Tables) (c c′ : Counts) → 0 < n → landingIn t′ (done c′) ≡ landIn t c (ownEdge es ls e)
+replay-step-on : (es ls : List ℕ) (n e : ℕ) (t t′ : Tables) (c c′ : Counts) → 0 < n → landingIn t′ (done c′) ≡ landIn t c (edgeOf es ls e)
     → replayIn es ls n e t c ≡ replayIn es ls (n - 1) (e + 1) t′ c′
 unfolding replayIn
-step-on es ls zero e t t′ c c′ h q = absurd (not-suc-le-zero h)
-step-on es ls (suc n) e t t′ c c′ h q = rw (← answer-of q, sub-one, replayIn, ← tables-of q)
+replay-step-on es ls zero e t t′ c c′ h q = absurd (not-suc-le-zero h)
+replay-step-on es ls (suc n) e t t′ c c′ h q = rw (← answer-of q, sub-one, replayIn, ← tables-of q)
 
-step-refused : (es ls : List ℕ) (n e : ℕ) (t t′ : Tables) (c : Counts) (x : ℕ) → 0 < n → landingIn t′ (refusedIn x) ≡ landIn t c (ownEdge es ls e)
+replay-step-refused : (es ls : List ℕ) (n e : ℕ) (t t′ : Tables) (c : Counts) (x : ℕ) → 0 < n → landingIn t′ (refusedIn x) ≡ landIn t c (edgeOf es ls e)
     → landingIn t′ (refusedIn x) ≡ replayIn es ls n e t c
 unfolding replayIn
-step-refused es ls zero e t t′ c x h q = absurd (not-suc-le-zero h)
-step-refused es ls (suc n) e t t′ c x h q = rw (← answer-of q, replayIn) q
+replay-step-refused es ls zero e t t′ c x h q = absurd (not-suc-le-zero h)
+replay-step-refused es ls (suc n) e t t′ c x h q = rw (← answer-of q, replayIn) q
 
 module _ (es ls : List ℕ) (n e i a b l : ℕ) (t t′ : Tables) (c : Counts) (more : 0 < n) (at : i ≡ 2 * e)
     (first : a ≡ getD es i 0) (second : b ≡ getD es (i + 1) 0) (long : l ≡ getD ls e 0) where
   pub replay-on : (answer : AnswerIn) (c′ : Counts) → answer ≡ done c′ → landingIn t′ answer ≡ landIn t c (record { first = a; second = b; len = l })
       → replayIn es ls n e t c ≡ replayIn es ls (n - 1) (e + 1) t′ c′
   replay-on answer c′ w q =
-      step-on es ls n e t t′ c c′ more (ap (landingIn t′) (sym w) ∙ q ∙ ap (landIn t c) (own-edge es ls e i a b l at first second long))
+      replay-step-on es ls n e t t′ c c′ more (ap (landingIn t′) (sym w) ∙ q ∙ ap (landIn t c) (own-edge es ls e i a b l at first second long))
 
   pub replay-refused : (answer : AnswerIn) (x : ℕ) → answer ≡ refusedIn x → landingIn t′ answer ≡ landIn t c (record { first = a; second = b; len = l })
       → landingIn t′ (refusedIn x) ≡ replayIn es ls n e t c
   replay-refused answer x w q =
-      step-refused es ls n e t t′ c x more (ap (landingIn t′) (sym w) ∙ q ∙ ap (landIn t c) (own-edge es ls e i a b l at first second long))
+      replay-step-refused es ls n e t t′ c x more (ap (landingIn t′) (sym w) ∙ q ∙ ap (landIn t c) (own-edge es ls e i a b l at first second long))
 
 -- ---- the comparison
 
 pub counts-last : (a b : Counts) → a .vertices ≡ b .vertices → a .edges ≡ b .edges → a .blocks ≡ b .blocks
-    → (eqb (a .relabellings) (b .relabellings) ≡ true → a ≡ b) × (a ≡ b → eqb (a .relabellings) (b .relabellings) ≡ true)
-counts-last a b v e k = (λ h. all (eqb-true _ _ h), λ h. eq-eqb _ _ (ap (λ (c : Counts). c .relabellings) h))
-  where
-    all : a .relabellings ≡ b .relabellings → a ≡ b
-    all n = λ i. counts (v i) (e i) (k i) (n i)
+    → Tells (eqb (a .relabellings) (b .relabellings)) a b
+counts-last a b v e k = (λ h. counts-parts v e k (eqb-true _ _ h), λ h. eq-eqb _ _ (ap (λ (c : Counts). c .relabellings) h))
 
 pub done-is : (t t′ : Tables) (c c′ : Counts) → landingIn t (done c) ≡ landingIn t′ (done c′) → (t ≡ t′) × (c ≡ c′)
 done-is t t′ c c′ e = (tables-of e, of (answer-of e))
@@ -102,7 +101,7 @@ module _ (own : Tables) (c : Counts) (t t′ : Tables) (answer : AnswerIn) where
   regrows-other c′ w q h = regrows-not (λ e. h ((done-is t′ own c′ c (ap (landingIn t′) (sym w) ∙ q ∙ e)) .1))
 
   pub regrows-same : (c′ : Counts) (r : Bool) → answer ≡ done c′ → landingIn t′ answer ≡ regrowIn (own .ends) (own .lengths) c t → c′ ≡ c
-      → (r ≡ true → own ≡ t′) × (own ≡ t′ → r ≡ true) → Regrows r own c t
+      → Tells r own t′ → Regrows r own c t
   regrows-same c′ r w q h s =
       record {
         if-true = λ e. sym q ∙ ap (landingIn t′) w ∙ both (s .0 e);
@@ -112,9 +111,9 @@ module _ (own : Tables) (c : Counts) (t t′ : Tables) (answer : AnswerIn) where
       both : own ≡ t′ → landingIn t′ (done c′) ≡ landingIn own (done c)
       both e = rw (h, e)
 
-pub zeroed-again : (d s e l t d′ s′ e′ l′ t′ : List ℕ) → Same d s e l t d′ s′ e′ l′ t′ → zeroed (tables d′ s′ e′ l′ t′) ≡ zeroed (tables d s e l t)
+pub zeroed-again : {d s e l t d′ s′ e′ l′ t′ : List ℕ} → Same d s e l t d′ s′ e′ l′ t′ → zeroed (tables d′ s′ e′ l′ t′) ≡ zeroed (tables d s e l t)
 unfolding zeroed
-zeroed-again d s e l t d′ s′ e′ l′ t′ k = rw (k .degrees, k .sides, k .ends, k .lengths, k .labels)
+zeroed-again k = rw (k .degrees, k .sides, k .ends, k .lengths, k .labels)
 
 -- the same answer, and the same tables to land on
 pub regrows-on : (r r′ : Bool) (own : Tables) (c : Counts) (t t′ : Tables) → r′ ≡ r → t ≡ t′ → Regrows r own c t → Regrows r′ own c t′

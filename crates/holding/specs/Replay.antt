@@ -2,23 +2,18 @@
 use mathlib.Core.Path.{_≡_}
 use Prim.Native.Nat.{ℕ, zero, suc, _+_}
 use mathlib.Core.Bool.{Bool, true}
-use mathlib.Core.List.{List, []}
+use mathlib.Core.List.{List}
 use lib.Dec.{leb}
 use Rattle.model.specs.Basics.{if_then_else_, maxVertices}
-use Rattle.model.specs.Graph.{Edge}
-use Rattle.model.specs.Tables.{Tables, Counts, edgeIn}
-use Rattle.tables.specs.Steps.{tables}
+use Rattle.model.specs.Tables.{Tables, Counts}
+use Rattle.tables.specs.Steps.{edgeOf}
 use Rattle.insertion.specs.Insertion.{done, refusedIn, LandingIn, landingIn, counts, landIn}
 
--- the edge number e; it stands in the tables of ends and lengths alone
-unfoldable pub ownEdge : List ℕ → List ℕ → ℕ → Edge
-ownEdge ends lengths e = edgeIn (tables [] [] ends lengths []) e
-
--- n such edges, from number e on, landed on t
+-- n edges of the tables of ends and lengths, from number e on, landed on t
 unfoldable pub replayIn : List ℕ → List ℕ → ℕ → ℕ → Tables → Counts → LandingIn
 replayIn ends lengths zero e t c = landingIn t (done c)
 replayIn ends lengths (suc n) e t c =
-    let l = landIn t c (ownEdge ends lengths e) in
+    let l = landIn t c (edgeOf ends lengths e) in
     elim (l .answer) [
       | done c′ ↦ replayIn ends lengths n (e + 1) (l .tables) c′
       | refusedIn x ↦ l

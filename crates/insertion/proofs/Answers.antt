@@ -1,8 +1,8 @@
 -- The refusals of an edge, in their order, and the two ways out of an insertion.
-use mathlib.Core.Path.{_≡_, refl, sym, ap, _∙_, subst}
+use mathlib.Core.Path.{_≡_, refl, sym, ap, _∙_}
 use mathlib.Core.Bool.{Bool, true, false, _||_}
 use mathlib.Core.List.{List}
-use mathlib.Core.Option.{Option, none, some}
+use mathlib.Core.Option.{none, some}
 use Prim.Native.Nat.{ℕ, _<_, _≤_}
 use native.Mathlib.Omega.{arith}
 use native.Mathlib.Decide.{decLe, decLt}
@@ -16,20 +16,21 @@ use Rattle.model.specs.Tables.{Tables, Counts}
 use Rattle.counters.specs.Numbers.{within}
 use Rattle.counters.proofs.Within.{within-yes, within-below, within-above}
 use Rattle.tables.specs.Steps.{tables, setPair, more16, sum32}
-use Rattle.insertion.specs.Insertion.{Placed, placed, placeIn, counts, done, refusedIn, landingIn, insertIn, landIn}
+use Rattle.insertion.specs.Placing.{Placed, placed, placeIn}
+use Rattle.insertion.specs.Insertion.{counts, done, refusedIn, landingIn, insertIn, passed, failed, checkIn, landChecked, landIn}
 use Rattle.insertion.specs.Meaning.{checkedIn}
 use Rattle.insertion.specs.declared.landing.Checked.{Checked}
 use Rattle.insertion.proofs.Rings.{place-keeps}
 
 module _ (d s ends l t d′ s′ t′ : List ℕ) (c : Counts) (a b len da db blocks m : ℕ) (ring : Bool) (k : Case)
     (i : da ≡ getD d a 0) (j : db ≡ getD d b 0) (g : k ≡ caseOf (classOf da) (classOf db))
-    (p : placed ring d′ s′ t′ blocks m ≡ placeIn k d ends s t (c .blocks) a b (c .edges) (c .edges)) where
+    (p : placed ring d′ s′ t′ blocks m ≡ placeIn k d s ends t (c .blocks) a b (c .edges) (c .edges)) where
   pub insert-ring : ring ≡ true
       → landingIn (tables d′ s′ ends l t′) (refusedIn 24)
       ≡ insertIn (tables d s ends l t) c (record { first = a; second = b; len = len })
   unfolding insertIn
   insert-ring y =
-      let q = place-keeps k d ends s t (c .blocks) a b (c .edges) (c .edges) (ap (λ (x : Placed). x .ring) (sym p) ∙ y) in
+      let q = place-keeps k d s ends t (c .blocks) a b (c .edges) (c .edges) (ap (λ (x : Placed). x .ring) (sym p) ∙ y) in
       rw (
         ← i,
         ← j,
@@ -63,55 +64,50 @@ length-test n =
       ]
     ]
 
-abbrev IsNone : Option ℕ → Type 0
-IsNone none = Unit {0}
-IsNone (some n) = ⊥
-
 if-none : (t : Bool) (n : ℕ) → none ≡ (if t then none else some n) → t ≡ true
 if-none true n h = refl
-if-none false n h = absurd (subst IsNone h tt)
+if-none false n h = cc
 
 if-some : (t : Bool) (m n : ℕ) → some m ≡ (if t then none else some n) → (t ≡ false) × (m ≡ n)
-if-some true m n h = absurd (subst IsNone (sym h) tt)
+if-some true m n h = (cc, cc)
 if-some false m n h = (refl, cc)
 
--- an edge from a to b, n mm long: what landing it comes to
-module _ (t : Tables) (c : Counts) (a b n : ℕ) where
+-- an edge from a to b, n mm long: how it is checked
+module _ (c : Counts) (a b n : ℕ) where
   abbrev edge : Edge
   edge = record { first = a; second = b; len = n }
 
-  pub check-first : c .vertices ≤ a → landingIn t (refusedIn 5) ≡ landIn t c edge
-  unfolding landIn
+  pub check-first : c .vertices ≤ a → failed 5 ≡ checkIn c edge
+  unfolding checkIn
   check-first h = rw (le-ltb _ _ h)
 
-  pub check-second : a < c .vertices → c .vertices ≤ b → landingIn t (refusedIn 5) ≡ landIn t c edge
-  unfolding landIn
+  pub check-second : a < c .vertices → c .vertices ≤ b → failed 5 ≡ checkIn c edge
+  unfolding checkIn
   check-second h g = rw (lt-ltb _ _ h, le-ltb _ _ g)
 
-  pub check-same : a < c .vertices → b < c .vertices → a ≡ b → landingIn t (refusedIn 6) ≡ landIn t c edge
-  unfolding landIn
+  pub check-same : a < c .vertices → b < c .vertices → a ≡ b → failed 6 ≡ checkIn c edge
+  unfolding checkIn
   check-same h g e = rw (lt-ltb _ _ h, lt-ltb _ _ g, eq-eqb _ _ e)
 
-  pub check-length : a < c .vertices → b < c .vertices → (a ≡ b → ⊥) → none ≡ within 1 maxLength n
-      → landingIn t (refusedIn 7) ≡ landIn t c edge
-  unfolding landIn
+  pub check-length : a < c .vertices → b < c .vertices → (a ≡ b → ⊥) → none ≡ within 1 maxLength n → failed 7 ≡ checkIn c edge
+  unfolding checkIn
   check-length h g e l = rw (lt-ltb _ _ h, lt-ltb _ _ g, ne-eqb _ _ e, if-none (eqb n 0 || ltb maxLength n) n (l ∙ length-test n))
 
   pub check-edges : (m : ℕ) → a < c .vertices → b < c .vertices → (a ≡ b → ⊥)
-      → some m ≡ within 1 maxLength n → maxEdges ≤ c .edges → landingIn t (refusedIn 23) ≡ landIn t c edge
-  unfolding landIn
+      → some m ≡ within 1 maxLength n → maxEdges ≤ c .edges → failed 23 ≡ checkIn c edge
+  unfolding checkIn
   check-edges m h g e l o =
       rw (lt-ltb _ _ h, lt-ltb _ _ g, ne-eqb _ _ e, if-some (eqb n 0 || ltb maxLength n) m n (l ∙ length-test n) .0, le-leb _ _ o)
 
   pub check-passed : (m : ℕ) → a < c .vertices → b < c .vertices → (a ≡ b → ⊥)
-      → some m ≡ within 1 maxLength n → c .edges < maxEdges
-      → insertIn t c (record { first = a; second = b; len = m }) ≡ landIn t c edge
-  unfolding landIn
+      → some m ≡ within 1 maxLength n → c .edges < maxEdges → passed m ≡ checkIn c edge
+  unfolding checkIn
   check-passed m h g e l o =
       let q = if-some (eqb n 0 || ltb maxLength n) m n (l ∙ length-test n) in
       rw (lt-ltb _ _ h, lt-ltb _ _ g, ne-eqb _ _ e, q .0, lt-leb _ _ o, q .1)
 
-  -- landing goes on as the check's answer says
-  pub checked-given : (k k′ : Checked) → k ≡ k′ → ((u : Tables) → checkedIn k u c a b ≡ landIn u c edge)
-      → checkedIn k′ t c a b ≡ landIn t c edge
-  checked-given k k′ e all = ap (λ (x : Checked). checkedIn x t c a b) (sym e) ∙ all t
+-- landing goes on as the check's answer says
+pub checked-given : (t : Tables) (c : Counts) (e : Edge) (k k′ : Checked) → k ≡ k′ → checkedIn k ≡ checkIn c e
+    → landChecked t c e (checkedIn k′) ≡ landIn t c e
+unfolding landIn
+checked-given t c e k k′ q h = rw (← h, q)

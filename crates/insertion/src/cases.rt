@@ -35,7 +35,7 @@ pub fn class_of(degree: u16) -> Class
     }
 }
 
-// A leaf is told from the other classes first: the test that is hard to foresee is then one of two ways, not of four.
+// A leaf is told from the others first: the processor mispredicts this test most, and so it has two outcomes, not four.
 pub fn case_of(first: Class, second: Class) -> Case
     ensures { λ r. ⌜ caseIn r ≡ caseOf (classIn first) (classIn second) ⌝ }
 {

@@ -14,10 +14,9 @@ use tables::access::put32;
 use tables::steps::put_pair;
 ghost use mathlib.Core.Path.{_≡_};
 ghost use lib.ListN.{set};
-ghost use Rattle.model.specs.Tables.{Tables};
 ghost use Rattle.counters.specs.Answers.{countsIn};
 ghost use Rattle.tables.specs.Steps.{tables, setPair};
-ghost use Rattle.insertion.specs.Insertion.{landingIn, insertIn, landIn};
+ghost use Rattle.insertion.specs.Insertion.{landingIn, insertIn, checkIn, landIn};
 ghost use Rattle.insertion.specs.Meaning.{answerIn, checkedIn};
 
 // "At most 4,096 of each": a 4,097th is refused.
@@ -35,10 +34,9 @@ pub enum Checked {
     Refused(Refusal),
 }
 
-// Document 01's order. These refusals look at no table, so the answer says what landing comes to in any.
+// Document 01's order. These refusals look at no table.
 pub fn check_edge(counts: Counts, first: u16, second: u16, length: u32) -> Checked
-    ensures { λ r. ⌜ ((t : Tables) → checkedIn r t (countsIn counts) first second
-        ≡ landIn t (countsIn counts) (record { first = first; second = second; len = length })) ⌝ }
+    ensures { λ r. ⌜ checkedIn r ≡ checkIn (countsIn counts) (record { first = first; second = second; len = length }) ⌝ }
 {
     if counts.vertices <= first {
         return Checked::Refused(Refusal::NotLanded);
@@ -89,7 +87,7 @@ pub fn insert_edge(
     let b = second.0;
     let e = counts.edges;
     let case = case_of(class_of(of16(degrees, a)), class_of(of16(degrees, b)));
-    let p = place_edge(case, degrees, ends, sides, labels, counts.blocks, a, b, e);
+    let p = place_edge(case, degrees, sides, ends, labels, counts.blocks, a, b, e);
     if p.ring {
         return Inserted::Refused(Refusal::Ring);
     }
@@ -129,6 +127,7 @@ pub fn land_edge(
             lengths,
             labels,
             counts,
+            // below counts.vertices, so within Vertex::MAX in every register
             Vertex(first),
             Vertex(second),
             millimetres,

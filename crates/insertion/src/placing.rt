@@ -1,20 +1,18 @@
 // What an edge does to the degrees, the sides and the labels, case by case.
 use crate::cases::Case;
 use labels::labelling::extend_chain;
-use labels::merging::Merging;
+use labels::merging::ChainChange;
 use labels::merging::merge_chains;
 use tables::access::of16;
 use tables::access::put32;
 use tables::steps::put_pair;
 use tables::steps::raise_both;
 ghost use mathlib.Core.Path.{_≡_};
-ghost use mathlib.Core.List.{List};
-ghost use Prim.Native.Nat.{ℕ};
 ghost use lib.ListN.{set};
 ghost use Rattle.tables.specs.Steps.{setPair};
-ghost use Rattle.labels.specs.Labelling.{worn};
-ghost use Rattle.insertion.specs.Insertion.{openIn, placed, openBothIn, placeMerge, placeIn};
-ghost use Rattle.insertion.specs.Meaning.{caseIn, extensionIn, placementIn};
+ghost use Rattle.labels.specs.Labelling.{marksIn};
+ghost use Rattle.insertion.specs.Placing.{openIn, placed, openBothIn, placeMerge, placementFor, extensionIn, placeIn};
+ghost use Rattle.insertion.specs.Meaning.{caseIn};
 
 // The leaf whose chain goes on over the edge, if one does.
 pub enum Extension {
@@ -29,8 +27,7 @@ pub enum Placement {
 }
 
 pub fn placement_of(case: Case, a: u16, b: u16) -> Placement
-    ensures { λ r. ⌜ ((degrees ends sides labels : List ℕ) (blocks e n : ℕ) → placementIn r degrees ends sides labels blocks a b e n
-        ≡ placeIn (caseIn case) degrees ends sides labels blocks a b e n) ⌝ }
+    ensures { λ r. ⌜ r ≡ placementFor (caseIn case) a b ⌝ }
 {
     match case {
         Case::New => Placement::Open(Extension::Nothing),
@@ -47,8 +44,8 @@ pub fn placement_of(case: Case, a: u16, b: u16) -> Placement
 
 // Vertex v is regular no more. The pieces of its chain keep their labels and sides: no other vertex is touched, no chain looked up.
 pub fn split_vertex(sides: &mut [u16], labels: &mut [u32], v: u16)
-    ensures { λ _. ⌜ worn (now (sides .exit)) (now (labels .exit)) 0
-        ≡ worn (setPair (now (sides .entry)) v 0 0) (set (now (labels .entry)) v 0) 0 ⌝ }
+    ensures { λ _. ⌜ marksIn (now (sides .exit)) (now (labels .exit)) 0
+        ≡ marksIn (setPair (now (sides .entry)) v 0 0) (set (now (labels .entry)) v 0) 0 ⌝ }
 {
     put_pair(sides, v, 0, 0);
     put32(labels, v as usize, 0);
@@ -56,7 +53,7 @@ pub fn split_vertex(sides: &mut [u16], labels: &mut [u32], v: u16)
 
 // Vertex v before edge e comes to it: an isolated one becomes a leaf with e as its only edge, a regular one is split.
 pub fn open_end(degrees: &[u16], sides: &mut [u16], labels: &mut [u32], v: u16, e: u16)
-    ensures { λ _. ⌜ worn (now (sides .exit)) (now (labels .exit)) 0
+    ensures { λ _. ⌜ marksIn (now (sides .exit)) (now (labels .exit)) 0
         ≡ openIn (now (degrees .entry)) (now (sides .entry)) (now (labels .entry)) v e ⌝ }
 {
     let degree = of16(degrees, v);
@@ -77,14 +74,14 @@ pub fn open_both(
     a: u16,
     b: u16,
     e: u16,
-) -> Merging
+) -> ChainChange
     ensures { λ r. ⌜ placed (r .ring) (now (degrees .exit)) (now (sides .exit)) (now (labels .exit)) (r .blocks) (r .relabellings)
         ≡ openBothIn (now (degrees .entry)) (now (sides .entry)) (now (labels .entry)) blocks a b e ⌝ }
 {
     open_end(degrees, sides, labels, a, e);
     open_end(degrees, sides, labels, b, e);
     raise_both(degrees, a, b);
-    Merging::done(blocks, 0)
+    ChainChange::done(blocks, 0)
 }
 
 // Both ends are opened, and then the chain of a leaf goes on over edge e, if one does. The other end may have split that very chain,
@@ -92,43 +89,43 @@ pub fn open_both(
 pub fn place_open(
     extension: Extension,
     degrees: &mut [u16],
-    ends: &[u16],
     sides: &mut [u16],
+    ends: &[u16],
     labels: &mut [u32],
     blocks: u16,
     a: u16,
     b: u16,
     e: u16,
-) -> Merging
+) -> ChainChange
     ensures { λ r. ⌜ placed (r .ring) (now (degrees .exit)) (now (sides .exit)) (now (labels .exit)) (r .blocks) (r .relabellings)
-        ≡ extensionIn extension (now (degrees .entry)) (now (ends .entry)) (now (sides .entry)) (now (labels .entry)) blocks a b e ⌝ }
+        ≡ extensionIn extension (now (degrees .entry)) (now (sides .entry)) (now (ends .entry)) (now (labels .entry)) blocks a b e ⌝ }
 {
     let opened = open_both(degrees, sides, labels, blocks, a, b, e);
     match extension {
         Extension::Nothing => opened,
         Extension::Leaf(x) => {
-            let k = extend_chain(degrees, ends, sides, labels, blocks, x, e);
-            Merging::done(k, 0)
+            let k = extend_chain(degrees, sides, ends, labels, blocks, x, e);
+            ChainChange::done(k, 0)
         }
     }
 }
 
-// A ring leaves the degrees too.
+// Both chains are merged and the degrees raised. A ring leaves the degrees too.
 pub fn place_merge(
     degrees: &mut [u16],
-    ends: &[u16],
     sides: &mut [u16],
+    ends: &[u16],
     labels: &mut [u32],
     blocks: u16,
     a: u16,
     b: u16,
     e: u16,
     fuel: u16,
-) -> Merging
+) -> ChainChange
     ensures { λ r. ⌜ placed (r .ring) (now (degrees .exit)) (now (sides .exit)) (now (labels .exit)) (r .blocks) (r .relabellings)
-        ≡ placeMerge (now (degrees .entry)) (now (ends .entry)) (now (sides .entry)) (now (labels .entry)) blocks a b e fuel ⌝ }
+        ≡ placeMerge (now (degrees .entry)) (now (sides .entry)) (now (ends .entry)) (now (labels .entry)) blocks a b e fuel ⌝ }
 {
-    let m = merge_chains(degrees, ends, sides, labels, blocks, a, b, e, fuel);
+    let m = merge_chains(degrees, sides, ends, labels, blocks, a, b, e, fuel);
     if m.ring {
         return m;
     }
@@ -140,26 +137,26 @@ pub fn place_merge(
 pub fn place_edge(
     case: Case,
     degrees: &mut [u16],
-    ends: &[u16],
     sides: &mut [u16],
+    ends: &[u16],
     labels: &mut [u32],
     blocks: u16,
     a: u16,
     b: u16,
     e: u16,
-) -> Merging
+) -> ChainChange
     ensures { λ r. ⌜ placed (r .ring) (now (degrees .exit)) (now (sides .exit)) (now (labels .exit)) (r .blocks) (r .relabellings)
-        ≡ placeIn (caseIn case) (now (degrees .entry)) (now (ends .entry)) (now (sides .entry)) (now (labels .entry))
+        ≡ placeIn (caseIn case) (now (degrees .entry)) (now (sides .entry)) (now (ends .entry)) (now (labels .entry))
         blocks a b e e ⌝ }
 {
     let placement = placement_of(case, a, b);
     match placement {
-        Placement::Merge => place_merge(degrees, ends, sides, labels, blocks, a, b, e, e),
+        Placement::Merge => place_merge(degrees, sides, ends, labels, blocks, a, b, e, e),
         Placement::Open(extension) => place_open(
             extension,
             degrees,
-            ends,
             sides,
+            ends,
             labels,
             blocks,
             a,

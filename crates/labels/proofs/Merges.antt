@@ -1,61 +1,73 @@
--- The ways out of a merge. The walks stand at f and g after k steps; z is what the code answers.
+-- Two chains joined, a chain begun, and the ways out of a merge.
 use mathlib.Core.Path.{_≡_}
 use mathlib.Core.Bool.{Bool, true, false}
 use mathlib.Core.List.{List}
-use Prim.Native.Nat.{ℕ, _*_}
+use Prim.Native.Nat.{ℕ, _+_, _*_}
 use borrow.Author.Tests.{eq-eqb, ne-eqb}
 use lib.ListN.{getD}
-use Rattle.tables.specs.Steps.{farIn, more16}
-use Rattle.tables.specs.Walks.{met, lockstepIn}
-use Rattle.labels.specs.Labelling.{worn, joinIn, beginIn, merged, mergeAt, mergeIn}
-use Rattle.labels.specs.Keeping.{keeperIn}
+use Rattle.model.specs.Labels.{base}
+use Rattle.tables.specs.Steps.{farIn, more16, nextIn}
+use Rattle.tables.specs.Walks.{Met, lockstepIn}
+use Rattle.labels.specs.Labelling.{marksIn, countAhead, risesIn, labelVertexIn, relabelIn}
+use Rattle.labels.specs.Merging.{joinIn, beginIn, merged, keeperFor, keeperIn, mergeAt, mergeIn}
 use Rattle.labels.specs.declared.merging.Keeper.{Keeper}
 use Rattle.labels.specs.declared.merging.Keeper.the-variants.{Neither, Chain}
 
-pub merge-met : (degrees ends s l : List ℕ) (blocks a b e n da ua db ub f g k : ℕ)
-    → (da ≡ getD s (2 * a) 0) × (ua ≡ farIn ends da a) → (db ≡ getD s (2 * b) 0) × (ub ≡ farIn ends db b)
-    → met f g k ≡ lockstepIn degrees s ends n da ua db ub
-    → mergeAt degrees ends s l blocks a b e n da db (met f g k) ≡ mergeIn degrees ends s l blocks a b e n
-unfolding mergeIn
-merge-met degrees ends s l blocks a b e n da ua db ub f g k h i m = rw (← h .0, ← h .1, ← i .0, ← i .1, ← m)
+pub join-law : (degrees s ends l s₁ l₁ s₂ l₂ s₃ l₃ : List ℕ) (x y e n dx dy ux uy old lx ly ly′ m₁ m₂ m₃ : ℕ) (up : Bool)
+    → (dx ≡ getD s (2 * x) 0) × (ux ≡ farIn ends dx x) → (dy ≡ getD s (2 * y) 0) × (uy ≡ farIn ends dy y)
+    → up ≡ risesIn s dx ux → old ≡ getD l ux 0 → lx ≡ nextIn up old → ly ≡ nextIn up lx
+    → marksIn s₁ l₁ m₁ ≡ labelVertexIn s l x lx dx e up → marksIn s₂ l₂ m₂ ≡ labelVertexIn s₁ l₁ y ly e dy up
+    → ly′ ≡ nextIn up ly → marksIn s₃ l₃ m₃ ≡ relabelIn degrees ends up n s₂ l₂ dy uy ly′
+    → marksIn s₃ l₃ (m₁ + (m₂ + m₃)) ≡ joinIn degrees s ends l x y e n
+unfolding joinIn countAhead
+join-law degrees s ends l s₁ l₁ s₂ l₂ s₃ l₃ x y e n dx dy ux uy old lx ly ly′ m₁ m₂ m₃ up a b f g h i j k o p =
+    rw (← a .0, ← a .1, ← b .0, ← b .1, ← f, ← g, ← h, ← i, ← j, ← k, ← o, ← p)
 
--- which chain keeps its labels, where the edge makes no ring
-module _ (degrees ends s l : List ℕ) (blocks a b e n da db f g k : ℕ) (h : f ≡ b → ⊥) where
-  pub second-keeps : getD degrees g 0 ≡ 2
-      → keeperIn (Chain b a) degrees ends s l blocks a b e n da db ≡ mergeAt degrees ends s l blocks a b e n da db (met f g k)
-  unfolding mergeAt
-  second-keeps i = rw (ne-eqb _ _ h, eq-eqb _ _ i)
+pub begin-law : (s l s₁ l₁ s₂ l₂ : List ℕ) (a da b db e k low m₁ m₂ : ℕ) → low ≡ base k
+    → marksIn s₁ l₁ m₁ ≡ labelVertexIn s l a low da e true → marksIn s₂ l₂ m₂ ≡ labelVertexIn s₁ l₁ b (low + 1) e db true
+    → marksIn s₂ l₂ m₂ ≡ beginIn s l a da b db e k
+unfolding beginIn
+begin-law s l s₁ l₁ s₂ l₂ a da b db e k low m₁ m₂ h i j = rw (← h, ← i) j
 
-  module _ (i : getD degrees g 0 ≡ 2 → ⊥) where
-    pub first-keeps : getD degrees f 0 ≡ 2
-        → keeperIn (Chain a b) degrees ends s l blocks a b e n da db ≡ mergeAt degrees ends s l blocks a b e n da db (met f g k)
-    unfolding mergeAt
-    first-keeps o = rw (ne-eqb _ _ h, ne-eqb _ _ i, eq-eqb _ _ o)
+-- which chain keeps its labels, the walks having met at m
+module _ (degrees : List ℕ) (a b : ℕ) (m : Met) where
+  pub second-keeps : getD degrees (m .second) 0 ≡ 2 → Chain b a ≡ keeperFor degrees a b m
+  unfolding keeperFor
+  second-keeps h = rw (eq-eqb _ _ h)
 
-    pub neither-keeps : (getD degrees f 0 ≡ 2 → ⊥) → k ≡ 0
-        → keeperIn Neither degrees ends s l blocks a b e n da db ≡ mergeAt degrees ends s l blocks a b e n da db (met f g k)
-    unfolding mergeAt
-    neither-keeps o q = rw (ne-eqb _ _ h, ne-eqb _ _ i, ne-eqb _ _ o, eq-eqb _ _ q)
+  module _ (h : getD degrees (m .second) 0 ≡ 2 → ⊥) where
+    pub first-keeps : getD degrees (m .first) 0 ≡ 2 → Chain a b ≡ keeperFor degrees a b m
+    unfolding keeperFor
+    first-keeps i = rw (ne-eqb _ _ h, eq-eqb _ _ i)
 
-    pub tie-keeps : (getD degrees f 0 ≡ 2 → ⊥) → (k ≡ 0 → ⊥)
-        → keeperIn (Chain a b) degrees ends s l blocks a b e n da db ≡ mergeAt degrees ends s l blocks a b e n da db (met f g k)
-    unfolding mergeAt
-    tie-keeps o q = rw (ne-eqb _ _ h, ne-eqb _ _ i, ne-eqb _ _ o, ne-eqb _ _ q)
+    pub neither-keeps : (getD degrees (m .first) 0 ≡ 2 → ⊥) → m .steps ≡ 0 → Neither ≡ keeperFor degrees a b m
+    unfolding keeperFor
+    neither-keeps i j = rw (ne-eqb _ _ h, ne-eqb _ _ i, eq-eqb _ _ j)
 
-module _ (degrees ends s l : List ℕ) (blocks a b e n da db f g k : ℕ) (ring : Bool) (blocks′ m′ : ℕ) where
-  pub merge-ring : f ≡ b → (ring ≡ true) × ((blocks′ ≡ blocks) × (m′ ≡ 0))
-      → merged ring s l blocks′ m′ ≡ mergeAt degrees ends s l blocks a b e n da db (met f g k)
-  unfolding mergeAt
-  merge-ring h z = rw (z .0, z .1 .0, z .1 .1, eq-eqb _ _ h)
+    pub tie-keeps : (getD degrees (m .first) 0 ≡ 2 → ⊥) → (m .steps ≡ 0 → ⊥) → Chain a b ≡ keeperFor degrees a b m
+    unfolding keeperFor
+    tie-keeps i j = rw (ne-eqb _ _ h, ne-eqb _ _ i, ne-eqb _ _ j)
 
-  module _ (s′ l′ : List ℕ) (m : ℕ) (keeper : Keeper)
-      (h : keeperIn keeper degrees ends s l blocks a b e n da db ≡ mergeAt degrees ends s l blocks a b e n da db (met f g k)) where
-    pub merge-joined : (x y : ℕ) → keeper ≡ Chain x y → worn s′ l′ m ≡ joinIn degrees ends s l x y e n
-        → (ring ≡ false) × ((blocks′ ≡ blocks) × (m′ ≡ m))
-        → merged ring s′ l′ blocks′ m′ ≡ mergeAt degrees ends s l blocks a b e n da db (met f g k)
-    merge-joined x y o j z = rw (← h, o, z .0, z .1 .0, z .1 .1, ← j)
+module _ (degrees s ends l : List ℕ) (blocks a b e n da ua db ub : ℕ) (m : Met) (h : (da ≡ getD s (2 * a) 0) × (ua ≡ farIn ends da a))
+    (i : (db ≡ getD s (2 * b) 0) × (ub ≡ farIn ends db b)) (is : m ≡ lockstepIn degrees s ends n da ua db ub) where
+  pub merge-ring : (ring : Bool) (blocks′ m′ : ℕ) → m .first ≡ b → (ring ≡ true) × ((blocks′ ≡ blocks) × (m′ ≡ 0))
+      → merged ring s l blocks′ m′ ≡ mergeIn degrees s ends l blocks a b e n
+  unfolding mergeIn mergeAt
+  merge-ring ring blocks′ m′ o z = rw (z .0, z .1 .0, z .1 .1, ← h .0, ← h .1, ← i .0, ← i .1, ← is, eq-eqb _ _ o)
 
-    pub merge-begun : (c : ℕ) → keeper ≡ Neither → c ≡ more16 blocks → worn s′ l′ m ≡ beginIn s l a da b db e c
-        → (ring ≡ false) × ((blocks′ ≡ c) × (m′ ≡ 0))
-        → merged ring s′ l′ blocks′ m′ ≡ mergeAt degrees ends s l blocks a b e n da db (met f g k)
-    merge-begun c o r j z = rw (← h, o, z .0, z .1 .0, z .1 .1, ← r, ← j)
+  pub merge-kept : (keeper : Keeper) → (m .first ≡ b → ⊥) → keeper ≡ keeperFor degrees a b m
+      → keeperIn keeper degrees s ends l blocks a b e n da db ≡ mergeIn degrees s ends l blocks a b e n
+  unfolding mergeIn mergeAt
+  merge-kept keeper o k = rw (← h .0, ← h .1, ← i .0, ← i .1, ← is, ne-eqb _ _ o, ← k)
+
+-- what the code answers, by the chain that keeps its labels
+module _ (degrees s ends l s′ l′ : List ℕ) (blocks a b e n da db m blocks′ m′ : ℕ) (ring : Bool) (keeper : Keeper) where
+  pub answer-joined : (x y : ℕ) → keeper ≡ Chain x y → marksIn s′ l′ m ≡ joinIn degrees s ends l x y e n
+      → (ring ≡ false) × ((blocks′ ≡ blocks) × (m′ ≡ m))
+      → merged ring s′ l′ blocks′ m′ ≡ keeperIn keeper degrees s ends l blocks a b e n da db
+  answer-joined x y o j z = rw (o, z .0, z .1 .0, z .1 .1, ← j)
+
+  pub answer-begun : (k : ℕ) → keeper ≡ Neither → k ≡ more16 blocks → marksIn s′ l′ m ≡ beginIn s l a da b db e k
+      → (ring ≡ false) × ((blocks′ ≡ k) × (m′ ≡ 0))
+      → merged ring s′ l′ blocks′ m′ ≡ keeperIn keeper degrees s ends l blocks a b e n da db
+  answer-begun k o r j z = rw (o, z .0, z .1 .0, z .1 .1, ← r, ← j)

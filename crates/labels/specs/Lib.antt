@@ -1,2 +1,2 @@
 pub mod Labelling
-pub mod Keeping
+pub mod Merging

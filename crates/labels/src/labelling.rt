@@ -17,12 +17,8 @@ use tables::walks::Walker;
 use tables::walks::leave_leaf;
 use tables::walks::step_over;
 ghost use mathlib.Core.Path.{_≡_};
-ghost use mathlib.Core.Bool.{not};
-ghost use Prim.Native.Nat.{_*_};
-ghost use lib.Dec.{eqb};
-ghost use lib.ListN.{getD};
 ghost use Rattle.model.specs.Labels.{base, isRelabelled};
-ghost use Rattle.labels.specs.Labelling.{worn, orientIn, labelVertexIn, relabelIn, extendIn};
+ghost use Rattle.labels.specs.Labelling.{marksIn, orientIn, labelVertexIn, relabelIn, risesIn, extendIn};
 
 // The first label of block k: document 01's base of the k-th birth.
 pub fn base(k: u16) -> u32
@@ -31,19 +27,19 @@ pub fn base(k: u16) -> u32
     8192 * (k as u32)
 }
 
-// The sides of vertex v. Upwards the edge before it, `inner`, is the low one.
-pub fn orient_sides(sides: &mut [u16], v: u16, inner: u16, outer: u16, up: bool)
-    ensures { λ _. ⌜ now (sides .exit) ≡ orientIn up (now (sides .entry)) v inner outer ⌝ }
+// The sides of vertex v. Upwards the edge before it is the low one.
+pub fn orient_sides(sides: &mut [u16], v: u16, before: u16, after: u16, up: bool)
+    ensures { λ _. ⌜ now (sides .exit) ≡ orientIn up (now (sides .entry)) v before after ⌝ }
 {
     if up {
-        put_pair(sides, v, inner, outer);
+        put_pair(sides, v, before, after);
     } else {
-        put_pair(sides, v, outer, inner);
+        put_pair(sides, v, after, before);
     }
 }
 
 // Document 01's re-hanging: both labels are not 0, and they differ.
-pub fn relabelled(old: u32, new: u32) -> bool
+pub fn is_relabelled(old: u32, new: u32) -> bool
     ensures { λ r. ⌜ r ≡ isRelabelled old new ⌝ }
 {
     if old == 0 {
@@ -61,33 +57,33 @@ pub fn label_vertex(
     labels: &mut [u32],
     v: u16,
     label: u32,
-    inner: u16,
-    outer: u16,
+    before: u16,
+    after: u16,
     up: bool,
 ) -> u32
-    ensures { λ r. ⌜ worn (now (sides .exit)) (now (labels .exit)) r
-        ≡ labelVertexIn (now (sides .entry)) (now (labels .entry)) v label inner outer up ⌝ }
+    ensures { λ r. ⌜ marksIn (now (sides .exit)) (now (labels .exit)) r
+        ≡ labelVertexIn (now (sides .entry)) (now (labels .entry)) v label before after up ⌝ }
 {
     let i = v as usize;
     let old = at32(labels, i);
     put32(labels, i, label);
-    orient_sides(sides, v, inner, outer, up);
-    if relabelled(old, label) { 1 } else { 0 }
+    orient_sides(sides, v, before, after, up);
+    if is_relabelled(old, label) { 1 } else { 0 }
 }
 
 // The regular vertices from the walker's on get the labels from `label` on. The answer counts the relabelled. Each step is found
 // before the vertex is labelled, since that changes its sides.
 pub fn relabel_chain(
     degrees: &[u16],
-    ends: &[u16],
     sides: &mut [u16],
+    ends: &[u16],
     labels: &mut [u32],
     from: Walker,
     label: u32,
     up: bool,
     fuel: u16,
 ) -> u32
-    ensures { λ r. ⌜ worn (now (sides .exit)) (now (labels .exit)) r
+    ensures { λ r. ⌜ marksIn (now (sides .exit)) (now (labels .exit)) r
         ≡ relabelIn (now (degrees .entry)) (now (ends .entry)) up fuel (now (sides .entry)) (now (labels .entry))
         (from .edge) (from .at) label ⌝ }
 {
@@ -111,7 +107,7 @@ pub fn relabel_chain(
 // Whether labels rise from the walker's vertex back over its edge: that edge is not the low one. A lone regular vertex that a split
 // left has its sides still, so at its low end labels fall; were they to rise there too, two chains would soon share one.
 pub fn rises(sides: &[u16], w: Walker) -> bool
-    ensures { λ r. ⌜ r ≡ not (eqb (getD (now (sides .entry)) (2 * w .at) 0) (w .edge)) ⌝ }
+    ensures { λ r. ⌜ r ≡ risesIn (now (sides .entry)) (w .edge) (w .at) ⌝ }
 {
     low_edge(sides, w.at) != w.edge
 }
@@ -119,15 +115,15 @@ pub fn rises(sides: &[u16], w: Walker) -> bool
 // The chain at the leaf x goes on over edge e. The answer is the number of blocks.
 pub fn extend_chain(
     degrees: &[u16],
-    ends: &[u16],
     sides: &mut [u16],
+    ends: &[u16],
     labels: &mut [u32],
     blocks: u16,
     x: u16,
     e: u16,
 ) -> u16
-    ensures { λ r. ⌜ worn (now (sides .exit)) (now (labels .exit)) r
-        ≡ extendIn (now (degrees .entry)) (now (ends .entry)) (now (sides .entry)) (now (labels .entry)) blocks x e ⌝ }
+    ensures { λ r. ⌜ marksIn (now (sides .exit)) (now (labels .exit)) r
+        ≡ extendIn (now (degrees .entry)) (now (sides .entry)) (now (ends .entry)) (now (labels .entry)) blocks x e ⌝ }
 {
     let w = leave_leaf(sides, ends, x);
     if of16(degrees, w.at) == 2 {

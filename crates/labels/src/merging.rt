@@ -12,35 +12,33 @@ use tables::walks::leave_leaf;
 use tables::walks::walk_lockstep;
 ghost use mathlib.Core.Path.{_≡_};
 ghost use mathlib.Core.Bool.{true, false};
-ghost use mathlib.Core.List.{List};
-ghost use Prim.Native.Nat.{ℕ};
 ghost use Rattle.tables.specs.Walks.{met};
-ghost use Rattle.labels.specs.Labelling.{worn, joinIn, beginIn, merged, mergeAt, mergeIn};
-ghost use Rattle.labels.specs.Keeping.{keeperIn};
+ghost use Rattle.labels.specs.Labelling.{marksIn};
+ghost use Rattle.labels.specs.Merging.{joinIn, beginIn, merged, keeperFor, mergeIn};
 
-// What an edge makes of the counts: the number of blocks (document 01: births), and of the vertices that it relabelled (re-hung). A
-// ring is refused.
-pub struct Merging {
+// What an edge makes of the chains: a ring, which is refused; or the number of blocks (document 01: births) then, and of the vertices
+// relabelled (re-hung).
+pub struct ChainChange {
     pub ring: bool,
     pub blocks: u16,
     pub relabellings: u32,
 }
 
-impl Merging {
-    pub fn ring(blocks: u16) -> Merging
+impl ChainChange {
+    pub fn ring(blocks: u16) -> ChainChange
         ensures { λ r. ⌜ (r .ring ≡ true) × ((r .blocks ≡ blocks) × (r .relabellings ≡ 0)) ⌝ }
     {
-        Merging {
+        ChainChange {
             ring: true,
             blocks,
             relabellings: 0,
         }
     }
 
-    pub fn done(blocks: u16, relabellings: u32) -> Merging
+    pub fn done(blocks: u16, relabellings: u32) -> ChainChange
         ensures { λ r. ⌜ (r .ring ≡ false) × ((r .blocks ≡ blocks) × (r .relabellings ≡ relabellings)) ⌝ }
     {
-        Merging {
+        ChainChange {
             ring: false,
             blocks,
             relabellings,
@@ -52,16 +50,16 @@ impl Merging {
 // answer counts the relabelled.
 pub fn join_chains(
     degrees: &[u16],
-    ends: &[u16],
     sides: &mut [u16],
+    ends: &[u16],
     labels: &mut [u32],
     x: u16,
     y: u16,
     e: u16,
     fuel: u16,
 ) -> u32
-    ensures { λ r. ⌜ worn (now (sides .exit)) (now (labels .exit)) r
-        ≡ joinIn (now (degrees .entry)) (now (ends .entry)) (now (sides .entry)) (now (labels .entry)) x y e fuel ⌝ }
+    ensures { λ r. ⌜ marksIn (now (sides .exit)) (now (labels .exit)) r
+        ≡ joinIn (now (degrees .entry)) (now (sides .entry)) (now (ends .entry)) (now (labels .entry)) x y e fuel ⌝ }
 {
     let kept = leave_leaf(sides, ends, x);
     let other = leave_leaf(sides, ends, y);
@@ -71,11 +69,12 @@ pub fn join_chains(
     let n = label_vertex(sides, labels, x, lx, kept.edge, e, up);
     let m = label_vertex(sides, labels, y, ly, e, other.edge, up);
     let lz = next_label(ly, up);
-    let rest = relabel_chain(degrees, ends, sides, labels, other, lz, up, fuel);
+    let rest = relabel_chain(degrees, sides, ends, labels, other, lz, up, fuel);
     n + (m + rest)
 }
 
-// Two chains without regular vertices become one with two, a and b, in block k. The answer is 1 where b is relabelled: no leaf is.
+// Two chains without regular vertices become one with two, a and b, in block k. The answer, whether b is relabelled, is not used: a leaf
+// has no label.
 pub fn begin_chain(
     sides: &mut [u16],
     labels: &mut [u32],
@@ -86,7 +85,7 @@ pub fn begin_chain(
     e: u16,
     k: u16,
 ) -> u32
-    ensures { λ r. ⌜ worn (now (sides .exit)) (now (labels .exit)) r
+    ensures { λ r. ⌜ marksIn (now (sides .exit)) (now (labels .exit)) r
         ≡ beginIn (now (sides .entry)) (now (labels .entry)) a da b db e k ⌝ }
 {
     let low = base(k);
@@ -102,10 +101,7 @@ pub enum Keeper {
 
 // The chain with more regular vertices keeps its labels, a's on a tie: a walk that still stands at one is that of the longer chain.
 pub fn keeper_of(degrees: &[u16], meeting: Meeting, a: u16, b: u16) -> Keeper
-    ensures { λ r. ⌜ ((ends sides labels : List ℕ) (blocks e n da db : ℕ) → (meeting .first ≡ b → ⊥)
-        → keeperIn r (now (degrees .entry)) ends sides labels blocks a b e n da db
-        ≡ mergeAt (now (degrees .entry)) ends sides labels blocks a b e n da db
-        (met (meeting .first) (meeting .second) (meeting .steps))) ⌝ }
+    ensures { λ r. ⌜ r ≡ keeperFor (now (degrees .entry)) a b (met (meeting .first) (meeting .second) (meeting .steps)) ⌝ }
 {
     if of16(degrees, meeting.second) == 2 {
         return Keeper::Chain(b, a);
@@ -123,34 +119,34 @@ pub fn keeper_of(degrees: &[u16], meeting: Meeting, a: u16, b: u16) -> Keeper
 // labels; and it shows a ring, where a's walk ends at b.
 pub fn merge_chains(
     degrees: &[u16],
-    ends: &[u16],
     sides: &mut [u16],
+    ends: &[u16],
     labels: &mut [u32],
     blocks: u16,
     a: u16,
     b: u16,
     e: u16,
     fuel: u16,
-) -> Merging
+) -> ChainChange
     ensures { λ r. ⌜ merged (r .ring) (now (sides .exit)) (now (labels .exit)) (r .blocks) (r .relabellings)
-        ≡ mergeIn (now (degrees .entry)) (now (ends .entry)) (now (sides .entry)) (now (labels .entry)) blocks a b e fuel ⌝ }
+        ≡ mergeIn (now (degrees .entry)) (now (sides .entry)) (now (ends .entry)) (now (labels .entry)) blocks a b e fuel ⌝ }
 {
     let first = leave_leaf(sides, ends, a);
     let second = leave_leaf(sides, ends, b);
     let met = walk_lockstep(degrees, sides, ends, first, second, fuel);
     if met.first == b {
-        return Merging::ring(blocks);
+        return ChainChange::ring(blocks);
     }
     let keeper = keeper_of(degrees, met, a, b);
     match keeper {
         Keeper::Neither => {
             let k = one_more16(blocks);
             begin_chain(sides, labels, a, first.edge, b, second.edge, e, k);
-            Merging::done(k, 0)
+            ChainChange::done(k, 0)
         }
         Keeper::Chain(x, y) => {
-            let n = join_chains(degrees, ends, sides, labels, x, y, e, fuel);
-            Merging::done(blocks, n)
+            let n = join_chains(degrees, sides, ends, labels, x, y, e, fuel);
+            ChainChange::done(blocks, n)
         }
     }
 }

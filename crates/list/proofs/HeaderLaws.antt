@@ -1,14 +1,14 @@
 -- The ways out of reading a header.
-use mathlib.Core.Path.{_≡_, refl, sym}
+use mathlib.Core.Path.{_≡_}
 use mathlib.Core.Logic.{_≢_}
 use Prim.Native.Nat.{ℕ, _≤_, _<_}
-use mathlib.Core.Bool.{Bool, true, false, not}
+use mathlib.Core.Bool.{true, false}
 use mathlib.Core.List.{List}
 use lib.ListN.{length, getD}
 use lib.Dec.{eqb}
 use borrow.Author.Tests.{eq-eqb, ne-eqb, le-leb, lt-leb, lt-ltb, le-ltb}
 use Rattle.model.specs.Format.{byteAt, u16At, hasMark, headerRefusal}
-use Rattle.list.specs.Reading.{HeaderAt, good, badHeader, headerAt}
+use Rattle.list.specs.Reading.{good, badHeader, headerAt}
 
 module _ (bs : List ℕ) where
   pub mark-short : length bs < 3 → false ≡ hasMark bs

@@ -1,17 +1,14 @@
 -- The ways out of reading a record at index i.
-use mathlib.Core.Path.{_≡_, refl, sym, _∙_, ap}
+use mathlib.Core.Path.{_≡_}
 use mathlib.Core.Logic.{_≢_}
-use Prim.Native.Nat.{ℕ, zero, suc, _+_, _*_, _-_, _≤_, _<_}
+use Prim.Native.Nat.{ℕ, suc, _+_, _-_, _≤_, _<_}
 use native.Mathlib.Omega.{arith}
-use mathlib.Core.Bool.{Bool, true, false}
-use mathlib.Core.List.{List, [], _∷_}
+use mathlib.Core.List.{List, _∷_}
 use lib.ListN.{length, getD, drop, length-drop, drop-of-length-le}
 use lib.Seq.{drop-cons, getD-drop}
-use lib.Dec.{eqb}
 use borrow.Author.Tests.{eq-eqb, ne-eqb, lt-ltb, le-ltb}
-use Rattle.model.specs.Graph.{Edge}
-use Rattle.model.specs.Format.{byteAt, u16At, u32At, firstRecord, vertex, edge, bad}
-use Rattle.list.specs.Reading.{RecordAt, ends, vertexTo, edgeTo, badRecord, recordOf, recordAt}
+use Rattle.model.specs.Format.{byteAt, u16At, u32At, firstRecord}
+use Rattle.list.specs.Reading.{ends, vertexTo, edgeTo, badRecord, recordOf, recordAt}
 
 -- numbers behind the first i + 1 bytes
 u16-behind : (bs : List ℕ) (i k n : ℕ) → i + k ≡ n → u16At (drop i bs) k ≡ u16At bs n

@@ -1,7 +1,7 @@
 -- What stands in a list's bytes, by index, said with the definitions of model's Format; and what the enums of this crate mean.
-use Prim.Native.Nat.{ℕ, suc, _+_}
+use Prim.Native.Nat.{ℕ, _+_}
 use mathlib.Core.List.{List, [], _∷_}
-use mathlib.Core.Option.{Option, none, some}
+use mathlib.Core.Option.{none, some}
 use lib.ListN.{drop}
 use Rattle.model.specs.Graph.{Edge}
 use Rattle.model.specs.Format.{vertex, edge, bad, firstRecord, headerRefusal}

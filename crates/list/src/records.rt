@@ -7,6 +7,15 @@ ghost use Prim.Native.Nat.{_+_};
 ghost use Rattle.model.specs.Format.{hasMark};
 ghost use Rattle.list.specs.Reading.{headerIn, headerAt, recordIn, recordAt};
 
+const VERTEX_KIND: u8 = 0x46;
+
+const EDGE_KIND: u8 = 0x50;
+
+// In bytes; a vertex record is its kind alone.
+const HEADER_LENGTH: usize = 5;
+
+const EDGE_LENGTH: usize = 9;
+
 // The index of the next byte.
 pub struct Cursor {
     pub at: usize,
@@ -32,13 +41,13 @@ fn has_mark(list: &[u8]) -> bool
     if list.len() < 3 {
         return false;
     }
-    if list[0] != 0x50 {
+    if list[0] != b'P' {
         return false;
     }
-    if list[1] != 0x4E {
+    if list[1] != b'N' {
         return false;
     }
-    list[2] == 0x4C
+    list[2] == b'L'
 }
 
 pub fn read_header(list: &[u8]) -> Header
@@ -47,13 +56,13 @@ pub fn read_header(list: &[u8]) -> Header
     if !has_mark(list) {
         return Header::Refused(Refusal::NoMark);
     }
-    if list.len() < 5 {
+    if list.len() < HEADER_LENGTH {
         return Header::Refused(Refusal::Cut);
     }
     if u16_at(list, 3) != 1 {
         return Header::Refused(Refusal::Version);
     }
-    Header::Good(Cursor { at: 5 })
+    Header::Good(Cursor { at: HEADER_LENGTH })
 }
 
 // The kind comes before the cut: a last byte of no kind is refused as such.
@@ -65,17 +74,24 @@ pub fn next_record(list: &[u8], c: Cursor) -> Record
         return Record::End;
     }
     let kind = list[at];
-    if kind == 0x46 {
+    if kind == VERTEX_KIND {
         return Record::Vertex(Cursor { at: at + 1 });
     }
-    if kind != 0x50 {
+    if kind != EDGE_KIND {
         return Record::Refused(Refusal::UnknownKind);
     }
-    if list.len() - at < 9 {
+    if list.len() - at < EDGE_LENGTH {
         return Record::Refused(Refusal::Cut);
     }
     let first = u16_at(list, at + 1);
     let second = u16_at(list, at + 3);
     let length = u32_at(list, at + 5);
-    Record::Edge(first, second, length, Cursor { at: at + 9 })
+    Record::Edge(
+        first,
+        second,
+        length,
+        Cursor {
+            at: at + EDGE_LENGTH,
+        },
+    )
 }

@@ -13,13 +13,15 @@ use Rattle.model.specs.Tables.{Tables, Counts, tablesOf}
 use Rattle.model.specs.Calls.{finds, reaches, sheets, answers, effect, sheetEffect}
 use Rattle.model.specs.Notions.{Reachable}
 use Rattle.model.proofs.Chains.Sheet.{sheet-length}
+use Rattle.model.proofs.Series.OnlyHeld.{held-counts, held-tables}
 use Rattle.tables.specs.Steps.{tables}
-use Rattle.queries.specs.Chains.{findIn, reachIn, sheetIn}
+use Rattle.queries.specs.Chains.{sheetIn}
+use Rattle.queries.specs.Finding.{findIn, reachIn}
 use Rattle.agreement.proofs.Reached.{labels-long}
 use Rattle.agreement.proofs.Finding.{find-agrees, reach-agrees}
 use Rattle.agreement.proofs.Sheeting.{sheet-agrees}
 use Rattle.lookups.specs.Answering.{Sheeted, sheeted, sheetedIn}
-use Rattle.lookups.proofs.QueryLaws.{Answers}
+use Rattle.admission.proofs.QueryLaws.{Answers}
 
 -- the table of labels has 4,096 elements, so all are looked at
 labels-whole : (r : Register) → Reachable r → (labels : List ℕ) → (tablesOf r) .labels ≡ labels → take maxVertices labels ≡ labels
@@ -31,15 +33,15 @@ labels-whole r g labels e =
 pub find-answers : (d s e l labels : List ℕ) (c : Counts) (label : ℕ) (a : Reply)
     → a ≡ findIn (tables d s e l (take maxVertices labels)) c label → Answers (finds label) (tables d s e l labels) c [] a
 unfolding effect answers
-find-answers d s e l labels c label a h r g i j =
-    let w : take maxVertices labels ≡ labels = labels-whole r g labels (ap (λ (t : Tables). t .labels) i) in
-    let f : findIn (tables d s e l labels) c label ≡ find r label = rw (i, j) at (find-agrees r g label) in
+find-answers d s e l labels c label a h r k =
+    let w : take maxVertices labels ≡ labels = labels-whole r (k .reachable) labels (ap (λ (t : Tables). t .labels) (held-tables k)) in
+    let f : findIn (tables d s e l labels) c label ≡ find r label = rw (held-tables k, held-counts k) at (find-agrees r (k .reachable) label) in
     rw (h, w, f)
 
 pub reach-answers : (t : Tables) (c : Counts) (v : ℕ) (a : Reply) → a ≡ reachIn t c v → Answers (reaches v) t c [] a
 unfolding effect answers
-reach-answers t c v a h r g i j =
-    let f : reachIn t c v ≡ reach r v = rw (i, j) at (reach-agrees r g v) in
+reach-answers t c v a h r k =
+    let f : reachIn t c v ≡ reach r v = rw (held-tables k, held-counts k) at (reach-agrees r (k .reachable) v) in
     rw (h, f)
 
 numbers-are : (r : Register) → concat (sheet r) ≡ sheetNumbers r
@@ -49,16 +51,16 @@ numbers-are r = refl
 pub sheet-answers : (t : Tables) (c : Counts) (xs ys : List ℕ) (a : Reply) → sheeted ys a ≡ sheetedIn t c xs
     → Answers (sheets xs) t c ys a
 unfolding effect sheetEffect sheetedIn inFront
-sheet-answers t c xs ys a h r g i j = go (ltb (length xs) (5 * length (sheet r))) refl
+sheet-answers t c xs ys a h r k = go (ltb (length xs) (5 * length (sheet r))) refl
   where
     rows-are : sheetIn t c ≡ sheet r
-    rows-are = rw (i, j) at (sheet-agrees r g)
+    rows-are = rw (held-tables k, held-counts k) at (sheet-agrees r (k .reachable))
 
     go : (b : Bool) → ltb (length xs) (5 * length (sheet r)) ≡ b
         → effect (sheets xs) r ≡ record { leaves = r; slice = ys; reply = a }
     go true e =
-        let k = rw (rows-are, e) at h in
-        rw (sheet-length r, e, ap (λ (x : Sheeted). x .slice) k, ap (λ (x : Sheeted). x .reply) k)
+        let q = rw (rows-are, e) at h in
+        rw (sheet-length r, e, ap (λ (x : Sheeted). x .slice) q, ap (λ (x : Sheeted). x .reply) q)
     go false e =
-        let k = rw (rows-are, numbers-are r, sheet-length r, e) at h in
-        rw (sheet-length r, e, ap (λ (x : Sheeted). x .slice) k, ap (λ (x : Sheeted). x .reply) k)
+        let q = rw (rows-are, numbers-are r, sheet-length r, e) at h in
+        rw (sheet-length r, e, ap (λ (x : Sheeted). x .slice) q, ap (λ (x : Sheeted). x .reply) q)

@@ -1,3 +1,2 @@
-pub mod QueryLaws
 pub mod AnswerLaws
 pub mod TableLaws

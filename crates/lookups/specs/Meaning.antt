@@ -1,11 +1,6 @@
--- Document 01's values of the answers to find, reach and sheet, and the outcome of a query.
-use Prim.Native.Nat.{ℕ}
-use mathlib.Core.List.{List}
+-- Document 01's values of the answers to find, reach and sheet.
 use Rattle.model.specs.Queries.{Reply, found, reached, listed, refuses}
-use Rattle.model.specs.Tables.{Tables, Counts}
-use Rattle.model.specs.Calls.{Outcome}
 use Rattle.counters.specs.Refusals.{numberOf}
-use Rattle.admission.specs.Lent.{lent}
 use Rattle.lookups.specs.declared.find.FoundChain.{FoundChain}
 use Rattle.lookups.specs.declared.find.FoundChain.the-variants as find
 use Rattle.lookups.specs.declared.reach.Reached.{Reached}
@@ -27,7 +22,3 @@ reachedReply (reach.Refused x) = refuses (numberOf x)
 abbrev pub listedReply : Listed → Reply
 listedReply (sheet.Chains n) = listed n
 listedReply (sheet.Refused x) = refuses (numberOf x)
-
--- what a query leaves and answers: tables, counts, scratch, the lent slice, the answer
-abbrev pub answered : Tables → Counts → Tables → List ℕ → Reply → Outcome
-answered t c s xs a = record { lent = lent t c s; slice = xs; reply = a }

@@ -5,7 +5,7 @@ use counters::counts::Counts;
 use counters::numbers::Label;
 use counters::refusals::Refusal;
 use queries::lookup::Found;
-use queries::lookup::find_wearer;
+use queries::lookup::find_label;
 use queries::lookup::name_of;
 use tables::steps::low_edge;
 ghost use mathlib.Core.Path.{_≡_};
@@ -16,9 +16,9 @@ ghost use Rattle.model.specs.Basics.{maxVertices};
 ghost use Rattle.model.specs.Calls.{finds, step};
 ghost use Rattle.counters.specs.Answers.{countsIn};
 ghost use Rattle.tables.specs.Steps.{tables};
-ghost use Rattle.queries.specs.Chains.{findIn};
-ghost use Rattle.admission.specs.Lent.{lent};
-ghost use Rattle.lookups.specs.Meaning.{answered, foundReply};
+ghost use Rattle.queries.specs.Finding.{findIn};
+ghost use Rattle.admission.specs.Lent.{lent, outcome};
+ghost use Rattle.lookups.specs.Meaning.{foundReply};
 
 // The name of a chain, which is the lowest number of an edge there.
 pub enum FoundChain {
@@ -43,8 +43,8 @@ pub fn find_in(
     if x == 0 {
         return FoundChain::Refused(Refusal::NotRegular);
     }
-    let wearer = find_wearer(labels, x);
-    match wearer {
+    let found = find_label(labels, x);
+    match found {
         Found::At(v) => {
             let edge = low_edge(sides, v);
             let name = name_of(degrees, sides, ends, edge, counts.edges);
@@ -68,7 +68,7 @@ pub fn find(
     slabels: &mut [u32],
     label: Label,
 ) -> FoundChain
-    ensures { λ r. ⌜ answered
+    ensures { λ r. ⌜ outcome
         (tables (now (degrees .entry)) (now (sides .entry)) (now (ends .entry)) (now (lengths .entry)) (now (labels .entry)))
         (countsIn counts)
         (tables (now (sdegrees .exit)) (now (ssides .exit)) (now (sends .exit)) (now (slengths .exit)) (now (slabels .exit)))

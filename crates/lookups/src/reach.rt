@@ -16,9 +16,9 @@ ghost use Prim.Native.Nat.{ℕ};
 ghost use Rattle.model.specs.Calls.{reaches, step};
 ghost use Rattle.counters.specs.Answers.{countsIn};
 ghost use Rattle.tables.specs.Steps.{tables};
-ghost use Rattle.queries.specs.Chains.{lengthToIn, reachIn};
-ghost use Rattle.admission.specs.Lent.{lent};
-ghost use Rattle.lookups.specs.Meaning.{answered, reachedReply};
+ghost use Rattle.queries.specs.Finding.{lengthToIn, reachIn};
+ghost use Rattle.admission.specs.Lent.{lent, outcome};
+ghost use Rattle.lookups.specs.Meaning.{reachedReply};
 
 // The lengths in millimetres: to the low end first, then to the high end.
 pub enum Reached {
@@ -36,9 +36,7 @@ fn length_to(
     v: u16,
     fuel: u16,
 ) -> u32
-    ensures { λ r. ⌜ ((labels : List ℕ) → r
-        ≡ lengthToIn (tables (now (degrees .entry)) (now (sides .entry)) (now (ends .entry)) (now (lengths .entry)) labels)
-        fuel edge v) ⌝ }
+    ensures { λ r. ⌜ r ≡ lengthToIn (now (degrees .entry)) (now (sides .entry)) (now (ends .entry)) (now (lengths .entry)) fuel edge v ⌝ }
 {
     let onwards = walk_chain(
         degrees,
@@ -92,7 +90,7 @@ pub fn reach(
     slabels: &mut [u32],
     vertex: Vertex,
 ) -> Reached
-    ensures { λ r. ⌜ answered
+    ensures { λ r. ⌜ outcome
         (tables (now (degrees .entry)) (now (sides .entry)) (now (ends .entry)) (now (lengths .entry)) (now (labels .entry)))
         (countsIn counts)
         (tables (now (sdegrees .exit)) (now (ssides .exit)) (now (sends .exit)) (now (slengths .exit)) (now (slabels .exit)))

@@ -11,8 +11,8 @@ ghost use Prim.Native.Nat.{ℕ};
 ghost use Rattle.model.specs.Calls.{sheets, step};
 ghost use Rattle.counters.specs.Answers.{countsIn};
 ghost use Rattle.tables.specs.Steps.{tables};
-ghost use Rattle.admission.specs.Lent.{lent};
-ghost use Rattle.lookups.specs.Meaning.{answered, listedReply};
+ghost use Rattle.admission.specs.Lent.{lent, outcome};
+ghost use Rattle.lookups.specs.Meaning.{listedReply};
 ghost use Rattle.lookups.specs.Answering.{sheeted, sheetedIn};
 
 // How many chains have their rows in the slice.
@@ -40,7 +40,7 @@ fn sheet_in(
     if out.len() < 5 * (count as usize) {
         return Listed::Refused(Refusal::ShortSlice);
     }
-    put_rows(degrees, sides, ends, lengths, edges, out);
+    put_rows(out, degrees, sides, ends, lengths, edges);
     Listed::Chains(count)
 }
 
@@ -58,7 +58,7 @@ pub fn sheet(
     slabels: &mut [u32],
     out: &mut [u32],
 ) -> Listed
-    ensures { λ r. ⌜ answered
+    ensures { λ r. ⌜ outcome
         (tables (now (degrees .entry)) (now (sides .entry)) (now (ends .entry)) (now (lengths .entry)) (now (labels .entry)))
         (countsIn counts)
         (tables (now (sdegrees .exit)) (now (ssides .exit)) (now (sends .exit)) (now (slengths .exit)) (now (slabels .exit)))

@@ -1,2 +1,4 @@
 pub mod Booleans
 pub mod Lists
+pub mod Counting
+pub mod Total

@@ -1,4 +1,3 @@
-pub mod Lines
 pub mod Same
 pub mod Partition
 pub mod Sums

@@ -1,9 +1,11 @@
 pub mod Following
+pub mod Relabellings
 pub mod Cases
 pub mod Splits
 pub mod Inwards
 pub mod Laid
 pub mod Inserted
 pub mod Singular
+pub mod WearsAfter
 pub mod Rise
 pub mod Consecutive

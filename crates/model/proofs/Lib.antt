@@ -1,6 +1,6 @@
 pub mod Computing
 pub mod Values
-pub mod Accepted
+pub mod Computed
 pub mod Applied
 pub mod Basics
 pub mod Walks

@@ -1,56 +1,49 @@
--- What holds of every register that landing leaves: seven theorems, each a record of claims in the words of specs/, and its proof.
+-- What holds of every register that landing leaves: seven theorems, each a record of claims in the words of specs/, and its proof. Such
+-- registers are what growing leaves, what landing a list in one of them and what a series of calls leave (`reachable-grown`, `-list` and
+-- `-after` in Series/Reachable), and what lent tables hold (`only-held` in Series/OnlyHeld).
 -- docs/THEORY.md has the argument. The proofs at the end rest on the files beside this one: 1 on Walks, 2 and 5 on Chains, 3 on Labels and
 -- Groups, 4 on Groups, 6 on Distances, 7 on Series.
 use mathlib.Core.Path.{_≡_, subst}
 use mathlib.Core.Logic.{_≢_, _⊎_}
 use Prim.Native.Nat.{ℕ, _+_, _*_, _^_, _≤_, _<_}
 use native.Mathlib.Omega.{arith}
+use native.Mathlib.Nat.{add-zero}
+use native.Mathlib.Numerals.{add-one}
 use mathlib.Core.Bool.{true, false}
 use mathlib.Core.List.{List, [], _∷_, _++_, List·Memᴰ as Mem}
 use mathlib.Core.Option.{some}
 use lib.ListN.{length}
+use lib.Dec.{eqb·suc-suc}
 use Rattle.model.specs.Basics.{floorLog, sum}
-use Rattle.model.specs.Graph.{Chain, Edge, chainLength, chainOf, edgeAt, endOnwards, endsAt, isRegular, nameOf, onwards, walk}
-use Rattle.model.specs.Register.{Register, empty, labelOf, landEdge, landVertex, landed, marksOf, refused, withEdge, withVertex}
-use Rattle.model.specs.Format.{growList, landList}
-use Rattle.model.specs.Distance.{ChainWay, Distance, IsDistance, LooseWay, Way, distance}
-use Rattle.model.specs.Queries.{chainAt, find, measure, measured, reach, reached, refuses, sheetNumbers}
+use Rattle.model.specs.Graph.{Chain, Edge, chainLength, chainOf, degree, edgeAt, endOnwards, endsAt, isLeaf, isRegular, nameOf, onwards, walk}
+use Rattle.model.specs.Register.{Register, labelOf, landEdge, landVertex, landed, marksOf, refused, withEdge, withVertex}
+use Rattle.model.specs.Distance.{ChainWay, Distance, IsDistance, LooseWay, Way, distance, joined, Joins, lengthVia}
+use Rattle.model.specs.Queries.{chainAt, find, measure, measured, reach, reached, refuses, sheetNumbers, lengthTo}
 use Rattle.model.specs.Tables.{Stored, edgeLengths, held, storedOf}
-use Rattle.model.specs.Series.{FindsOwn, Made, after, landedEdges, lengthColumn, relabelledBy}
+use Rattle.model.specs.Series.{FindsOwn, landedEdges, lengthColumn, relabelledBy}
 use Rattle.model.specs.Notions.{Admissible, IsChain, Reachable, Ring, SameChain, SheetNames, Upwards, history, reversed}
-use Rattle.model.proofs.Walks.Degree.{Proper, is-two, not-two}
+use Rattle.model.proofs.Walks.Degree.{Proper, degree-snoc, is-two, not-two}
 use Rattle.model.proofs.Walks.RingFree.{RingFree}
 use Rattle.model.proofs.Walks.Ring.{ring-none}
 use Rattle.model.proofs.Walks.Whole.{Onwards, onwards-ends}
 use Rattle.model.proofs.Chains.Sheet.{sheet-sum}
 use Rattle.model.proofs.Chains.Exact.{chain-is-chain, chain-only}
-use Rattle.model.proofs.Chains.Names.{chain-has, chain-name, name-in-chain, name-least, sheet-names}
+use Rattle.model.proofs.Chains.Partition.{chain-has, chain-name, name-in-chain, name-least, chain-again}
+use Rattle.model.proofs.Chains.Names.{sheet-names}
+use Rattle.model.proofs.Chains.Reaches.{hop-lengths}
+use Rattle.model.proofs.Chains.Same.{same-back}
 use Rattle.model.proofs.Labels.Consecutive.{chain-upwards}
 use Rattle.model.proofs.Groups.FloorLog.{floorLog-fits, floorLog-most}
 use Rattle.model.proofs.Distances.Distance.{is-distance, unique}
 use Rattle.model.proofs.Distances.Hops.{chains-distance, loose-distance}
-use Rattle.model.proofs.Series.Labelled.{Labelled, find-none, labelled-bound, labels-unique}
-use Rattle.model.proofs.Series.Facts.{kept-held}
-use Rattle.model.proofs.Series.Whole.{measure-is}
-use Rattle.model.proofs.Series.Reachable.{either-order, full, history-told, reachable-after, reachable-grown, reachable-list, same-contents}
+use Rattle.model.proofs.Series.Labelled.{Labelled, labelled-bound, labels-unique, zero-then}
+use Rattle.model.proofs.Series.Kept.{kept-held}
+use Rattle.model.proofs.Series.Told.{history-told}
+use Rattle.model.proofs.Series.Reachable.{either-order, kept, labelled, same-contents}
 use Rattle.model.proofs.Series.OnlyHeld.{only-held}
-use Rattle.model.proofs.Series.Small.{labels-small}
+use Rattle.model.proofs.Series.Small.{chains-small, distances-small, labels-small}
 use Rattle.model.proofs.Series.RingTest.{refused-closes, ring-decides}
-use Rattle.model.proofs.Series.Answers.{finds-chain, reach-of, reaches-add, reaches-own, zero-then}
-
--- ---- the registers spoken of: what growing, landing a list in one of them, and a series of calls leave, and what lent tables hold
-
-pub grown : (bs : List ℕ) → Reachable ((growList bs) .register)
-grown bs = reachable-grown bs
-
-pub landed-in : (r : Register) (bs : List ℕ) → Reachable r → Reachable ((landList r bs) .register)
-landed-in r bs k = reachable-list r bs k
-
-pub after-calls : (ms : List Made) → Reachable (after ms empty)
-after-calls ms = reachable-after ms
-
-pub held-in : (s : Stored) (r : Register) → held s ≡ some r → Reachable r
-held-in s r h = (only-held s r h) .reachable
+use Rattle.model.proofs.Series.Answers.{find-none, finds-chain, measure-is, reach-chain, reach-of, reaches-add, reaches-own}
 
 -- ---- 1. No ring
 
@@ -69,6 +62,8 @@ pub record NoRing (r : Register) : Type 0 where
 
 -- The chain of an edge is one, has the edge, and every chain with the edge is it, read in the same direction or in the other. So its edges
 -- have one name, the least of them. The sheet has each chain once, by rising name, and its lengths add up to those of the edges.
+-- With an edge more, chains pass those of its ends that were leaves, which extends a chain or merges two, and end at its other ends, which
+-- splits the chain of one that was regular. Elsewhere they pass and end where they did.
 pub record OneChain (r : Register) : Type 0 where
   pub is-chain : (d : ℕ) → d < length (r .edges) → IsChain (r .edges) (chainOf (r .edges) d)
   pub has-edge : (d : ℕ) → Mem d ((chainOf (r .edges) d) .edges)
@@ -79,6 +74,9 @@ pub record OneChain (r : Register) : Type 0 where
   pub name-least : (c d : ℕ) → Mem c ((chainOf (r .edges) d) .edges) → nameOf (r .edges) d ≤ c
   pub sheet-rows : SheetNames r
   pub sheet-lengths : sum (lengthColumn (sheetNumbers r)) ≡ sum (edgeLengths (r .edges))
+  pub fits-32-bits : (d : ℕ) → d < length (r .edges) → chainLength (r .edges) d < 2 ^ 32
+  pub new-ends : (e : Edge) (v : ℕ) → endsAt v e ≡ 1 → isRegular (r .edges ++ (e ∷ [])) v ≡ isLeaf (r .edges) v
+  pub elsewhere : (e : Edge) (v : ℕ) → endsAt v e ≡ 0 → isRegular (r .edges ++ (e ∷ [])) v ≡ isRegular (r .edges) v
 
 -- ---- 3. Labels
 
@@ -110,18 +108,24 @@ pub record ReachesAdd (r : Register) : Type 0 where
   pub add-up : (v low high d : ℕ) → reach r v ≡ reached low high → d < length (r .edges) → Mem v ((chainOf (r .edges) d) .inner)
       → low + high ≡ chainLength (r .edges) d
   pub add-up-own : (v low high : ℕ) → reach r v ≡ reached low high → low + high ≡ chainLength (r .edges) (chainAt r v)
+  pub fits-32-bits : (v low high : ℕ) → reach r v ≡ reached low high → (low < 2 ^ 32) × (high < 2 ^ 32)
 
 -- ---- 6. Distances
 
 -- What is least over the edges is least over the chains, with stops at singular vertices or at any, and there is no way over the ones
--- exactly if there is none over the others. `measure` answers it.
+-- exactly if there is none over the others. `measure` answers it. The hops of a way over the chains have the lengths that `reach` and the
+-- sheet give.
 pub record OneDistance (r : Register) : Type 0 where
   pub over-edges : (v w : ℕ) → IsDistance (λ l. Way (r .edges) v w l) (distance (r .edges) v w)
   pub over-chains : (v w : ℕ) → IsDistance (λ l. ChainWay (r .edges) v w l) (distance (r .edges) v w)
   pub any-stops : (v w : ℕ) → IsDistance (λ l. LooseWay (r .edges) v w l) (distance (r .edges) v w)
   pub edges-chains : (v w : ℕ) (d : Distance) → IsDistance (λ l. Way (r .edges) v w l) d → IsDistance (λ l. ChainWay (r .edges) v w l) d
   pub chains-edges : (v w : ℕ) (d : Distance) → IsDistance (λ l. ChainWay (r .edges) v w l) d → IsDistance (λ l. Way (r .edges) v w l) d
+  -- and is not 2 ^ 32 - 1, which says "not joined"
+  pub fits-32-bits : (v w l : ℕ) → distance (r .edges) v w ≡ joined l → l + 1 < 2 ^ 32
   pub answered : (v w : ℕ) → v < r .vertices → w < r .vertices → measure r v w ≡ measured (distance (r .edges) v w)
+  pub hop-lengths : (d v w : ℕ) → d < length (r .edges) → Joins (edgeAt (r .edges) d) v w → (lengthVia (r .edges) d w ≡ lengthTo (r .edges) d v)
+      × (isRegular (r .edges) v ≡ false → lengthVia (r .edges) d w ≡ chainLength (r .edges) d)
 
 -- ---- 7. Contents
 
@@ -136,9 +140,17 @@ pub record ContentsFollow (r : Register) : Type 0 where
 
 -- ---- the proofs
 
+regular-new : (es : List Edge) (e : Edge) (v : ℕ) → endsAt v e ≡ 1 → isRegular (es ++ (e ∷ [])) v ≡ isLeaf es v
+unfolding isRegular isLeaf
+regular-new es e v h = rw (degree-snoc es e v, h, add-one (degree es v)) (eqb·suc-suc (degree es v) 1)
+
+regular-old : (es : List Edge) (e : Edge) (v : ℕ) → endsAt v e ≡ 0 → isRegular (es ++ (e ∷ [])) v ≡ isRegular es v
+unfolding isRegular
+regular-old es e v h = rw (degree-snoc es e v, h, add-zero (degree es v))
+
 module _ (r : Register) (k : Reachable r) where
   l : Labelled r
-  l = (full r k) .kept .labelled
+  l = labelled r k
 
   pr : Proper (r .edges)
   pr = l .sound .proper
@@ -169,14 +181,17 @@ module _ (r : Register) (k : Reachable r) where
   theorem-2 =
       record {
         is-chain = chain-is-chain (r .edges) pr rf;
-        has-edge = chain-has (r .edges) pr rf;
+        has-edge = chain-has (r .edges);
         only-chain = chain-only (r .edges) pr rf;
-        same-chain = λ c d h m. chain-only (r .edges) pr rf (chainOf (r .edges) d) c (chain-is-chain (r .edges) pr rf d h) m;
+        same-chain = λ c d h m. same-back _ _ (chain-again (r .edges) pr rf c d h m);
         same-name = chain-name (r .edges) pr rf;
-        name-in = name-in-chain (r .edges) pr rf;
-        name-least = name-least (r .edges) pr rf;
+        name-in = name-in-chain (r .edges);
+        name-least = name-least (r .edges);
         sheet-rows = sheet-names r pr rf;
         sheet-lengths = sheet-sum r pr rf;
+        fits-32-bits = λ d h. omega (arith, chains-small r k d h);
+        new-ends = regular-new (r .edges);
+        elsewhere = regular-old (r .edges);
       }
 
   -- ---- 3
@@ -186,8 +201,8 @@ module _ (r : Register) (k : Reachable r) where
   theorem-3 =
       record {
         singular-zero = λ v c. l .bare v (not-two (r .edges) v c);
-        zero-singular = zero-then r (full r k);
-        consecutive = chain-upwards r pr rf ((full r k) .sided);
+        zero-singular = zero-then r l;
+        consecutive = chain-upwards r pr rf ((kept r k) .sided);
         no-label-twice = λ v w a b e. labels-unique r l v w (is-two (r .edges) v a) (is-two (r .edges) w b) e;
         fits-32-bits = λ v. omega (arith, labels-small r k v);
         finds-own = finds-chain r l;
@@ -208,7 +223,15 @@ module _ (r : Register) (k : Reachable r) where
   -- ---- 5
 
   pub theorem-5 : ReachesAdd r
-  theorem-5 = record { answered = λ v c. (_, _, reach-of r (full r k) v c); add-up = reaches-add r (full r k); add-up-own = reaches-own r (full r k) }
+  theorem-5 =
+      record {
+        answered = λ v c. (_, _, reach-of r (kept r k) v c);
+        add-up = reaches-add r (kept r k);
+        add-up-own = reaches-own r (kept r k);
+        fits-32-bits = λ v low high e.
+            let most : low + high ≤ 409600000 = omega (arith, reaches-own r (kept r k) v low high e, chains-small r k _ (reach-chain r (kept r k) v low high e .inside)) in
+            (omega arith, omega arith);
+      }
 
   -- ---- 6
 
@@ -226,7 +249,9 @@ module _ (r : Register) (k : Reachable r) where
             subst (λ (x : Distance). IsDistance (λ n. Way (r .edges) v w n) x)
             (unique (λ n. ChainWay (r .edges) v w n) (distance (r .edges) v w) d (chains-of v w) h)
             (is-distance (r .edges) v w);
+        fits-32-bits = λ v w l e. omega (arith, distances-small r k v w l e);
         answered = measure-is r;
+        hop-lengths = hop-lengths (r .edges) pr;
       }
 
   -- ---- 7
@@ -234,7 +259,7 @@ module _ (r : Register) (k : Reachable r) where
   pub theorem-7 : ContentsFollow r
   theorem-7 =
       record {
-        holds = kept-held r ((full r k) .kept);
+        holds = kept-held r (kept r k);
         nothing-else = λ s h. (only-held s r h) .stored-is;
         either-order = λ e s t h g. either-order r e s t h g;
         follow = λ s g v e. same-contents r s k g v e;

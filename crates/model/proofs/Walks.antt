@@ -1,14 +1,13 @@
-pub mod Counting
 pub mod Degree
 pub mod Turn
+pub mod Joins
 pub mod Trail
 pub mod Snoc
 pub mod NewEdge
+pub mod NewTurn
 pub mod Ended
 pub mod RingFree
 pub mod Once
-pub mod Keeps
-pub mod NewTurn
-pub mod Rings
+pub mod Sound
 pub mod Whole
 pub mod Ring

@@ -10,7 +10,8 @@ use Rattle.model.specs.Graph.{Chain, Edge, Pass, edgeAt, endOf, endsAt, 
 use Rattle.model.specs.Register.{Register, labelOf, lowEdgeOf, empty, landed, landEdge, landVertex}
 use Rattle.model.specs.Distance.{Joins}
 use Rattle.model.specs.Queries.{row, sheet}
-use Rattle.model.specs.Series.{Landing}
+use Rattle.model.specs.Tables.{Stored, storedOf}
+use Rattle.model.specs.Series.{Landing, landingOf}
 
 -- ---- registers
 
@@ -20,19 +21,28 @@ pub data Reachable : Register → Type 0 where
   with-vertex : {r r′ : Register} → Reachable r → landVertex r ≡ landed r′ → Reachable r′
   with-edge : {r r′ : Register} (e : Edge) → Reachable r → landEdge r e ≡ landed r′ → Reachable r′
 
+-- what is stored is what a register that landing leaves comes to
+pub record HeldOf (s : Stored) (r : Register) : Type 0 where
+  pub reachable : Reachable r
+  pub stored-is : s ≡ storedOf r
+
 -- the edges landed on the way to a register, each with the labels before and after it
 unfoldable pub history : {r : Register} → Reachable r → List Landing
 history (from-empty q) = []
 history (with-vertex k q) = history k
-history (with-edge {r = r} {r′ = r′} e k q) = history k ++ (record { edge = e; before = r .labels; after = r′ .labels } ∷ [])
+history (with-edge {r = r} {r′ = r′} e k q) = history k ++ (landingOf r e r′ ∷ [])
 
--- refusals 5, 6, 7 and 23 do not hold of the edge; 24 is the only one left
-pub record Admissible (r : Register) (e : Edge) : Type 0 where
-  pub first-landed : e .first < r .vertices
-  pub second-landed : e .second < r .vertices
+-- refusals 5, 6 and 7 do not hold of an edge among n vertices
+pub record Lawful (n : ℕ) (e : Edge) : Type 0 where
+  pub first-landed : e .first < n
+  pub second-landed : e .second < n
   pub differ : e .first ≢ e .second
   pub some-length : 1 ≤ e .len
   pub most-length : e .len ≤ maxLength
+
+-- nor does 23 in this register; 24 is the only one left
+pub record Admissible (r : Register) (e : Edge) : Type 0 where
+  pub lawful : Lawful (r .vertices) e
   pub room : length (r .edges) < maxEdges
 
 -- ---- rings

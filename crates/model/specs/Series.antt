@@ -51,6 +51,9 @@ pub record Landing : Type 0 where
   pub before : List ℕ
   pub after : List ℕ
 
+abbrev pub landingOf : Register → Edge → Register → Landing
+landingOf r e r′ = record { edge = e; before = r .labels; after = r′ .labels }
+
 -- "A pipe is accepted .. if its record is read and no refusal holds of it": those of a list's records, in order
 unfoldable pub landings : ℕ → Register → List ℕ → List Landing
 landings zero r bs = []
@@ -59,7 +62,7 @@ landings (suc n) r (kind ∷ bs) =
     elim (firstRecord kind bs) [
       | vertex rest ↦ elim (landVertex r) [ landed r′ ↦ landings n r′ rest | refused x ↦ [] ]
       | edge e rest ↦ elim (landEdge r e) [
-        | landed r′ ↦ record { edge = e; before = r .labels; after = r′ .labels } ∷ landings n r′ rest
+        | landed r′ ↦ landingOf r e r′ ∷ landings n r′ rest
         | refused x ↦ []
       ]
       | bad x ↦ []

@@ -1,5 +1,4 @@
-pub mod Values
+pub mod Returns
 pub mod Bytes
 pub mod Rows
-pub mod Checking
 pub mod CallLaws

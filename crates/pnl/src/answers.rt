@@ -5,18 +5,18 @@ use lookups::find::FoundChain;
 use lookups::reach::Reached;
 use queries::numbers::wide;
 use tables::access::at32;
-use text::put_byte;
+use text::writing::put_byte;
 ghost use mathlib.Core.Path.{_≡_};
-ghost use Prim.Native.Nat.{_%_, _≤_};
+ghost use Prim.Native.Nat.{_*_, _%_, _≤_};
 ghost use lib.IntN.{pos, negℤ};
 ghost use lib.ListN.{length};
 ghost use Rattle.model.specs.Register.{Register};
 ghost use Rattle.model.specs.FromC.{bytes4, bytesOf, returnsNumbers, returnsReply};
 ghost use Rattle.counters.specs.Refusals.{numberOf};
 ghost use Rattle.lookups.specs.Meaning.{foundReply, reachedReply};
-ghost use Rattle.distance.specs.Measure.{distanceReply};
+ghost use Rattle.distance.specs.Meaning.{distanceReply};
 ghost use Rattle.text.specs.Pages.{page, write};
-ghost use Rattle.pnl.specs.Calls.{returned};
+ghost use Rattle.pnl.specs.FromC.{returned};
 
 pub fn refused(refusal: Refusal) -> i32
     ensures { λ r. ⌜ r ≡ negℤ (pos (numberOf refusal)) ⌝ }
@@ -25,9 +25,9 @@ pub fn refused(refusal: Refusal) -> i32
     -(number as i32)
 }
 
-// A count of bytes; a sheet of 65,535 rows has 1,310,700, and no answer has more.
+// A count of bytes. A sheet's rows are counted by a u16: at most 65,535, of 20 bytes each, and no answer has more.
 pub fn counted(n: usize) -> i32
-    requires { ⌜ n ≤ 1310700 ⌝ }
+    requires { ⌜ n ≤ 20 * 65535 ⌝ }
     ensures { λ r. ⌜ r ≡ pos n ⌝ }
 {
     n as i32
@@ -61,9 +61,9 @@ pub fn put_words(out: &mut [u8], at: usize, numbers: &[u32]) -> usize
     next
 }
 
-// A few numbers, or 9 where the slice has no room for all of them.
+// One or two numbers, or 9 where the slice has no room for all of them.
 pub fn answer_numbers(answer: &mut [u8], numbers: &[u32]) -> i32
-    requires { ⌜ length (now numbers) ≤ 5 ⌝ }
+    requires { ⌜ length (now numbers) ≤ 2 ⌝ }
     ensures { λ r. ⌜ returned (now (answer .exit)) r ≡ returnsNumbers (now (answer .entry)) (now (numbers .entry)) ⌝ }
 {
     let size = 4 * numbers.len();

@@ -13,10 +13,10 @@ ghost use Prim.Native.Nat.{ℕ, _≤_};
 ghost use Rattle.model.specs.Basics.{maxVertices};
 ghost use Rattle.counters.specs.Answers.{countsIn};
 ghost use Rattle.tables.specs.Steps.{tables};
-ghost use Rattle.queries.specs.Chains.{reachIn};
+ghost use Rattle.queries.specs.Finding.{reachIn};
 ghost use Rattle.lookups.specs.Meaning.{reachedReply};
-ghost use Rattle.search.specs.Search.{Searchable};
-ghost use Rattle.distance.specs.Measure.{distanceReply, measureIn};
+ghost use Rattle.distance.specs.Meaning.{distanceReply};
+ghost use Rattle.distance.specs.Measure.{Measurable, measureIn};
 
 pub fn reach_checked(
     degrees: &[u16],
@@ -33,20 +33,20 @@ pub fn reach_checked(
     let checked = Vertex::new(vertex);
     match checked {
         CheckedVertex::Is(v) => reach_in(degrees, sides, ends, lengths, counts, v),
-        CheckedVertex::TooLarge => Reached::Refused(Refusal::NotLanded),
+        CheckedVertex::OutOfRange => Reached::Refused(Refusal::NotLanded),
     }
 }
 
 // The first is checked.
 fn measure_to(ends: &[u16], lengths: &[u32], counts: Counts, from: Vertex, to: u32) -> Distance
-    requires { ⌜ Searchable (now ends) (now lengths) (counts .edges) × (counts .vertices ≤ maxVertices) ⌝ }
+    requires { ⌜ Measurable (now ends) (now lengths) (countsIn counts) ⌝ }
     ensures { λ r. ⌜ ((degrees sides labels : List ℕ) → distanceReply r
         ≡ measureIn (tables degrees sides (now (ends .entry)) (now (lengths .entry)) labels) (countsIn counts) (from .0) to) ⌝ }
 {
     let checked = Vertex::new(to);
     match checked {
         CheckedVertex::Is(v) => distance_in(ends, lengths, counts, from, v),
-        CheckedVertex::TooLarge => Distance::Refused(Refusal::NotLanded),
+        CheckedVertex::OutOfRange => Distance::Refused(Refusal::NotLanded),
     }
 }
 
@@ -57,13 +57,13 @@ pub fn measure_checked(
     from: u32,
     to: u32,
 ) -> Distance
-    requires { ⌜ Searchable (now ends) (now lengths) (counts .edges) × (counts .vertices ≤ maxVertices) ⌝ }
+    requires { ⌜ Measurable (now ends) (now lengths) (countsIn counts) ⌝ }
     ensures { λ r. ⌜ ((degrees sides labels : List ℕ) → distanceReply r
         ≡ measureIn (tables degrees sides (now (ends .entry)) (now (lengths .entry)) labels) (countsIn counts) from to) ⌝ }
 {
     let checked = Vertex::new(from);
     match checked {
         CheckedVertex::Is(v) => measure_to(ends, lengths, counts, v, to),
-        CheckedVertex::TooLarge => Distance::Refused(Refusal::NotLanded),
+        CheckedVertex::OutOfRange => Distance::Refused(Refusal::NotLanded),
     }
 }

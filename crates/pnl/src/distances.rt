@@ -1,16 +1,15 @@
-// The distance between two vertices of grown tables.
+// The distance between two vertices of a register.
 use counters::counts::Counts;
 use counters::numbers::Vertex;
 use distance::measure::Distance;
 use distance::measure::measure;
 ghost use mathlib.Core.Path.{_≡_};
 ghost use mathlib.Core.List.{List};
-ghost use Prim.Native.Nat.{ℕ, _≤_};
-ghost use Rattle.model.specs.Basics.{maxVertices};
+ghost use Prim.Native.Nat.{ℕ};
 ghost use Rattle.counters.specs.Answers.{countsIn};
 ghost use Rattle.tables.specs.Steps.{tables};
-ghost use Rattle.search.specs.Search.{Searchable};
-ghost use Rattle.distance.specs.Measure.{distanceReply, measureIn};
+ghost use Rattle.distance.specs.Meaning.{distanceReply};
+ghost use Rattle.distance.specs.Measure.{Measurable, measureIn};
 
 // The arrays are the scratch of the search.
 pub fn distance_in(
@@ -20,7 +19,7 @@ pub fn distance_in(
     from: Vertex,
     to: Vertex,
 ) -> Distance
-    requires { ⌜ Searchable (now ends) (now lengths) (counts .edges) × (counts .vertices ≤ maxVertices) ⌝ }
+    requires { ⌜ Measurable (now ends) (now lengths) (countsIn counts) ⌝ }
     ensures { λ r. ⌜ ((degrees sides labels : List ℕ) → distanceReply r
         ≡ measureIn (tables degrees sides (now (ends .entry)) (now (lengths .entry)) labels) (countsIn counts) (from .0) (to .0)) ⌝ }
 {

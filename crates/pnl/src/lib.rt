@@ -1,19 +1,18 @@
 // The calls from C. Each grows the list in arrays of its own, asks the register, and answers in the lent slice; nothing is kept between
 // calls. include/pnl.h says the same in C.
-pub mod answers;
-pub mod checked;
-pub mod distances;
-pub mod growing;
+mod answers;
+mod checked;
+mod distances;
 pub mod query;
-pub mod sheet;
+mod sheet;
 
 use crate::query::Query;
 use crate::query::answer_call;
 ghost use mathlib.Core.Path.{_≡_};
 ghost use Rattle.model.specs.FromC.{cSheet, cFind, cReach, cDistance};
-ghost use Rattle.pnl.specs.Calls.{returned};
+ghost use Rattle.pnl.specs.FromC.{returned};
 
-// The sheet.
+// Sheet: the runs by rising name, five numbers each.
 #[no_mangle]
 pub extern "C" fn pnl_sheet(list: &[u8], answer: &mut [u8]) -> i32
     ensures { λ r. ⌜ returned (now (answer .exit)) r ≡ cSheet (now (list .entry)) (now (answer .entry)) ⌝ }
@@ -21,7 +20,7 @@ pub extern "C" fn pnl_sheet(list: &[u8], answer: &mut [u8]) -> i32
     answer_call(list, Query::Sheet, answer)
 }
 
-// The name of the chain whose regular vertices include the one with this tag.
+// Find: the name of the run whose couplings include the tag.
 #[no_mangle]
 pub extern "C" fn pnl_find(list: &[u8], tag: u32, answer: &mut [u8]) -> i32
     ensures { λ r. ⌜ returned (now (answer .exit)) r ≡ cFind (now (list .entry)) tag (now (answer .entry)) ⌝ }
@@ -29,7 +28,7 @@ pub extern "C" fn pnl_find(list: &[u8], tag: u32, answer: &mut [u8]) -> i32
     answer_call(list, Query::Find(tag), answer)
 }
 
-// The lengths from a regular vertex to the low and to the high end of its chain.
+// Reach: the lengths from a coupling to its run's low and high end.
 #[no_mangle]
 pub extern "C" fn pnl_reach(list: &[u8], fitting: u32, answer: &mut [u8]) -> i32
     ensures { λ r. ⌜ returned (now (answer .exit)) r ≡ cReach (now (list .entry)) fitting (now (answer .entry)) ⌝ }
@@ -37,7 +36,7 @@ pub extern "C" fn pnl_reach(list: &[u8], fitting: u32, answer: &mut [u8]) -> i32
     answer_call(list, Query::Reach(fitting), answer)
 }
 
-// The least length of a way between two vertices, or NOT_JOINED.
+// Distance: the least length of a way between two fittings, or NOT_JOINED.
 #[no_mangle]
 pub extern "C" fn pnl_distance(list: &[u8], from: u32, to: u32, answer: &mut [u8]) -> i32
     ensures { λ r. ⌜ returned (now (answer .exit)) r ≡ cDistance (now (list .entry)) from to (now (answer .entry)) ⌝ }

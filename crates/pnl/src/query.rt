@@ -5,21 +5,20 @@ use crate::answers::answer_reached;
 use crate::answers::refused;
 use crate::checked::measure_checked;
 use crate::checked::reach_checked;
-use crate::growing::grow_tables;
 use crate::sheet::answer_sheet;
 use counters::counts::Counts;
 use counters::numbers::Label;
 use lookups::find::find_in;
 use register::records::Stop;
+use register::records::grow_list;
 ghost use mathlib.Core.Path.{_≡_};
-ghost use Prim.Native.Nat.{_≤_};
-ghost use Rattle.model.specs.Basics.{maxVertices};
 ghost use Rattle.model.specs.Register.{Register};
 ghost use Rattle.model.specs.FromC.{fromC, returnsReply};
+ghost use Rattle.model.specs.Notions.{HeldOf};
 ghost use Rattle.counters.specs.Answers.{countsIn};
-ghost use Rattle.tables.specs.Steps.{tables};
-ghost use Rattle.search.specs.Search.{Searchable};
-ghost use Rattle.pnl.specs.Calls.{returned, queryMeans, Represents};
+ghost use Rattle.tables.specs.Steps.{stored, tables};
+ghost use Rattle.distance.specs.Measure.{Measurable};
+ghost use Rattle.pnl.specs.FromC.{returned, queryMeans};
 
 // What may be asked from C.
 pub enum Query {
@@ -40,9 +39,9 @@ fn answer_query(
     counts: Counts,
     query: Query,
 ) -> i32
-    requires { ⌜ Searchable (now ends) (now lengths) (counts .edges) × (counts .vertices ≤ maxVertices) ⌝ }
+    requires { ⌜ Measurable (now ends) (now lengths) (countsIn counts) ⌝ }
     ensures { λ r. ⌜ ((register : Register)
-        → Represents (tables (now (degrees .entry)) (now (sides .entry)) (now (ends .entry)) (now (lengths .entry)) (now (labels .entry))) (countsIn counts) register
+        → HeldOf (stored (tables (now (degrees .entry)) (now (sides .entry)) (now (ends .entry)) (now (lengths .entry)) (now (labels .entry))) (countsIn counts)) register
         → returned (now (answer .exit)) r ≡ returnsReply register (now (answer .entry)) (queryMeans query register)) ⌝ }
 {
     match query {
@@ -71,7 +70,7 @@ pub fn answer_call(list: &[u8], query: Query, answer: &mut [u8]) -> i32
     let mut ends = [0u16; 8192];
     let mut lengths = [0u32; 4096];
     let mut labels = [0u32; 4096];
-    let reading = grow_tables(
+    let reading = grow_list(
         &mut degrees,
         &mut sides,
         &mut ends,

@@ -7,15 +7,16 @@ use queries::names::is_name;
 use queries::rows::count_rows;
 use queries::rows::row_at;
 ghost use mathlib.Core.Path.{_≡_};
-ghost use mathlib.Core.List.{List, [], _∷_};
-ghost use Prim.Native.Nat.{ℕ};
+ghost use mathlib.Core.List.{[], _∷_};
 ghost use Rattle.model.specs.Basics.{upTo};
 ghost use Rattle.model.specs.FromC.{bytesOf, returnsNumbers};
 ghost use Rattle.model.specs.Queries.{concat};
-ghost use Rattle.tables.specs.Steps.{tables};
 ghost use Rattle.queries.specs.Chains.{rowsIn};
 ghost use Rattle.text.specs.Pages.{page, write};
-ghost use Rattle.pnl.specs.Calls.{returned};
+ghost use Rattle.pnl.specs.FromC.{returned};
+
+// Five numbers of four bytes.
+const ROW_BYTES: usize = 20;
 
 // The row of edge's chain, if edge is its name.
 fn put_chain(
@@ -28,15 +29,15 @@ fn put_chain(
     edge: u16,
     edges: u16,
 ) -> usize
-    ensures { λ r. ⌜ ((labels : List ℕ) → page (now (out .exit)) r
-        ≡ write (bytesOf (concat (rowsIn (tables (now (degrees .entry)) (now (sides .entry)) (now (ends .entry)) (now (lengths .entry)) labels) edges (edge ∷ []))))
-        (page (now (out .entry)) at)) ⌝ }
+    ensures { λ r. ⌜ page (now (out .exit)) r
+        ≡ write (bytesOf (concat (rowsIn (now (degrees .entry)) (now (sides .entry)) (now (ends .entry)) (now (lengths .entry)) edges (edge ∷ []))))
+        (page (now (out .entry)) at) ⌝ }
 {
     if !is_name(degrees, sides, ends, edge, edges) {
         return at;
     }
     let row = row_at(degrees, sides, ends, lengths, edge, edges);
-    let numbers = [row.name, row.low, row.high, row.inner, row.length];
+    let numbers = [row.name, row.lower, row.other, row.inner, row.length];
     put_words(out, at, &numbers)
 }
 
@@ -48,9 +49,9 @@ fn put_sheet(
     lengths: &[u32],
     edges: u16,
 ) -> usize
-    ensures { λ r. ⌜ ((labels : List ℕ) → page (now (out .exit)) r
-        ≡ write (bytesOf (concat (rowsIn (tables (now (degrees .entry)) (now (sides .entry)) (now (ends .entry)) (now (lengths .entry)) labels) edges (upTo edges))))
-        (page (now (out .entry)) 0)) ⌝ }
+    ensures { λ r. ⌜ page (now (out .exit)) r
+        ≡ write (bytesOf (concat (rowsIn (now (degrees .entry)) (now (sides .entry)) (now (ends .entry)) (now (lengths .entry)) edges (upTo edges))))
+        (page (now (out .entry)) 0) ⌝ }
 {
     let mut next: usize = 0;
     let mut edge: u16 = 0;
@@ -72,12 +73,12 @@ pub fn answer_sheet(
     lengths: &[u32],
     edges: u16,
 ) -> i32
-    ensures { λ r. ⌜ ((labels : List ℕ) → returned (now (answer .exit)) r
+    ensures { λ r. ⌜ returned (now (answer .exit)) r
         ≡ returnsNumbers (now (answer .entry))
-        (concat (rowsIn (tables (now (degrees .entry)) (now (sides .entry)) (now (ends .entry)) (now (lengths .entry)) labels) edges (upTo edges)))) ⌝ }
+        (concat (rowsIn (now (degrees .entry)) (now (sides .entry)) (now (ends .entry)) (now (lengths .entry)) edges (upTo edges))) ⌝ }
 {
     let rows = count_rows(degrees, sides, ends, edges);
-    let size = 20 * (rows as usize);
+    let size = ROW_BYTES * (rows as usize);
     if answer.len() < size {
         return refused(Refusal::ShortSlice);
     }

@@ -6,50 +6,51 @@ use mathlib.Core.List.{List, [], _∷_}
 use lib.ListN.{length, take}
 use lib.Seq.{length-take-le}
 use borrow.Author.Tests.{lt-ltb, le-ltb}
-use Rattle.model.specs.Basics.{upTo}
+use Rattle.model.specs.Basics.{maxEdges}
 use Rattle.model.specs.Register.{Register}
 use Rattle.model.specs.Format.{Read, Stop, growList}
-use Rattle.model.specs.Tables.{Tables, Counts, tablesOf, countsOf, cleared, noCounts}
+use Rattle.model.specs.Tables.{Counts, tablesOf, countsOf, cleared, noCounts}
 use Rattle.model.specs.Printing.{ascii, line, lines, listing, printed, stopLine}
 use Rattle.model.specs.Notions.{Reachable}
 use Rattle.model.proofs.Series.Reachable.{reachable-grown}
-use Rattle.queries.specs.Chains.{rowsIn, sheetIn}
+use Rattle.queries.specs.Chains.{sheetIn}
 use Rattle.agreement.proofs.Reached.{room}
 use Rattle.agreement.proofs.Sheeting.{sheet-agrees}
-use Rattle.register.specs.Listing.{ReadIn, landListIn}
-use Rattle.register.proofs.Listing.{readIn}
+use Rattle.register.specs.Records.{ReadingIn, landListIn}
+use Rattle.register.proofs.ListAgrees.{shownRead}
 use Rattle.register.proofs.Growing.{list-leaves}
 use Rattle.io.specs.Counts.{Counts as Counted}
 use Rattle.text.specs.Pages.{Page, page, write}
-use Rattle.text.proofs.Writing.{write-two, write-at, write-fits, write-room}
-use Rattle.print.specs.Listing.{listingIn}
+use Rattle.text.proofs.PageLaws.{write-two, write-at, write-fits, write-room}
+use Rattle.print.specs.Listing.{listingIn, headBytes, rowBytes, stopBytes, roomBytes}
 
 -- the four numbers, the sheet and the stop, one after the other
-pub listing-parts : (t : Tables) (c : Counts) (a : Stop) (k : ℕ) (p q r s : Page) → k ≡ length (rowsIn t (c .edges) (upTo (c .edges)))
-    → q ≡ write (line (c .vertices ∷ c .edges ∷ k ∷ c .relabellings ∷ [])) p → r ≡ write (lines (rowsIn t (c .edges) (upTo (c .edges)))) q
-    → s ≡ write (stopLine a) r → s ≡ write (listingIn t c a) p
-unfolding listingIn sheetIn
-listing-parts t c a k p q r s n e f g =
-    let head : q ≡ write (line (c .vertices ∷ c .edges ∷ length (rowsIn t (c .edges) (upTo (c .edges))) ∷ c .relabellings ∷ [])) p = rw (← n) e in
+pub listing-parts : (c : Counts) (rows : List (List ℕ)) (a : Stop) (k : ℕ) (p q r s : Page) → k ≡ length rows
+    → q ≡ write (line (c .vertices ∷ c .edges ∷ k ∷ c .relabellings ∷ [])) p → r ≡ write (lines rows) q → s ≡ write (stopLine a) r
+    → s ≡ write (listingIn c rows a) p
+unfolding listingIn
+listing-parts c rows a k p q r s n e f g =
+    let head : q ≡ write (line (c .vertices ∷ c .edges ∷ length rows ∷ c .relabellings ∷ [])) p = rw (← n) e in
     write-two _ (stopLine a) p r s (write-two _ _ p q r head f) g
 
 -- the listing of the tables is that of the register
-listing-is : (d : Read) → Reachable (d .register) → listingIn (tablesOf (d .register)) (countsOf (d .register)) (d .stop) ≡ listing d
+listing-is : (d : Read) → Reachable (d .register)
+    → listingIn (countsOf (d .register)) (sheetIn (tablesOf (d .register)) (countsOf (d .register))) (d .stop) ≡ listing d
 unfolding listingIn listing countsOf
 listing-is d g = rw (sheet-agrees (d .register) g)
 
 -- what a page holds that ends before the end of its slice
 page-holds : (xs ys out : List ℕ) (q : Page) → q ≡ write xs (page out 0) → q .at < length out → xs ≡ ys
-    → Counted (q .at) (q .bytes) × (take (q .at) (q .bytes) ≡ ys)
+    → Counted (q .at) (q .slice) × (take (q .at) (q .slice) ≡ ys)
 page-holds xs ys out q e l f =
     let m : (write xs (page out 0)) .at < length out = rw (← e) l in
     let w = write-fits xs out 0 (write-room xs out 0 (omega arith) m) in
-    let long : length (q .bytes) ≡ length out = rw e (w .long) in
-    let front : take (q .at) (q .bytes) ≡ xs = rw e (w .front) in
-    ((omega arith, sym (length-take-le (q .at) (q .bytes) (omega arith))), front ∙ f)
+    let long : length (q .slice) ≡ length out = rw e (w .long) in
+    let front : take (q .at) (q .slice) ≡ xs = rw e (w .front) in
+    ((omega arith, sym (length-take-le (q .at) (q .slice) (omega arith))), front ∙ f)
 
-pub too-long : (bs out word : List ℕ) (q : Page) → 65536 < length bs → 262144 ≤ length out → word ≡ ascii "too long\n" → q ≡ write word (page out 0)
-    → Counted (q .at) (q .bytes) × (take (q .at) (q .bytes) ≡ printed bs)
+pub too-long : (bs out word : List ℕ) (q : Page) → 65536 < length bs → roomBytes ≤ length out → word ≡ ascii "too long\n" → q ≡ write word (page out 0)
+    → Counted (q .at) (q .slice) × (take (q .at) (q .slice) ≡ printed bs)
 unfolding printed ascii
 too-long bs out word q h l w e =
     let n : length word ≡ 9 = rw w in
@@ -57,7 +58,7 @@ too-long bs out word q h l w e =
     let b : q .at ≤ 9 = omega (arith, a, n, write-at word (page out 0)) in
     page-holds word (printed bs) out q e (omega arith) (rw (lt-ltb 65536 (length bs) h) w)
 
-edges-few : (r : Register) → Reachable r → (countsOf r) .edges ≤ 4096
+edges-few : (r : Register) → Reachable r → (countsOf r) .edges ≤ maxEdges
 unfolding countsOf
 edges-few r g = room r g
 
@@ -65,14 +66,13 @@ printed-short : (bs : List ℕ) → length bs ≤ 65536 → listing (growList bs
 unfolding printed
 printed-short bs h = rw (le-ltb 65536 (length bs) h)
 
-pub prints : (bs out : List ℕ) (d : ReadIn) (c : Counts) (q : Page) → length bs ≤ 65536 → 262144 ≤ length out → c ≡ noCounts
-    → d ≡ landListIn cleared c bs → q ≡ write (listingIn (d .tables) (d .counts) (d .stop)) (page out 0) → q .at ≤ 104 + 55 * d .counts .edges
-    → Counted (q .at) (q .bytes) × (take (q .at) (q .bytes) ≡ printed bs)
-prints bs out d c q h l n e f b =
+pub prints : (bs out : List ℕ) (d : ReadingIn) (q : Page) → length bs ≤ 65536 → roomBytes ≤ length out → d ≡ landListIn cleared noCounts bs
+    → q ≡ write (listingIn (d .counts) (sheetIn (d .tables) (d .counts)) (d .stop)) (page out 0)
+    → q .at ≤ headBytes + rowBytes * d .counts .edges + stopBytes → Counted (q .at) (q .slice) × (take (q .at) (q .slice) ≡ printed bs)
+prints bs out d q h l e f b =
     let g : Reachable ((growList bs) .register) = reachable-grown bs in
-    let i : d ≡ readIn (growList bs) = e ∙ ap (λ (k : Counts). landListIn cleared k bs) n ∙ list-leaves bs in
-    let k : d .counts .edges ≡ (countsOf ((growList bs) .register)) .edges = ap (λ (z : ReadIn). z .counts .edges) i in
-    let few : q .at ≤ 225384 = omega (arith, k, edges-few ((growList bs) .register) g) in
-    let x : listingIn (d .tables) (d .counts) (d .stop) ≡ listing (growList bs) =
-    ap (λ (z : ReadIn). listingIn (z .tables) (z .counts) (z .stop)) i ∙ listing-is (growList bs) g in
-    page-holds _ (printed bs) out q f (omega arith) (x ∙ printed-short bs h)
+    let i : d ≡ shownRead (growList bs) = e ∙ list-leaves bs in
+    let k : d .counts .edges ≡ (countsOf ((growList bs) .register)) .edges = ap (λ (z : ReadingIn). z .counts .edges) i in
+    let x : listingIn (d .counts) (sheetIn (d .tables) (d .counts)) (d .stop) ≡ listing (growList bs) =
+    ap (λ (z : ReadingIn). listingIn (z .counts) (sheetIn (z .tables) (z .counts)) (z .stop)) i ∙ listing-is (growList bs) g in
+    page-holds _ (printed bs) out q f (omega (arith, k, edges-few ((growList bs) .register) g)) (x ∙ printed-short bs h)

@@ -4,24 +4,26 @@ use queries::names::is_name;
 use queries::rows::count_rows;
 use queries::rows::row_at;
 use register::records::Stop;
-use register::records::land_list;
+use register::records::grow_list;
 use text::lines::put_line2;
 use text::lines::put_line4;
 use text::lines::put_line5;
-use text::put_text;
+use text::writing::put_text;
 ghost use mathlib.Core.Path.{_≡_};
-ghost use mathlib.Core.List.{List, [], _∷_};
-ghost use Prim.Native.Nat.{ℕ, _+_, _*_, _≤_};
+ghost use mathlib.Core.List.{[], _∷_};
+ghost use Prim.Native.Nat.{_+_, _*_, _≤_};
 ghost use lib.ListN.{length, take};
 ghost use Rattle.model.specs.Basics.{upTo};
 ghost use Rattle.model.specs.Printing.{lines, printed, stopLine};
 ghost use Rattle.counters.specs.Answers.{countsIn};
-ghost use Rattle.tables.specs.Steps.{tables};
 ghost use Rattle.queries.specs.Chains.{rowsIn};
 ghost use Rattle.register.specs.Meaning.{stopMeans};
 ghost use Rattle.io.specs.Counts.{Counts as Counted};
 ghost use Rattle.text.specs.Pages.{page, write};
-ghost use Rattle.print.specs.Listing.{listingIn};
+ghost use Rattle.print.specs.Listing.{listingIn, headBytes, rowBytes, stopBytes, roomBytes};
+
+// Room for any listing.
+pub const ROOM: usize = 262144;
 
 // The line of edge's chain, if edge is its name.
 fn put_chain(
@@ -34,25 +36,25 @@ fn put_chain(
     edge: u16,
     edges: u16,
 ) -> usize
-    ensures { λ r. ⌜ ((labels : List ℕ) → page (now (out .exit)) r
-        ≡ write (lines (rowsIn (tables (now (degrees .entry)) (now (sides .entry)) (now (ends .entry)) (now (lengths .entry)) labels) edges (edge ∷ [])))
-        (page (now (out .entry)) at)) × (r ≤ at + 55) ⌝ }
+    ensures { λ r. ⌜ (page (now (out .exit)) r
+        ≡ write (lines (rowsIn (now (degrees .entry)) (now (sides .entry)) (now (ends .entry)) (now (lengths .entry)) edges (edge ∷ [])))
+        (page (now (out .entry)) at)) × (r ≤ at + rowBytes) ⌝ }
 {
     if !is_name(degrees, sides, ends, edge, edges) {
         return at;
     }
     let row = row_at(degrees, sides, ends, lengths, edge, edges);
     let name = row.name;
-    let low = row.low;
-    let high = row.high;
+    let lower = row.lower;
+    let other = row.other;
     let inner = row.inner;
     let length = row.length;
     put_line5(
         out,
         at,
         name as u64,
-        low as u64,
-        high as u64,
+        lower as u64,
+        other as u64,
         inner as u64,
         length as u64,
     )
@@ -68,9 +70,9 @@ fn put_sheet(
     lengths: &[u32],
     edges: u16,
 ) -> usize
-    ensures { λ r. ⌜ ((labels : List ℕ) → page (now (out .exit)) r
-        ≡ write (lines (rowsIn (tables (now (degrees .entry)) (now (sides .entry)) (now (ends .entry)) (now (lengths .entry)) labels) edges (upTo edges)))
-        (page (now (out .entry)) at)) × (r ≤ at + 55 * edges) ⌝ }
+    ensures { λ r. ⌜ (page (now (out .exit)) r
+        ≡ write (lines (rowsIn (now (degrees .entry)) (now (sides .entry)) (now (ends .entry)) (now (lengths .entry)) edges (upTo edges)))
+        (page (now (out .entry)) at)) × (r ≤ at + rowBytes * edges) ⌝ }
 {
     let mut next = at;
     let mut edge: u16 = 0;
@@ -85,7 +87,7 @@ fn put_sheet(
 
 // The line of a list that stopped.
 fn put_stop(out: &mut [u8], at: usize, stop: Stop) -> usize
-    ensures { λ r. ⌜ (page (now (out .exit)) r ≡ write (stopLine (stopMeans stop)) (page (now (out .entry)) at)) × (r ≤ at + 60) ⌝ }
+    ensures { λ r. ⌜ (page (now (out .exit)) r ≡ write (stopLine (stopMeans stop)) (page (now (out .entry)) at)) × (r ≤ at + stopBytes) ⌝ }
 {
     match stop {
         Stop::Whole => at,
@@ -107,9 +109,10 @@ fn put_listing(
     counts: Counts,
     stop: Stop,
 ) -> usize
-    ensures { λ r. ⌜ ((labels : List ℕ) → page (now (out .exit)) r
-        ≡ write (listingIn (tables (now (degrees .entry)) (now (sides .entry)) (now (ends .entry)) (now (lengths .entry)) labels) (countsIn counts) (stopMeans stop))
-        (page (now (out .entry)) 0)) × (r ≤ 104 + 55 * counts .edges) ⌝ }
+    ensures { λ r. ⌜ (page (now (out .exit)) r
+        ≡ write (listingIn (countsIn counts)
+        (rowsIn (now (degrees .entry)) (now (sides .entry)) (now (ends .entry)) (now (lengths .entry)) (counts .edges) (upTo (counts .edges))) (stopMeans stop))
+        (page (now (out .entry)) 0)) × (r ≤ headBytes + rowBytes * counts .edges + stopBytes) ⌝ }
 {
     let vertices = counts.vertices;
     let edges = counts.edges;
@@ -127,10 +130,9 @@ fn put_listing(
     put_stop(out, next, stop)
 }
 
-// What the program prints for the bytes that it read. The slice has room for any listing: 4,096 lines of at most 55 bytes, the four
-// numbers, and the stop.
+// What the program prints for the bytes that it read.
 pub fn print_list(list: &[u8], out: &mut [u8]) -> usize
-    requires { ⌜ 262144 ≤ length (now out) ⌝ }
+    requires { ⌜ roomBytes ≤ length (now out) ⌝ }
     ensures { λ r. ⌜ Counted r (now (out .exit)) × (take r (now (out .exit)) ≡ printed (now (list .entry))) ⌝ }
 {
     if 65536 < list.len() {
@@ -141,13 +143,12 @@ pub fn print_list(list: &[u8], out: &mut [u8]) -> usize
     let mut ends = [0u16; 8192];
     let mut lengths = [0u32; 4096];
     let mut labels = [0u32; 4096];
-    let reading = land_list(
+    let reading = grow_list(
         &mut degrees,
         &mut sides,
         &mut ends,
         &mut lengths,
         &mut labels,
-        Counts::none(),
         list,
     );
     let counts = reading.counts;

@@ -11,7 +11,6 @@ use borrow.Author.Tests.{eq-eqb, ne-eqb}
 use lib.ListN.{length, getD, take, drop, length-take, drop-of-length-le}
 use lib.Dec.{eqb}
 use lib.Seq.{drop-cons, getD-take}
-use Rattle.model.specs.Tables.{Tables}
 use Rattle.tables.specs.Steps.{farIn, turnIn}
 use Rattle.queries.specs.Chains.{firstFrom, lowestIn, nameIn}
 
@@ -37,36 +36,41 @@ module _ (label m : ℕ) (xs : List ℕ) (i : ℕ) where
     unfolding firstFrom
     first-next e = rw (first-cons, ne-eqb _ _ e, firstFrom, add-one)
 
-module _ (t : Tables) where
+module _ (ds ss es : List ℕ) where
   -- a number taken into the minimum before the walk or behind it
-  lowest-min : (n x y d v : ℕ) → lowestIn t n (min y x) d v ≡ min y (lowestIn t n x d v)
+  lowest-min : (n x y d v : ℕ) → lowestIn ds ss es n (min y x) d v ≡ min y (lowestIn ds ss es n x d v)
   unfolding lowestIn
   lowest-min zero x y d v = refl
-  lowest-min (suc n) x y d v = go (eqb (getD (t .degrees) v 0) 2) refl (lowest-min n x y (turnIn (t .sides) d v) (farIn (t .ends) (turnIn (t .sides) d v) v))
+  lowest-min (suc n) x y d v = go (eqb (getD ds v 0) 2) refl (lowest-min n x y (turnIn ss d v) (farIn es (turnIn ss d v) v))
     where
-      go : (b : Bool) → eqb (getD (t .degrees) v 0) 2 ≡ b
-          → lowestIn t n (min y x) (turnIn (t .sides) d v) (farIn (t .ends) (turnIn (t .sides) d v) v) ≡ min y (lowestIn t n x (turnIn (t .sides) d v) (farIn (t .ends) (turnIn (t .sides) d v) v))
-          → lowestIn t (suc n) (min y x) d v ≡ min y (lowestIn t (suc n) x d v)
+      go : (b : Bool) → eqb (getD ds v 0) 2 ≡ b
+          → lowestIn ds ss es n (min y x) (turnIn ss d v) (farIn es (turnIn ss d v) v) ≡ min y (lowestIn ds ss es n x (turnIn ss d v) (farIn es (turnIn ss d v) v))
+          → lowestIn ds ss es (suc n) (min y x) d v ≡ min y (lowestIn ds ss es (suc n) x d v)
       go true e ih = rw (e, ih) (omega arith)
       go false e ih = rw e
 
-  pub lowest-none : (n x d v : ℕ) → n ≤ 0 → x ≡ lowestIn t n x d v
+  pub lowest-none : (n x d v : ℕ) → n ≤ 0 → x ≡ lowestIn ds ss es n x d v
   unfolding lowestIn
   lowest-none zero x d v h = refl
   lowest-none (suc n) x d v h = absurd (not-suc-le-zero h)
 
-  pub lowest-stop : (n x d v : ℕ) → (getD (t .degrees) v 0 ≡ 2 → ⊥) → x ≡ lowestIn t n x d v
+  pub lowest-stop : (n x d v : ℕ) → (getD ds v 0 ≡ 2 → ⊥) → x ≡ lowestIn ds ss es n x d v
   unfolding lowestIn
   lowest-stop zero x d v h = refl
   lowest-stop (suc n) x d v h = rw (ne-eqb _ _ h)
 
-  pub lowest-step : (n x y d v c w : ℕ) → 0 < n → getD (t .degrees) v 0 ≡ 2 → c ≡ turnIn (t .sides) d v → w ≡ farIn (t .ends) c v
-      → y ≡ min c x → lowestIn t n x d v ≡ lowestIn t (n - 1) y c w
+  pub lowest-on : (n x d v c w : ℕ) → getD ds v 0 ≡ 2 → turnIn ss d v ≡ c → farIn es c v ≡ w
+      → lowestIn ds ss es (suc n) x d v ≡ min c (lowestIn ds ss es n x c w)
+  unfolding lowestIn
+  lowest-on n x d v c w h i j = rw (eq-eqb _ _ h, i, j)
+
+  pub lowest-step : (n x y d v c w : ℕ) → 0 < n → getD ds v 0 ≡ 2 → c ≡ turnIn ss d v → w ≡ farIn es c v
+      → y ≡ min c x → lowestIn ds ss es n x d v ≡ lowestIn ds ss es (n - 1) y c w
   unfolding lowestIn
   lowest-step zero x y d v c w h g a b e = absurd (not-suc-le-zero h)
   lowest-step (suc n) x y d v c w h g a b e = rw (eq-eqb _ _ g, sub-one, ← a, ← b, e) (sym (lowest-min n x c c w))
 
-  pub name-law : (n e v w x r : ℕ) → w ≡ getD (t .ends) (2 * e + 1) 0 → x ≡ lowestIn t n e e w → v ≡ getD (t .ends) (2 * e) 0
-      → r ≡ lowestIn t n x e v → r ≡ nameIn t n e
+  pub name-law : (n e v w x r : ℕ) → w ≡ getD es (2 * e + 1) 0 → x ≡ lowestIn ds ss es n e e w → v ≡ getD es (2 * e) 0
+      → r ≡ lowestIn ds ss es n x e v → r ≡ nameIn ds ss es n e
   unfolding nameIn
   name-law n e v w x r a b c d = rw (← a, ← b, ← c) d

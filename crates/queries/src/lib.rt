@@ -1,5 +1,4 @@
-// Chains found by walking over the lent tables: names, rows of the sheet, and the wearer of a label. A contract says
-// `(labels : List ℕ) →` of a table that the function is not lent: it holds whatever that table has in it.
+// Chains found by walking over the lent tables: names, rows of the sheet, and the vertex that has a label.
 pub mod lookup;
 pub mod names;
 pub mod numbers;

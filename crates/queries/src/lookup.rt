@@ -1,4 +1,4 @@
-// The wearer of a label, and the name of an edge's chain.
+// The vertex that has a label, and the name of an edge's chain.
 use crate::numbers::lesser;
 use counters::numbers::MAX_VERTICES;
 use tables::access::at16;
@@ -7,11 +7,8 @@ use tables::access::of32;
 use tables::walks::Walker;
 use tables::walks::step_over;
 ghost use mathlib.Core.Path.{_≡_};
-ghost use mathlib.Core.List.{List};
-ghost use Prim.Native.Nat.{ℕ};
 ghost use lib.ListN.{take};
 ghost use Rattle.model.specs.Basics.{maxVertices};
-ghost use Rattle.tables.specs.Steps.{tables};
 ghost use Rattle.queries.specs.Chains.{firstAt, lowestIn, nameIn};
 ghost use Rattle.queries.specs.Answers.{foundIn};
 
@@ -21,7 +18,7 @@ pub enum Found {
 }
 
 // The first of at most 4,096 labels that is this one. A read past the end gives 0, which may be the label, so the length is tested.
-pub fn find_wearer(labels: &[u32], label: u32) -> Found
+pub fn find_label(labels: &[u32], label: u32) -> Found
     ensures { λ r. ⌜ foundIn r ≡ firstAt label (take maxVertices (now (labels .entry))) ⌝ }
 {
     let mut v: u16 = 0;
@@ -37,21 +34,20 @@ pub fn find_wearer(labels: &[u32], label: u32) -> Found
     Found::Nothing
 }
 
-// The least of `low` and the numbers of the edges on the way from vertex `from`, reached by an edge, to the chain's end.
+// The least of `known` and the numbers of the edges on the way from vertex `from`, reached by an edge, to the chain's end.
 fn lowest_onwards(
     degrees: &[u16],
     sides: &[u16],
     ends: &[u16],
-    low: u16,
+    known: u16,
     edge: u16,
     from: u16,
     fuel: u16,
 ) -> u16
-    ensures { λ r. ⌜ ((lengths labels : List ℕ) → r
-        ≡ lowestIn (tables (now (degrees .entry)) (now (sides .entry)) (now (ends .entry)) lengths labels) fuel low edge from) ⌝ }
+    ensures { λ r. ⌜ r ≡ lowestIn (now (degrees .entry)) (now (sides .entry)) (now (ends .entry)) fuel known edge from ⌝ }
 {
     let mut w = Walker { edge, at: from };
-    let mut lowest = low;
+    let mut lowest = known;
     let mut left = fuel;
     while 0 < left {
         if of16(degrees, w.at) != 2 {
@@ -66,8 +62,7 @@ fn lowest_onwards(
 
 // The name of the chain on which an edge lies.
 pub fn name_of(degrees: &[u16], sides: &[u16], ends: &[u16], edge: u16, fuel: u16) -> u16
-    ensures { λ r. ⌜ ((lengths labels : List ℕ) → r
-        ≡ nameIn (tables (now (degrees .entry)) (now (sides .entry)) (now (ends .entry)) lengths labels) fuel edge) ⌝ }
+    ensures { λ r. ⌜ r ≡ nameIn (now (degrees .entry)) (now (sides .entry)) (now (ends .entry)) fuel edge ⌝ }
 {
     let i = 2 * (edge as usize);
     let low = lowest_onwards(degrees, sides, ends, edge, edge, at16(ends, i + 1), fuel);

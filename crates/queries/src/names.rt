@@ -5,12 +5,10 @@ use tables::walks::Walker;
 use tables::walks::step_over;
 ghost use mathlib.Core.Path.{_≡_};
 ghost use mathlib.Core.Bool.{not, _&&_};
-ghost use mathlib.Core.List.{List};
-ghost use Prim.Native.Nat.{ℕ};
 ghost use lib.ListN.{getD};
 ghost use lib.Dec.{eqb};
 ghost use Rattle.model.specs.Basics.{if_then_else_};
-ghost use Rattle.tables.specs.Steps.{tables, farIn, turnIn};
+ghost use Rattle.tables.specs.Steps.{farIn, turnIn};
 ghost use Rattle.queries.specs.Chains.{isNameIn};
 
 fn both_singular(degrees: &[u16], v: u16, w: u16) -> bool
@@ -37,8 +35,7 @@ fn go_on(degrees: &[u16], sides: &[u16], ends: &[u16], w: Walker) -> Walker
 // ones on one side pays for the way there, and such ways do not overlap; the lowest pays for its chain. So the n edges of a sheet cost
 // O(n log n) together, however they are numbered.
 pub fn is_name(degrees: &[u16], sides: &[u16], ends: &[u16], edge: u16, fuel: u16) -> bool
-    ensures { λ r. ⌜ ((lengths labels : List ℕ) → r
-        ≡ isNameIn (tables (now (degrees .entry)) (now (sides .entry)) (now (ends .entry)) lengths labels) fuel edge) ⌝ }
+    ensures { λ r. ⌜ r ≡ isNameIn (now (degrees .entry)) (now (sides .entry)) (now (ends .entry)) fuel edge ⌝ }
 {
     let i = 2 * (edge as usize);
     let mut v = Walker {

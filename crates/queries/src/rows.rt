@@ -8,24 +8,21 @@ use crate::walks::walk_chain;
 use tables::access::add32;
 use tables::access::at16;
 use tables::access::of32;
-use tables::access::one_more16;
-use tables::access::put32;
+use text::writing::put_u32;
 ghost use mathlib.Core.Path.{_≡_};
-ghost use mathlib.Core.List.{List, []};
-ghost use Prim.Native.Nat.{ℕ, _*_, _≤_};
+ghost use mathlib.Core.List.{[], _∷_};
 ghost use lib.ListN.{length};
-ghost use lib.Seq.{sets};
-ghost use Rattle.model.specs.Basics.{inFront, upTo};
+ghost use Rattle.model.specs.Basics.{upTo};
 ghost use Rattle.model.specs.Queries.{concat};
-ghost use Rattle.tables.specs.Steps.{tables};
-ghost use Rattle.queries.specs.Chains.{rowIn, rowsIn};
-ghost use Rattle.queries.specs.Answers.{rowOf, put, putIn};
+ghost use Rattle.text.specs.Pages.{page, write};
+ghost use Rattle.queries.specs.Chains.{namesIn, rowIn, rowsIn};
+ghost use Rattle.queries.specs.Answers.{rowOf};
 
 // A chain's name, its end with the lower number, its other end, its regular vertices, its length.
 pub struct Row {
     pub name: u32,
-    pub low: u32,
-    pub high: u32,
+    pub lower: u32,
+    pub other: u32,
     pub inner: u32,
     pub length: u32,
 }
@@ -39,8 +36,7 @@ pub fn row_at(
     edge: u16,
     fuel: u16,
 ) -> Row
-    ensures { λ r. ⌜ ((labels : List ℕ) → rowOf r
-        ≡ rowIn (tables (now (degrees .entry)) (now (sides .entry)) (now (ends .entry)) (now (lengths .entry)) labels) fuel edge) ⌝ }
+    ensures { λ r. ⌜ rowOf r ≡ rowIn (now (degrees .entry)) (now (sides .entry)) (now (ends .entry)) (now (lengths .entry)) fuel edge ⌝ }
 {
     let i = 2 * (edge as usize);
     let a = walk_chain(degrees, sides, ends, lengths, edge, at16(ends, i), fuel);
@@ -48,8 +44,8 @@ pub fn row_at(
     let own = of32(lengths, edge);
     Row {
         name: wide(edge),
-        low: wide(lesser(a.at, b.at)),
-        high: wide(greater(a.at, b.at)),
+        lower: wide(lesser(a.at, b.at)),
+        other: wide(greater(a.at, b.at)),
         inner: wide(a.inner) + wide(b.inner),
         length: add32(a.length, add32(own, b.length)),
     }
@@ -57,8 +53,7 @@ pub fn row_at(
 
 // How many of the edges are names.
 pub fn count_rows(degrees: &[u16], sides: &[u16], ends: &[u16], edges: u16) -> u16
-    ensures { λ r. ⌜ ((lengths labels : List ℕ) → r
-        ≡ length (rowsIn (tables (now (degrees .entry)) (now (sides .entry)) (now (ends .entry)) lengths labels) edges (upTo edges))) ⌝ }
+    ensures { λ r. ⌜ r ≡ length (namesIn (now (degrees .entry)) (now (sides .entry)) (now (ends .entry)) edges (upTo edges)) ⌝ }
 {
     let mut count: u16 = 0;
     let mut d: u16 = 0;
@@ -69,58 +64,59 @@ pub fn count_rows(degrees: &[u16], sides: &[u16], ends: &[u16], edges: u16) -> u
     count
 }
 
-// A row behind those before it.
-fn put_row(out: &mut [u32], before: u16, row: Row)
-    ensures { λ _. ⌜ now (out .exit) ≡ sets (now (out .entry)) (5 * before) (rowOf row) ⌝ }
+// The five numbers of a row, one after the other.
+fn put_row(out: &mut [u32], at: usize, row: Row) -> usize
+    ensures { λ r. ⌜ page (now (out .exit)) r ≡ write (rowOf row) (page (now (out .entry)) at) ⌝ }
 {
-    let i = 5 * (before as usize);
-    put32(out, i, row.name);
-    put32(out, i + 1, row.low);
-    put32(out, i + 2, row.high);
-    put32(out, i + 3, row.inner);
-    put32(out, i + 4, row.length);
+    let second = put_u32(out, at, row.name);
+    let third = put_u32(out, second, row.lower);
+    let fourth = put_u32(out, third, row.other);
+    let fifth = put_u32(out, fourth, row.inner);
+    put_u32(out, fifth, row.length)
 }
 
-// The row of an edge that is a name, behind those before it; the answer is how many rows there are then.
+// The row of edge's chain, if edge is its name.
 fn put_chain(
+    out: &mut [u32],
+    at: usize,
     degrees: &[u16],
     sides: &[u16],
     ends: &[u16],
     lengths: &[u32],
     edge: u16,
-    fuel: u16,
-    before: u16,
-    out: &mut [u32],
-) -> u16
-    ensures { λ r. ⌜ ((labels : List ℕ) → put (now (out .exit)) r
-        ≡ putIn (tables (now (degrees .entry)) (now (sides .entry)) (now (ends .entry)) (now (lengths .entry)) labels) fuel edge before (now (out .entry))) ⌝ }
+    edges: u16,
+) -> usize
+    ensures { λ r. ⌜ page (now (out .exit)) r
+        ≡ write (concat (rowsIn (now (degrees .entry)) (now (sides .entry)) (now (ends .entry)) (now (lengths .entry)) edges (edge ∷ [])))
+        (page (now (out .entry)) at) ⌝ }
 {
-    if !is_name(degrees, sides, ends, edge, fuel) {
-        return before;
+    if !is_name(degrees, sides, ends, edge, edges) {
+        return at;
     }
-    let row = row_at(degrees, sides, ends, lengths, edge, fuel);
-    put_row(out, before, row);
-    one_more16(before)
+    let row = row_at(degrees, sides, ends, lengths, edge, edges);
+    put_row(out, at, row)
 }
 
-// The rows of all chains by rising name, five numbers each, to the front of the slice.
+// The rows of all chains by rising name, five numbers each, from the front of the slice on.
 pub fn put_rows(
+    out: &mut [u32],
     degrees: &[u16],
     sides: &[u16],
     ends: &[u16],
     lengths: &[u32],
     edges: u16,
-    out: &mut [u32],
-)
-    requires { ⌜ 5 * length (rowsIn (tables (now degrees) (now sides) (now ends) (now lengths) []) edges (upTo edges)) ≤ length (now out) ⌝ }
-    ensures { λ _. ⌜ ((labels : List ℕ) → now (out .exit)
-        ≡ inFront (concat (rowsIn (tables (now (degrees .entry)) (now (sides .entry)) (now (ends .entry)) (now (lengths .entry)) labels) edges (upTo edges)))
-        (now (out .entry))) ⌝ }
+) -> usize
+    ensures { λ r. ⌜ page (now (out .exit)) r
+        ≡ write (concat (rowsIn (now (degrees .entry)) (now (sides .entry)) (now (ends .entry)) (now (lengths .entry)) edges (upTo edges)))
+        (page (now (out .entry)) 0) ⌝ }
 {
-    let mut count: u16 = 0;
-    let mut d: u16 = 0;
-    while d < edges {
-        count = put_chain(degrees, sides, ends, lengths, d, edges, count, out);
-        d += 1;
+    let mut next: usize = 0;
+    let mut edge: u16 = 0;
+    let mut left = edges;
+    while 0 < left {
+        next = put_chain(out, next, degrees, sides, ends, lengths, edge, edges);
+        edge += 1;
+        left -= 1;
     }
+    next
 }

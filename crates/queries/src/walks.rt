@@ -5,13 +5,10 @@ use tables::access::of32;
 use tables::walks::Walker;
 use tables::walks::step_over;
 ghost use mathlib.Core.Path.{_≡_};
-ghost use Prim.Native.Nat.{ℕ};
-ghost use mathlib.Core.List.{List};
-ghost use Rattle.tables.specs.Steps.{tables};
-ghost use Rattle.queries.specs.Chains.{walked, walkIn};
+ghost use Rattle.queries.specs.Chains.{walkEnd, walkIn};
 
 // Where a walk ends, how many regular vertices it passes, and the lengths of the edges behind them added up.
-pub struct Walked {
+pub struct WalkEnd {
     pub at: u16,
     pub inner: u16,
     pub length: u32,
@@ -26,9 +23,9 @@ pub fn walk_chain(
     edge: u16,
     from: u16,
     fuel: u16,
-) -> Walked
-    ensures { λ r. ⌜ ((labels : List ℕ) → walked (r .at) (r .inner) (r .length)
-        ≡ walkIn (tables (now (degrees .entry)) (now (sides .entry)) (now (ends .entry)) (now (lengths .entry)) labels) fuel edge from) ⌝ }
+) -> WalkEnd
+    ensures { λ r. ⌜ walkEnd (r .at) (r .inner) (r .length)
+        ≡ walkIn (now (degrees .entry)) (now (sides .entry)) (now (ends .entry)) (now (lengths .entry)) fuel edge from ⌝ }
 {
     let mut w = Walker { edge, at: from };
     let mut inner: u16 = 0;
@@ -43,7 +40,7 @@ pub fn walk_chain(
         inner += 1;
         left -= 1;
     }
-    Walked {
+    WalkEnd {
         at: w.at,
         inner,
         length,

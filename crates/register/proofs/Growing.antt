@@ -7,8 +7,8 @@ use Rattle.model.specs.Format.{growList}
 use Rattle.model.specs.Tables.{tablesOf, countsOf, cleared, noCounts}
 use Rattle.model.proofs.Computing.{computing}
 use Rattle.model.proofs.Series.Reachable.{reachable-empty}
-use Rattle.register.specs.Listing.{landListIn}
-use Rattle.register.proofs.Listing.{list-agrees, readIn}
+use Rattle.register.specs.Records.{landListIn}
+use Rattle.register.proofs.ListAgrees.{list-agrees, shownRead}
 
 empty-tables : tablesOf empty ≡ cleared
 unfolding computing
@@ -18,6 +18,6 @@ empty-counts : countsOf empty ≡ noCounts
 unfolding computing
 empty-counts = refl
 
-pub list-leaves : (bs : List ℕ) → landListIn cleared noCounts bs ≡ readIn (growList bs)
+pub list-leaves : (bs : List ℕ) → landListIn cleared noCounts bs ≡ shownRead (growList bs)
 unfolding growList
 list-leaves bs = rw (empty-tables, empty-counts) at (list-agrees empty bs reachable-empty)

@@ -1,3 +1,3 @@
-pub mod ListingLaws
-pub mod Listing
+pub mod RecordLaws
+pub mod ListAgrees
 pub mod Growing

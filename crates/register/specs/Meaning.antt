@@ -3,7 +3,7 @@ use Rattle.model.specs.Format as format
 use Rattle.model.specs.Tables.{Tables}
 use Rattle.counters.specs.Refusals.{numberOf}
 use Rattle.counters.specs.Answers.{countsIn}
-use Rattle.register.specs.Listing.{StepIn, ended, wentOn, stoppedIn, ReadIn, readingIn}
+use Rattle.register.specs.Records.{StepIn, ended, wentOn, stoppedIn, ReadingIn, readingIn}
 use Rattle.register.specs.declared.records.Step.{Step}
 use Rattle.register.specs.declared.records.Step.the-variants as step
 use Rattle.register.specs.declared.records.Stop.{Stop}
@@ -19,5 +19,5 @@ abbrev pub stopMeans : Stop → format.Stop
 stopMeans stop.Whole = format.whole
 stopMeans (stop.Stopped k x) = format.stopped k (numberOf x)
 
-abbrev pub readingMeans : Tables → Reading → ReadIn
+abbrev pub readingMeans : Tables → Reading → ReadingIn
 readingMeans t r = readingIn t (countsIn (r .counts)) (stopMeans (r .stop))

@@ -12,11 +12,12 @@ use list::records::read_header;
 use tables::access::one_more16;
 ghost use mathlib.Core.Path.{_≡_};
 ghost use lib.ListN.{length};
+ghost use Rattle.model.specs.Tables.{noCounts};
 ghost use Rattle.counters.specs.Answers.{countsIn};
 ghost use Rattle.tables.specs.Steps.{tables};
 ghost use Rattle.insertion.specs.Meaning.{answerIn};
 ghost use Rattle.list.specs.Reading.{recordAt};
-ghost use Rattle.register.specs.Listing.{landVertexIn, stepOf, steppedIn, landRecordIn, landRecordsIn, landListIn};
+ghost use Rattle.register.specs.Records.{landVertexIn, stepOf, steppedIn, landRecordIn, landRecordsIn, landListIn};
 ghost use Rattle.register.specs.Meaning.{stepMeans, readingMeans};
 
 // What stands behind a record: the end of the list; the counts and the next record; or the record's refusal.
@@ -178,4 +179,20 @@ pub fn land_list(
             stop: Stop::Stopped(0, refusal),
         },
     }
+}
+
+// A whole list from empty, on tables that come cleared.
+pub fn grow_list(
+    degrees: &mut [u16],
+    sides: &mut [u16],
+    ends: &mut [u16],
+    lengths: &mut [u32],
+    labels: &mut [u32],
+    list: &[u8],
+) -> Reading
+    ensures { λ r. ⌜ readingMeans (tables (now (degrees .exit)) (now (sides .exit)) (now (ends .exit)) (now (lengths .exit)) (now (labels .exit))) r
+        ≡ landListIn (tables (now (degrees .entry)) (now (sides .entry)) (now (ends .entry)) (now (lengths .entry)) (now (labels .entry)))
+        noCounts (now (list .entry)) ⌝ }
+{
+    land_list(degrees, sides, ends, lengths, labels, Counts::none(), list)
 }

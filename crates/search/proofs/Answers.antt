@@ -1,5 +1,5 @@
 -- The distances that the search begins with, and the answer that it ends with.
-use mathlib.Core.Path.{_≡_, sym, ap, _∙_}
+use mathlib.Core.Path.{_≡_, _∙_}
 use mathlib.Core.Logic.{_≢_}
 use Prim.Native.Nat.{ℕ, _+_, _≤_, _<_}
 use native.Mathlib.Decide.{ℕ-discrete, decLt}
@@ -9,7 +9,6 @@ use lib.ListN.{length, getD, set, length-set}
 use lib.Seq.{getD-set-same, getD-set-other}
 use borrow.Author.Count.{below-more}
 use Rattle.model.specs.Basics.{maxVertices}
-use Rattle.model.specs.Graph.{Edge}
 use Rattle.model.specs.Distance.{Way, IsDistance, distance}
 use Rattle.model.specs.Tables.{edgesIn}
 use Rattle.model.proofs.Distances.Distance.{only-distance}
@@ -21,46 +20,49 @@ use Rattle.search.proofs.Edges.{edges-only}
 use Rattle.search.proofs.Settled.{settled-joined, settled-none}
 
 -- a table filled with one number, but for the goal
-pub filled-more : (dists dists′ : List ℕ) (i v : ℕ) → i < length dists → dists′ ≡ set dists i v → ((k : ℕ) → k < i → getD dists k 0 ≡ v)
-    → (k : ℕ) → k < i + 1 → getD dists′ k 0 ≡ v
-filled-more dists dists′ i v l q f =
-    rw q (below-more _ i (λ k b. getD-set-other dists i k v 0 (λ z. omega arith) ∙ f k b) (getD-set-same dists i v 0 l))
+pub filled-more : (distances distances′ : List ℕ) (i v : ℕ) → i < length distances → distances′ ≡ set distances i v → ((k : ℕ) → k < i → getD distances k 0 ≡ v)
+    → (k : ℕ) → k < i + 1 → getD distances′ k 0 ≡ v
+filled-more distances distances′ i v l q f =
+    rw q (below-more _ i (λ k b. getD-set-other distances i k v 0 (λ z. omega arith) ∙ f k b) (getD-set-same distances i v 0 l))
 
-pub filled-but : (dists dists′ : List ℕ) (goal i : ℕ) → goal < length dists → dists′ ≡ set dists goal 0 → length dists ≤ i
-    → ((k : ℕ) → k < i → getD dists k 0 ≡ unreached) → Started dists′ goal
-filled-but dists dists′ goal i l q b f =
+pub filled-but : (distances distances′ : List ℕ) (goal i : ℕ) → goal < length distances → distances′ ≡ set distances goal 0 → length distances ≤ i
+    → ((k : ℕ) → k < i → getD distances k 0 ≡ unreached) → Started distances′ goal
+filled-but distances distances′ goal i l q b f =
     rw q (record {
-      others = λ k c o. getD-set-other dists goal k 0 0 o ∙ f k (omega (arith, c, length-set dists goal 0));
-      at-goal = getD-set-same dists goal 0 0 l;
+      others = λ k c o. getD-set-other distances goal k 0 0 o ∙ f k (omega (arith, c, length-set distances goal 0));
+      at-goal = getD-set-same distances goal 0 0 l;
     })
 
-module _ (ends lens : List ℕ) (m goal : ℕ) (h : Searchable ends lens m) where
-  pub started : (dists : List ℕ) → maxVertices ≤ length dists → Started dists goal → Grounded ends lens m goal dists
-  started dists b s = record {
-    room = b;
-    top = λ v l. top′ v l (ℕ-discrete v goal);
+module _ (ends lengths : List ℕ) (m goal : ℕ) where
+  pub started : {n : ℕ} (distances : List ℕ) → Searchable ends lengths m → maxVertices ≤ n → length distances ≡ n → Started distances goal
+      → Grounded ends lengths m goal distances
+  started distances h b k s = record {
+    bounded = record { searchable = h; room = omega arith; top = λ v l. top′ v l (ℕ-discrete v goal) };
     at-goal = s .at-goal;
     reason = λ v l r. reason′ v l r (ℕ-discrete v goal);
   }
     where
-      far : (v : ℕ) → v < maxVertices → v ≢ goal → getD dists v 0 ≡ unreached
+      far : (v : ℕ) → v < maxVertices → v ≢ goal → getD distances v 0 ≡ unreached
       far v l q = s .others v (omega arith) q
 
-      top′ : (v : ℕ) → v < maxVertices → Dec (v ≡ goal) → getD dists v 0 ≤ unreached
+      top′ : (v : ℕ) → v < maxVertices → Dec (v ≡ goal) → getD distances v 0 ≤ unreached
       top′ v l (yes q) = rw q (omega (arith, s .at-goal))
       top′ v l (no q) = omega (arith, far v l q)
 
-      reason′ : (v : ℕ) → v < maxVertices → getD dists v 0 < unreached → Dec (v ≡ goal) → Reason ends lens m goal dists v
+      reason′ : (v : ℕ) → v < maxVertices → getD distances v 0 < unreached → Dec (v ≡ goal) → Reason ends lengths m goal distances v
       reason′ v l r (yes q) = is-goal q
       reason′ v l r (no q) = absurd (omega (arith, far v l q))
 
   -- settled distances are the model's
-  pub answers : (from : ℕ) (dists : List ℕ) (d : ℕ) (r : Measured) → from < maxVertices → goal < maxVertices → Settled ends lens m goal from dists
-      → d ≡ getD dists from 0 → (d < unreached → r ≡ Joined d) × (unreached ≤ d → r ≡ NotJoined)
-      → (degrees sides labels : List ℕ) → measuredIn r ≡ distance (edgesIn (tables degrees sides ends lens labels) m) from goal
-  answers from dists d r l l′ s q c degrees sides labels =
-      rw (edges-only degrees sides ends lens labels m) (only-distance (edges ends lens m) from goal (measuredIn r) (go (decLt d unreached)))
+  pub answers : (from : ℕ) (distances distances′ : List ℕ) (d : ℕ) (r : Measured) → from < maxVertices → goal < maxVertices → Grounded ends lengths m goal distances
+      → Settled ends lengths m from distances distances′ → d ≡ getD distances′ from 0 → (d < unreached → r ≡ Joined d) × (unreached ≤ d → r ≡ NotJoined)
+      → (degrees sides labels : List ℕ) → measuredIn r ≡ distance (edgesIn (tables degrees sides ends lengths labels) m) from goal
+  answers from distances distances′ d r l l′ g s q c degrees sides labels =
+      rw (edges-only degrees sides ends lengths labels m) (only-distance (edges ends lengths m) from goal (measuredIn r) (go (decLt d unreached)))
     where
-      go : Dec (d < unreached) → IsDistance (λ (k : ℕ). Way (edges ends lens m) from goal k) (measuredIn r)
-      go (yes b) = rw (c .0 b, q) (settled-joined ends lens m goal from dists h (s .grounded) (s .still) l (omega arith))
-      go (no b) = rw (c .1 (omega arith)) (settled-none ends lens m goal from dists h (s .grounded) (s .still) l′ (omega arith))
+      g′ : Grounded ends lengths m goal distances′
+      g′ = s .keeps .grounded goal g
+
+      go : Dec (d < unreached) → IsDistance (λ (k : ℕ). Way (edges ends lengths m) from goal k) (measuredIn r)
+      go (yes b) = rw (c .0 b, q) (settled-joined ends lengths m goal from distances′ g′ (s .still) l (omega arith))
+      go (no b) = rw (c .1 (omega arith)) (settled-none ends lengths m goal from distances′ g′ (s .still) l′ (omega arith))

@@ -1,36 +1,31 @@
--- The list of the tables' edges: its length and its elements.
+-- The tables' edges: as a list, and that their ends are vertices.
 use mathlib.Core.Path.{_≡_, refl, ap, _∙_}
-use Prim.Native.Nat.{ℕ, zero, suc, _+_, _<_}
-use native.Mathlib.Nat.{not-suc-le-zero}
+use Prim.Native.Nat.{ℕ, _<_}
 use native.Mathlib.Omega.{arith}
-use mathlib.Core.List.{List, map}
-use lib.ListN.{length, getD}
-use Rattle.model.specs.Basics.{countFrom, upTo}
-use Rattle.model.specs.Graph.{Edge, edgeAt, noEdge}
-use Rattle.model.specs.Tables.{Tables, edgeIn, edgesIn}
+use mathlib.Core.List.{List}
+use lib.ListN.{length, length-map}
+use Rattle.model.specs.Basics.{upTo, maxVertices}
+use Rattle.model.specs.Graph.{edgeAt, noEdge}
+use Rattle.model.specs.Distance.{Joins, forth, back}
+use Rattle.model.specs.Tables.{edgeIn, edgesIn}
+use Rattle.model.proofs.Basics.Lists.{length-upTo, getD-counted}
 use Rattle.tables.specs.Steps.{tables}
-use Rattle.search.specs.Search.{edge, edges}
+use Rattle.search.specs.Search.{edge, edges, Searchable}
 
-length-counted : (g : ℕ → Edge) (at n : ℕ) → length (map g (countFrom at n)) ≡ n
-unfolding countFrom
-length-counted g at zero = refl
-length-counted g at (suc n) = ap suc (length-counted g (suc at) n)
+pub edges-length : (ends lengths : List ℕ) (m : ℕ) → length (edges ends lengths m) ≡ m
+unfolding edgesIn
+edges-length ends lengths m = length-map (upTo m) (edge ends lengths) ∙ length-upTo m
 
-at-counted : (g : ℕ → Edge) (at n i : ℕ) → i < n → getD (map g (countFrom at n)) i noEdge ≡ g (at + i)
-unfolding countFrom
-at-counted g at zero i h = absurd (not-suc-le-zero h)
-at-counted g at (suc n) zero h = ap g (omega arith)
-at-counted g at (suc n) (suc i) h = at-counted g (suc at) n i (omega arith) ∙ ap g (omega arith)
-
-pub edges-length : (ends lens : List ℕ) (m : ℕ) → length (edges ends lens m) ≡ m
-unfolding edgesIn upTo
-edges-length ends lens m = length-counted (edge ends lens) 0 m
-
-pub edges-at : (ends lens : List ℕ) (m e : ℕ) → e < m → edgeAt (edges ends lens m) e ≡ edge ends lens e
+pub edges-at : (ends lengths : List ℕ) (m e : ℕ) → e < m → edgeAt (edges ends lengths m) e ≡ edge ends lengths e
 unfolding edgesIn upTo edgeAt
-edges-at ends lens m e h = at-counted (edge ends lens) 0 m e h ∙ ap (edge ends lens) (omega arith)
+edges-at ends lengths m e h = getD-counted (edge ends lengths) noEdge 0 m e h ∙ ap (edge ends lengths) (omega arith)
 
 -- the other tables have no part in them
-pub edges-only : (degrees sides ends lens labels : List ℕ) (m : ℕ) → edgesIn (tables degrees sides ends lens labels) m ≡ edges ends lens m
+pub edges-only : (degrees sides ends lengths labels : List ℕ) (m : ℕ) → edgesIn (tables degrees sides ends lengths labels) m ≡ edges ends lengths m
 unfolding edgesIn edgeIn
-edges-only degrees sides ends lens labels m = refl
+edges-only degrees sides ends lengths labels m = refl
+
+pub ends-below : {ends lengths : List ℕ} {m e v u : ℕ} → Searchable ends lengths m → e < m → Joins (edge ends lengths e) v u → (v < maxVertices) × (u < maxVertices)
+unfolding edgeIn
+ends-below {e = e} h l (forth p q) = (rw (← p) (h .firsts e l), rw (← q) (h .seconds e l))
+ends-below {e = e} h l (back p q) = (rw (← p) (h .seconds e l), rw (← q) (h .firsts e l))

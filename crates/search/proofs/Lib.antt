@@ -4,3 +4,4 @@ pub mod Settled
 pub mod Relaxing
 pub mod Rounds
 pub mod Answers
+pub mod Searching

@@ -1,5 +1,5 @@
 -- What trying one edge does to the distances.
-use mathlib.Core.Path.{_≡_, sym, ap, _∙_}
+use mathlib.Core.Path.{_≡_, refl, ap}
 use Prim.Native.Nat.{ℕ, _+_, _*_, _-_, _/_, _≤_, _<_, min, max}
 use native.Mathlib.Decide.{ℕ-discrete}
 use native.Mathlib.Omega.{arith}
@@ -9,32 +9,27 @@ use lib.Seq.{getD-set-same, getD-set-other}
 use Rattle.model.specs.Basics.{maxVertices}
 use Rattle.model.specs.Distance.{Joins, forth, back}
 use Rattle.model.specs.Tables.{edgeIn}
-use Rattle.search.specs.Search.{edge, unreached, Searchable, Reason, is-goal, over, Grounded, Still, Within, Relaxed, rests, lowers}
+use Rattle.search.specs.Search.{edge, unreached, Searchable, Bounded, Reason, is-goal, over, Grounded, Keeps, Still, Within, Relaxed, rests, lowers}
+use Rattle.search.proofs.Edges.{ends-below}
 
--- an edge as long as the bound lowers nothing below it
-pub still-long : (ends lens dists : List ℕ) (d e len : ℕ) → len ≡ getD lens e 0 → d ≤ len → Still ends lens dists d e
-still-long ends lens dists d e len p q = record { first = omega arith; second = omega arith }
+-- an edge as long as best lowers nothing below it
+pub still-long : (ends lengths distances : List ℕ) (best e len : ℕ) → len ≡ getD lengths e 0 → best ≤ len → Still ends lengths distances best e
+still-long ends lengths distances best e len p q = record { first = omega arith; second = omega arith }
 
--- the ways out of a step
-module _ (ends lens dists : List ℕ) (d e a b len da db s : ℕ) (p : a ≡ getD ends (2 * e) 0) (q : b ≡ getD ends (2 * e + 1) 0) (r : len ≡ getD lens e 0)
-    (t : da ≡ getD dists a 0) (u : db ≡ getD dists b 0) (w : s ≡ min da db + len) where
-  pub still-of : min d (max da db) ≤ s → Still ends lens dists d e
-  still-of x =
-      let y : min d da ≤ len + db = omega arith in
-      let z : min d db ≤ len + da = omega arith in
-      record { first = rw (← p, ← q, ← r, ← t, ← u) y; second = rw (← p, ← q, ← r, ← t, ← u) z }
+pub still-of : (ends lengths distances : List ℕ) (best e a b len da db s : ℕ) → a ≡ getD ends (2 * e) 0 → b ≡ getD ends (2 * e + 1) 0 → len ≡ getD lengths e 0
+    → da ≡ getD distances a 0 → db ≡ getD distances b 0 → s ≡ min da db + len → min best (max da db) ≤ s → Still ends lengths distances best e
+still-of ends lengths distances best e a b len da db s p q r t u w x =
+    let y : min best da ≤ len + db = omega arith in
+    let z : min best db ≤ len + da = omega arith in
+    record { first = rw (← p, ← q, ← r, ← t, ← u) y; second = rw (← p, ← q, ← r, ← t, ← u) z }
 
-  pub lowered-second : (dists′ : List ℕ) → s < min d (max da db) → da < db → dists′ ≡ set dists b s → Relaxed ends lens dists dists′ d e b
-  unfolding edgeIn
-  lowered-second dists′ x y o =
-      let z : getD lens e 0 + getD dists a 0 ≡ s = omega arith in
-      lowers a (back (sym q) (sym p)) (omega arith) (rw z o)
-
-  pub lowered-first : (dists′ : List ℕ) → s < min d (max da db) → db ≤ da → dists′ ≡ set dists a s → Relaxed ends lens dists dists′ d e a
-  unfolding edgeIn
-  lowered-first dists′ x y o =
-      let z : getD lens e 0 + getD dists b 0 ≡ s = omega arith in
-      lowers b (forth (sym p) (sym q)) (omega arith) (rw z o)
+-- end v gets a lesser distance from the other end
+pub lowered : (ends lengths distances distances′ : List ℕ) (best e v u dv du len s : ℕ) → Joins (edge ends lengths e) v u → dv ≡ getD distances v 0
+    → du ≡ getD distances u 0 → len ≡ getD lengths e 0 → s ≡ du + len → s < dv → distances′ ≡ set distances v s
+    → Relaxed ends lengths distances distances′ best e v
+lowered ends lengths distances distances′ best e v u dv du len s j p q r t l o =
+    let z : getD lengths e 0 + getD distances u 0 ≡ s = omega arith in
+    lowers u j (omega arith) (rw z o)
 
 -- a store of no more than what stood there raises no element
 store-le : (l : List ℕ) (i v k : ℕ) → i < length l → v ≤ getD l i 0 → getD (set l i v) k 0 ≤ getD l k 0
@@ -44,100 +39,87 @@ store-le l i v k h g = go (ℕ-discrete k i)
     go (yes e) = rw e (rw (getD-set-same l i v 0 h) g)
     go (no e) = omega (arith, getD-set-other l i k v 0 e)
 
-module _ (ends lens : List ℕ) (m goal : ℕ) (h : Searchable ends lens m) where
-  -- an edge's ends are vertices
-  pub near-below : (e v u : ℕ) → e < m → Joins (edge ends lens e) v u → v < maxVertices
-  unfolding edgeIn
-  near-below e v u l (forth p q) = rw (← p) (h .firsts e l)
-  near-below e v u l (back p q) = rw (← p) (h .seconds e l)
+pub keeps-same : {ends lengths : List ℕ} {m : ℕ} {distances : List ℕ} → Bounded ends lengths m distances → Keeps ends lengths m distances distances
+keeps-same b = record { bounded = b; grounded = λ goal g. g }
 
-  pub within : (dists : List ℕ) (e : ℕ) → Grounded ends lens m goal dists → e < m → Within ends lens dists e
-  within dists e g l = record {
-    ends-room = omega (arith, h .ends-room);
-    lens-room = omega (arith, h .lens-room);
-    first-room = omega (arith, h .firsts e l, g .room);
-    second-room = omega (arith, h .seconds e l, g .room);
-    first-distance = g .top (getD ends (2 * e) 0) (h .firsts e l);
-    short = h .short e l;
-  }
-
-  -- a lesser distance keeps the distances grounded
-  pub grounded-set : (dists : List ℕ) (e v u : ℕ) → Grounded ends lens m goal dists → e < m → Joins (edge ends lens e) v u
-      → getD lens e 0 + getD dists u 0 < getD dists v 0 → Grounded ends lens m goal (set dists v (getD lens e 0 + getD dists u 0))
-  grounded-set dists e v u g l j b =
-      record { room = simp length-set (g .room); top = top′; at-goal = goal′ (ℕ-discrete goal v); reason = λ w wn r. reason′ w wn r (ℕ-discrete w v) }
-    where
-      vn : v < length dists
-      vn = omega (arith, near-below e v u l j, g .room)
-
-      less : (k : ℕ) → getD (set dists v (getD lens e 0 + getD dists u 0)) k 0 ≤ getD dists k 0
-      less k = store-le dists v (getD lens e 0 + getD dists u 0) k vn (omega arith)
-
-      here′ : getD (set dists v (getD lens e 0 + getD dists u 0)) v 0 ≡ getD lens e 0 + getD dists u 0
-      here′ = getD-set-same dists v (getD lens e 0 + getD dists u 0) 0 vn
-
-      top′ : (k : ℕ) → k < maxVertices → getD (set dists v (getD lens e 0 + getD dists u 0)) k 0 ≤ unreached
-      top′ k kn = omega (arith, less k, g .top k kn)
-
-      goal′ : Dec (goal ≡ v) → getD (set dists v (getD lens e 0 + getD dists u 0)) goal 0 ≡ 0
-      goal′ (yes q) = let z : getD dists v 0 ≡ 0 = rw q at (g .at-goal) in absurd (omega arith)
-      goal′ (no q) = getD-set-other dists v goal (getD lens e 0 + getD dists u 0) 0 q ∙ g .at-goal
-
-      reason′ : (w : ℕ) → w < maxVertices → getD (set dists v (getD lens e 0 + getD dists u 0)) w 0 < unreached → Dec (w ≡ v)
-          → Reason ends lens m goal (set dists v (getD lens e 0 + getD dists u 0)) w
-      reason′ w wn r (yes q) = rw q (over e u l j (omega (arith, less u, here′)))
-      reason′ w wn r (no q) =
-          let s : getD (set dists v (getD lens e 0 + getD dists u 0)) w 0 ≡ getD dists w 0 = getD-set-other dists v w (getD lens e 0 + getD dists u 0) 0 q in
-          again (g .reason w wn (omega arith)) s
-        where
-          again : Reason ends lens m goal dists w → getD (set dists v (getD lens e 0 + getD dists u 0)) w 0 ≡ getD dists w 0
-              → Reason ends lens m goal (set dists v (getD lens e 0 + getD dists u 0)) w
-          again (is-goal p) s = is-goal p
-          again (over e′ u′ l′ j′ b′) s = over e′ u′ l′ j′ (omega (arith, less u′))
-
-  pub relaxed-grounded : (dists dists′ : List ℕ) (d e r : ℕ) → e < m → Grounded ends lens m goal dists → Relaxed ends lens dists dists′ d e r
-      → Grounded ends lens m goal dists′
-  relaxed-grounded dists dists′ d e r l g (rests p q s) = rw q g
-  relaxed-grounded dists dists′ d e r l g (lowers u j b q) = rw q (grounded-set dists e r u g l j b)
+pub keeps-on : {ends lengths : List ℕ} {m : ℕ} {d d′ d″ : List ℕ} → Keeps ends lengths m d d′ → Keeps ends lengths m d′ d″ → Keeps ends lengths m d d″
+keeps-on k k′ = record { bounded = k′ .bounded; grounded = λ goal g. k′ .grounded goal (k .grounded goal g) }
 
 -- The two ends of one edge: entry j of a list stands for end j - 2, and half of it is the edge's number plus 1.
-module _ (ends lens : List ℕ) (m goal : ℕ) (h : Searchable ends lens m) where
-  end-below : (e k : ℕ) → e < m → Dec (k ≡ 2 * e) → k ≤ 2 * e + 1 → 2 * e ≤ k → getD ends k 0 < maxVertices
-  end-below e k l (yes p) a b = rw p (h .firsts e l)
-  end-below e k l (no p) a b = let q : k ≡ 2 * e + 1 = omega arith in rw q (h .seconds e l)
+pub end-vertex : {ends lengths : List ℕ} {m : ℕ} → Searchable ends lengths m → (k : ℕ) → k < 2 * m → getD ends k 0 < maxVertices
+end-vertex {ends} {lengths} {m} h k l = go (ℕ-discrete k (2 * (k / 2)))
+  where
+    go : Dec (k ≡ 2 * (k / 2)) → getD ends k 0 < maxVertices
+    go (yes p) = rw p (h .firsts (k / 2) (omega arith))
+    go (no p) = let q : k ≡ 2 * (k / 2) + 1 = omega arith in rw q (h .seconds (k / 2) (omega arith))
 
-  pub end-vertex : (k : ℕ) → k < 2 * m → getD ends k 0 < maxVertices
-  end-vertex k l = end-below (k / 2) k (omega arith) (ℕ-discrete _ _) (omega arith) (omega arith)
+pub end-room : {ends lengths : List ℕ} {m : ℕ} {distances : List ℕ} → Bounded ends lengths m distances → (k x : ℕ) → k < 2 * m → x ≡ getD ends k 0 → x < length distances
+end-room b k x l e = omega (arith, end-vertex (b .searchable) k l, b .room)
 
-  pub near-room : (dists : List ℕ) (j half : ℕ) → Grounded ends lens m goal dists → half ≡ j / 2 → 1 ≤ half → half ≤ m
-      → getD ends (j - 2) 0 < maxVertices
-  near-room dists j half g p a b = end-below (half - 1) (j - 2) (omega arith) (ℕ-discrete _ _) (omega arith) (omega arith)
+joins-far : (ends lengths : List ℕ) (j half : ℕ) → half ≡ j / 2 → 1 ≤ half
+    → Joins (edge ends lengths (half - 1)) (getD ends (4 * half - 1 - j) 0) (getD ends (j - 2) 0)
+unfolding edgeIn
+joins-far ends lengths j half p a = go (ℕ-discrete j (2 * half))
+  where
+    go : Dec (j ≡ 2 * half) → Joins (edge ends lengths (half - 1)) (getD ends (4 * half - 1 - j) 0) (getD ends (j - 2) 0)
+    go (yes q) =
+        let near : 2 * (half - 1) ≡ j - 2 = omega arith in
+        let far : 2 * (half - 1) + 1 ≡ 4 * half - 1 - j = omega arith in
+        back (ap (λ (k : ℕ). getD ends k 0) far) (ap (λ (k : ℕ). getD ends k 0) near)
+    go (no q) =
+        let near : 2 * (half - 1) + 1 ≡ j - 2 = omega arith in
+        let far : 2 * (half - 1) ≡ 4 * half - 1 - j = omega arith in
+        forth (ap (λ (k : ℕ). getD ends k 0) far) (ap (λ (k : ℕ). getD ends k 0) near)
 
-  pub far-room : (dists : List ℕ) (j half : ℕ) → Grounded ends lens m goal dists → half ≡ j / 2 → 1 ≤ half → half ≤ m
-      → getD ends (4 * half - 1 - j) 0 < maxVertices
-  far-room dists j half g p a b = end-below (half - 1) (4 * half - 1 - j) (omega arith) (ℕ-discrete _ _) (omega arith) (omega arith)
+module _ (ends lengths : List ℕ) (m : ℕ) (distances : List ℕ) (b : Bounded ends lengths m distances) where
+  pub within : (e : ℕ) → e < m → Within ends lengths distances e
+  within e l =
+      let h = b .searchable in
+      record {
+        ends-room = omega (arith, h .ends-room);
+        lengths-room = omega (arith, h .lengths-room);
+        first-room = omega (arith, h .firsts e l, b .room);
+        second-room = omega (arith, h .seconds e l, b .room);
+        first-distance = b .top (getD ends (2 * e) 0) (h .firsts e l);
+        short = h .short e l;
+      }
 
-  pub joins-far : (j half : ℕ) → half ≡ j / 2 → 1 ≤ half → Joins (edge ends lens (half - 1)) (getD ends (4 * half - 1 - j) 0) (getD ends (j - 2) 0)
-  unfolding edgeIn
-  joins-far j half p a = go (ℕ-discrete j (2 * half))
+  -- a lesser distance keeps the distances grounded
+  keeps-set : (e v u s : ℕ) → e < m → Joins (edge ends lengths e) v u → s ≡ getD lengths e 0 + getD distances u 0 → s < getD distances v 0
+      → Keeps ends lengths m distances (set distances v s)
+  keeps-set e v u s l j p c = record { bounded = bounded′; grounded = grounded′ }
     where
-      go : Dec (j ≡ 2 * half) → Joins (edge ends lens (half - 1)) (getD ends (4 * half - 1 - j) 0) (getD ends (j - 2) 0)
-      go (yes q) =
-          let near : 2 * (half - 1) ≡ j - 2 = omega arith in
-          let far : 2 * (half - 1) + 1 ≡ 4 * half - 1 - j = omega arith in
-          back (ap (λ (k : ℕ). getD ends k 0) far) (ap (λ (k : ℕ). getD ends k 0) near)
-      go (no q) =
-          let near : 2 * (half - 1) + 1 ≡ j - 2 = omega arith in
-          let far : 2 * (half - 1) ≡ 4 * half - 1 - j = omega arith in
-          forth (ap (λ (k : ℕ). getD ends k 0) far) (ap (λ (k : ℕ). getD ends k 0) near)
+      vn : v < length distances
+      vn = omega (arith, ends-below (b .searchable) l j .0, b .room)
+
+      less : (k : ℕ) → getD (set distances v s) k 0 ≤ getD distances k 0
+      less k = store-le distances v s k vn (omega arith)
+
+      bounded′ : Bounded ends lengths m (set distances v s)
+      bounded′ = record { searchable = b .searchable; room = simp length-set (b .room); top = λ k kn. omega (arith, less k, b .top k kn) }
+
+      grounded′ : (goal : ℕ) → Grounded ends lengths m goal distances → Grounded ends lengths m goal (set distances v s)
+      grounded′ goal g = record { bounded = bounded′; at-goal = omega (arith, less goal, g .at-goal); reason = λ w wn r. reason′ w wn r (ℕ-discrete w v) }
+        where
+          reason′ : (w : ℕ) → w < maxVertices → getD (set distances v s) w 0 < unreached → Dec (w ≡ v) → Reason ends lengths m goal (set distances v s) w
+          reason′ w wn r (yes q) = rw q (over e u l j (omega (arith, less u, getD-set-same distances v s 0 vn)))
+          reason′ w wn r (no q) = again (g .reason w wn (omega (arith, other)))
+            where
+              other : getD (set distances v s) w 0 ≡ getD distances w 0
+              other = getD-set-other distances v w s 0 q
+
+              again : Reason ends lengths m goal distances w → Reason ends lengths m goal (set distances v s) w
+              again (is-goal q′) = is-goal q′
+              again (over e′ u′ l′ j′ c′) = over e′ u′ l′ j′ (omega (arith, less u′, other))
+
+  pub relaxed-keeps : (distances′ : List ℕ) (best e r : ℕ) → e < m → Relaxed ends lengths distances distances′ best e r → Keeps ends lengths m distances distances′
+  relaxed-keeps distances′ best e r l (rests p q s) = rw q (keeps-same b)
+  relaxed-keeps distances′ best e r l (lowers u j c q) = rw q (keeps-set e r u (getD lengths e 0 + getD distances u 0) l j refl c)
 
   -- the step from the near end to the far one
-  pub far-grounded : (dists dists′ : List ℕ) (j half near far dn df len s : ℕ) → Grounded ends lens m goal dists → half ≡ j / 2 → 1 ≤ half → half ≤ m
-      → near ≡ getD ends (j - 2) 0 → far ≡ getD ends (4 * half - 1 - j) 0 → dn ≡ getD dists near 0 → df ≡ getD dists far 0 → len ≡ getD lens (half - 1) 0
-      → s ≡ dn + len → s < df → dists′ ≡ set dists far s → Grounded ends lens m goal dists′
-  far-grounded dists dists′ j half near far dn df len s g p a b x y t u r w c o =
-      let l : half - 1 < m = omega arith in
-      let i : Joins (edge ends lens (half - 1)) far near = rw (x, y) (joins-far j half p a) in
-      let z : getD lens (half - 1) 0 + getD dists near 0 ≡ s = omega arith in
-      let q : getD lens (half - 1) 0 + getD dists near 0 < getD dists far 0 = omega arith in
-      rw (o, ← z) (grounded-set ends lens m goal h dists (half - 1) far near g l i q)
+  pub far-keeps : (distances′ : List ℕ) (j half near far dn df len s : ℕ) → half ≡ j / 2 → 1 ≤ half → half ≤ m → near ≡ getD ends (j - 2) 0
+      → far ≡ getD ends (4 * half - 1 - j) 0 → dn ≡ getD distances near 0 → df ≡ getD distances far 0 → len ≡ getD lengths (half - 1) 0 → s ≡ dn + len → s < df
+      → distances′ ≡ set distances far s → Keeps ends lengths m distances distances′
+  far-keeps distances′ j half near far dn df len s p a c x y t u r w q o =
+      let i : Joins (edge ends lengths (half - 1)) far near = rw (x, y) (joins-far ends lengths j half p a) in
+      relaxed-keeps distances′ 0 (half - 1) far (omega arith) (lowered _ _ _ _ _ _ _ _ df dn len s i u t r w q o)

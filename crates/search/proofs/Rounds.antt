@@ -7,73 +7,72 @@ use mathlib.Core.List.{List, [], _∷_}
 use lib.ListN.{length, getD, set}
 use borrow.Author.Count.{below-more}
 use Rattle.model.specs.Basics.{sum}
-use Rattle.search.specs.Search.{none, Searchable, Grounded, Still, Relaxed, rests, lowers, Counted, Round, Settled}
-use Rattle.search.proofs.Relaxing.{near-below, grounded-set}
+use Rattle.search.specs.Search.{noVertex, Bounded, Keeps, Still, Relaxed, rests, lowers, Counted, Round, Settled}
+use Rattle.search.proofs.Relaxing.{keeps-same, keeps-on, relaxed-keeps}
+use Rattle.search.proofs.Edges.{ends-below}
 
 -- a store changes the sum by what it changes the element
-pub sum-set : (l : List ℕ) (i v : ℕ) → i < length l → sum (set l i v) + getD l i 0 ≡ sum l + v
+sum-set : (l : List ℕ) (i v : ℕ) → i < length l → sum (set l i v) + getD l i 0 ≡ sum l + v
 unfolding sum
 sum-set [] i v h = absurd (not-suc-le-zero h)
 sum-set (x ∷ l) zero v h = omega arith
 sum-set (x ∷ l) (suc i) v h = omega (arith, sum-set l i v (le-of-suc-le-suc h))
 
 -- a round so far: after the edges below e
-pub record SoFar (ends lens : List ℕ) (m goal : ℕ) (dists₀ dists : List ℕ) (d changes e : ℕ) : Type 0 where
-  pub grounded : Grounded ends lens m goal dists
-  pub falls : sum dists + changes ≤ sum dists₀
+pub record SoFar (ends lengths : List ℕ) (m : ℕ) (distances₀ distances : List ℕ) (best changes e : ℕ) : Type 0 where
+  pub keeps : Keeps ends lengths m distances₀ distances
+  pub falls : sum distances + changes ≤ sum distances₀
   pub few : changes ≤ e
-  pub end : e ≤ m
-  pub same : changes ≡ 0 → dists ≡ dists₀
-  pub still : changes ≡ 0 → (k : ℕ) → k < e → Still ends lens dists₀ d k
+  pub same : changes ≡ 0 → distances ≡ distances₀
+  pub still : changes ≡ 0 → (k : ℕ) → k < e → Still ends lengths distances₀ best k
 
-module _ (ends lens : List ℕ) (m goal : ℕ) (h : Searchable ends lens m) where
-  pub so-far-none : (dists : List ℕ) (d : ℕ) → Grounded ends lens m goal dists → SoFar ends lens m goal dists dists d 0 0
-  so-far-none dists d g = record {
-    grounded = g;
+module _ (ends lengths : List ℕ) (m : ℕ) where
+  pub so-far-none : (distances : List ℕ) (best : ℕ) → Bounded ends lengths m distances → SoFar ends lengths m distances distances best 0 0
+  so-far-none distances best b = record {
+    keeps = keeps-same b;
     falls = omega arith;
     few = omega arith;
-    end = omega arith;
     same = λ _. refl;
     still = λ _ k l. absurd (not-suc-le-zero l);
   }
 
-  pub so-far-more : (dists₀ dists dists′ : List ℕ) (d changes count e r : ℕ) → e < m → SoFar ends lens m goal dists₀ dists d changes e
-      → Relaxed ends lens dists dists′ d e r → Counted changes r count → SoFar ends lens m goal dists₀ dists′ d count (e + 1)
-  so-far-more dists₀ dists dists′ d changes count e r l f (rests p q s) c =
+  pub so-far-more : (distances₀ distances distances′ : List ℕ) (best changes count e r : ℕ) → e < m → SoFar ends lengths m distances₀ distances best changes e
+      → Relaxed ends lengths distances distances′ best e r → Counted changes r count → SoFar ends lengths m distances₀ distances′ best count (e + 1)
+  so-far-more distances₀ distances distances′ best changes count e r l f (rests p q s) c =
       let k : count ≡ changes = c .rested p in
       record {
-        grounded = rw q (f .grounded);
+        keeps = rw q (f .keeps);
         falls = rw (q, k) (f .falls);
         few = omega (arith, f .few);
-        end = omega arith;
         same = λ z. q ∙ f .same (sym k ∙ z);
         still = λ z. below-more _ _ (f .still (sym k ∙ z)) (rw (f .same (sym k ∙ z)) at s);
       }
-  so-far-more dists₀ dists dists′ d changes count e r l f (lowers u j b q) c =
-      let rn = near-below ends lens m goal h e r u l j in
-      let ne : r ≡ none → ⊥ = λ z. omega arith in
-      let k : count ≡ changes + 1 = c .lowered ne in
-      let s = sum-set dists r (getD lens e 0 + getD dists u 0) (omega (arith, f .grounded .room)) in
+  so-far-more distances₀ distances distances′ best changes count e r l f (lowers u j c q) n =
+      let b = f .keeps .bounded in
+      let rn = ends-below (b .searchable) l j .0 in
+      let ne : r ≡ noVertex → ⊥ = λ z. omega arith in
+      let k : count ≡ changes + 1 = n .lowered ne in
+      let s = sum-set distances r (getD lengths e 0 + getD distances u 0) (omega (arith, b .room)) in
       record {
-        grounded = rw q (grounded-set ends lens m goal h dists e r u (f .grounded) l j b);
+        keeps = keeps-on (f .keeps) (relaxed-keeps ends lengths m distances b distances′ best e r l (lowers u j c q));
         falls = rw q (omega (arith, f .falls));
         few = omega (arith, f .few);
-        end = omega arith;
         same = λ z. absurd (omega arith);
         still = λ z. absurd (omega arith);
       }
 
-  pub so-far-all : (dists₀ dists : List ℕ) (d changes e : ℕ) → m ≤ e → SoFar ends lens m goal dists₀ dists d changes e → Round ends lens m goal dists₀ dists d changes
-  so-far-all dists₀ dists d changes e l f = record {
-    grounded = f .grounded;
+  pub so-far-all : (distances₀ distances : List ℕ) (best changes e : ℕ) → m ≤ e → SoFar ends lengths m distances₀ distances best changes e
+      → Round ends lengths m distances₀ distances best changes
+  so-far-all distances₀ distances best changes e l f = record {
+    keeps = f .keeps;
     falls = f .falls;
     same = f .same;
     still = λ z k b. f .still z k (omega arith);
   }
 
-  pub round-settled : (from : ℕ) (dists dists′ : List ℕ) (d changes : ℕ) → d ≡ getD dists from 0 → changes ≡ 0
-      → Round ends lens m goal dists dists′ d changes → Settled ends lens m goal from dists′
-  round-settled from dists dists′ d changes q z r = record {
-    grounded = r .grounded;
+  pub round-settled : (from : ℕ) (distances₀ distances distances′ : List ℕ) (best changes : ℕ) → Keeps ends lengths m distances₀ distances
+      → best ≡ getD distances from 0 → changes ≡ 0 → Round ends lengths m distances distances′ best changes → Settled ends lengths m from distances₀ distances′
+  round-settled from distances₀ distances distances′ best changes k q z r = record {
+    keeps = keeps-on k (r .keeps);
     still = rw (r .same z) (rw q at (r .still z));
   }

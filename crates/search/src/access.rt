@@ -3,28 +3,28 @@ ghost use mathlib.Core.Path.{_≡_};
 ghost use Prim.Native.Nat.{_<_};
 ghost use lib.ListN.{length, getD, set};
 
-pub fn get16(xs: &[u16], i: usize) -> u16
+pub fn at16_within(xs: &[u16], i: usize) -> u16
     requires { ⌜ i < length (now xs) ⌝ }
     ensures { λ r. ⌜ r ≡ getD (now (xs .entry)) i 0 ⌝ }
 {
     xs[i]
 }
 
-pub fn get32(xs: &[u32], i: u16) -> u32
+pub fn of32_within(xs: &[u32], i: u16) -> u32
     requires { ⌜ i < length (now xs) ⌝ }
     ensures { λ r. ⌜ r ≡ getD (now (xs .entry)) i 0 ⌝ }
 {
     xs[i as usize]
 }
 
-pub fn set16(xs: &mut [u16], i: u16, x: u16)
+pub fn put16_within(xs: &mut [u16], i: u16, x: u16)
     requires { ⌜ i < length (now xs) ⌝ }
     ensures { λ _. ⌜ now (xs .exit) ≡ set (now (xs .entry)) i x ⌝ }
 {
     xs[i as usize] = x;
 }
 
-pub fn set32(xs: &mut [u32], i: u16, x: u32)
+pub fn put32_within(xs: &mut [u32], i: u16, x: u32)
     requires { ⌜ i < length (now xs) ⌝ }
     ensures { λ _. ⌜ now (xs .exit) ≡ set (now (xs .entry)) i x ⌝ }
 {

@@ -1,13 +1,14 @@
 // The walk along chains that lowers distances. Where it goes on it reads off the incidence lists, and tests what it reads.
-use crate::access::get16;
-use crate::access::get32;
-use crate::access::set32;
+use crate::access::at16_within;
+use crate::access::of32_within;
+use crate::access::put32_within;
 use crate::heap::offer;
-use crate::relax::NONE;
+use crate::relax::NO_VERTEX;
+use crate::relax::VERTICES;
 use tables::access::of16;
 use tables::access::of32;
 ghost use Prim.Native.Nat.{_<_};
-ghost use Rattle.search.specs.Search.{Searchable, Grounded};
+ghost use Rattle.search.specs.Search.{Bounded, Keeps};
 
 // Tries the edge of end j - 2 from that end's vertex on: the far vertex may get a lesser distance, where that is below best. The answer
 // is the far vertex where it does.
@@ -16,31 +17,31 @@ fn relax_end(
     lengths: &[u32],
     edges: u16,
     distances: &mut [u32],
-    goal: u16,
     j: u16,
     best: u32,
 ) -> u16
-    requires { ⌜ Searchable (now ends) (now lengths) edges × Grounded (now ends) (now lengths) edges goal (now distances) ⌝ }
-    ensures { λ _. ⌜ Grounded (now (ends .entry)) (now (lengths .entry)) edges goal (now (distances .exit)) ⌝ }
+    requires { ⌜ Bounded (now ends) (now lengths) edges (now distances) ⌝ }
+    ensures { λ _. ⌜ Keeps (now (ends .entry)) (now (lengths .entry)) edges (now (distances .entry)) (now (distances .exit)) ⌝ }
 {
     let half = j / 2;
     if half == 0 {
-        return NONE;
+        return NO_VERTEX;
     }
     if edges < half {
-        return NONE;
+        return NO_VERTEX;
     }
     let i = j as usize;
-    let near = get16(ends, i - 2);
-    let sum = get32(distances, near) + get32(lengths, half - 1);
+    let near = at16_within(ends, i - 2);
+    let sum = of32_within(distances, near) + of32_within(lengths, half - 1);
     if best <= sum {
-        return NONE;
+        return NO_VERTEX;
     }
-    let far = get16(ends, 4 * (half as usize) - 1 - i);
-    if get32(distances, far) <= sum {
-        return NONE;
+    // The ends of edge half - 1 are 2 half - 2 and 2 half - 1: their sum less this end, j - 2, is the other.
+    let far = at16_within(ends, 4 * (half as usize) - 1 - i);
+    if of32_within(distances, far) <= sum {
+        return NO_VERTEX;
     }
-    set32(distances, far, sum);
+    put32_within(distances, far, sum);
     far
 }
 
@@ -63,19 +64,18 @@ fn advance(
     heads: &[u16],
     next: &[u16],
     distances: &mut [u32],
-    goal: u16,
     from: u16,
     j: u16,
 ) -> Step
-    requires { ⌜ Searchable (now ends) (now lengths) edges × Grounded (now ends) (now lengths) edges goal (now distances) ⌝ }
-    ensures { λ _. ⌜ Grounded (now (ends .entry)) (now (lengths .entry)) edges goal (now (distances .exit)) ⌝ }
+    requires { ⌜ Bounded (now ends) (now lengths) edges (now distances) ⌝ }
+    ensures { λ _. ⌜ Keeps (now (ends .entry)) (now (lengths .entry)) edges (now (distances .entry)) (now (distances .exit)) ⌝ }
 {
     let best = of32(distances, from);
-    let v = relax_end(ends, lengths, edges, distances, goal, j, best);
-    if v == NONE {
+    let v = relax_end(ends, lengths, edges, distances, j, best);
+    if v == NO_VERTEX {
         return Step {
             entry: 0,
-            branch: NONE,
+            branch: NO_VERTEX,
         };
     }
     let one = of16(heads, v);
@@ -88,7 +88,7 @@ fn advance(
     }
     Step {
         entry: other_end(one, two, j),
-        branch: NONE,
+        branch: NO_VERTEX,
     }
 }
 
@@ -105,8 +105,8 @@ fn turns_left(left: u16, one: u16, two: u16) -> u16
     left - 1
 }
 
-// Follows the chains of two edge ends while they lower distances, and queues the branches that they stop at. A step waits for its reads
-// one after the other; the steps of two chains wait together. The answer is the heap's size.
+// Follows the chains of two edge ends while they lower distances, and queues the branches that they stop at. Two at a time:
+// a step waits for its memory reads, and those of two chains overlap. The answer is the heap's size.
 pub fn follow_both(
     ends: &[u16],
     lengths: &[u32],
@@ -116,42 +116,22 @@ pub fn follow_both(
     next: &[u16],
     distances: &mut [u32],
     keys: &mut [u32],
-    goal: u16,
     from: u16,
     first: u16,
     second: u16,
     queued: u16,
 ) -> u16
-    requires { ⌜ Searchable (now ends) (now lengths) edges × Grounded (now ends) (now lengths) edges goal (now distances) ⌝ }
-    ensures { λ _. ⌜ Grounded (now (ends .entry)) (now (lengths .entry)) edges goal (now (distances .exit)) ⌝ }
+    requires { ⌜ Bounded (now ends) (now lengths) edges (now distances) ⌝ }
+    ensures { λ _. ⌜ Keeps (now (ends .entry)) (now (lengths .entry)) edges (now (distances .entry)) (now (distances .exit)) ⌝ }
 {
     let mut one = first;
     let mut two = second;
     let mut size = queued;
-    let mut left: u16 = 4096;
+    // No chain is longer, since it passes a vertex once.
+    let mut left = VERTICES;
     while 0 < left {
-        let s = advance(
-            ends,
-            lengths,
-            edges,
-            heads,
-            next,
-            distances,
-            goal,
-            from,
-            one,
-        );
-        let t = advance(
-            ends,
-            lengths,
-            edges,
-            heads,
-            next,
-            distances,
-            goal,
-            from,
-            two,
-        );
+        let s = advance(ends, lengths, edges, heads, next, distances, from, one);
+        let t = advance(ends, lengths, edges, heads, next, distances, from, two);
         size = offer(heap, keys, distances, s.branch, size);
         size = offer(heap, keys, distances, t.branch, size);
         one = s.entry;

@@ -1,12 +1,16 @@
-// Dijkstra's order over the chains, as a hint: the vertices with the least distances come first, and neither leaves nor regular vertices
-// are queued. What is proved is that the distances stay grounded, which they do in every order.
+// Dijkstra's order over the chains, as a hint: the vertices with the least distances come first; but for the goal, neither leaves nor
+// regular vertices are queued. What is proved is that the distances stay grounded, which they do in every order.
 use crate::chains::follow_both;
 use crate::heap::pop;
 use crate::heap::push;
 use crate::incidence::link_all;
+use crate::relax::VERTICES;
 use tables::access::of16;
 use tables::access::of32;
-ghost use Rattle.search.specs.Search.{Searchable, Grounded};
+ghost use Rattle.search.specs.Search.{Bounded, Keeps};
+
+// The incidence lists, one for each vertex.
+const LISTS: usize = VERTICES as usize;
 
 // Follows the chains from vertex v, two at a time. The answer is the heap's size.
 fn scan(
@@ -18,16 +22,16 @@ fn scan(
     next: &[u16],
     distances: &mut [u32],
     keys: &mut [u32],
-    goal: u16,
     from: u16,
     v: u16,
     queued: u16,
 ) -> u16
-    requires { ⌜ Searchable (now ends) (now lengths) edges × Grounded (now ends) (now lengths) edges goal (now distances) ⌝ }
-    ensures { λ _. ⌜ Grounded (now (ends .entry)) (now (lengths .entry)) edges goal (now (distances .exit)) ⌝ }
+    requires { ⌜ Bounded (now ends) (now lengths) edges (now distances) ⌝ }
+    ensures { λ _. ⌜ Keeps (now (ends .entry)) (now (lengths .entry)) edges (now (distances .entry)) (now (distances .exit)) ⌝ }
 {
     let mut size = queued;
     let mut j = of16(heads, v);
+    // The list of a vertex has at most 8,192 ends.
     let mut left: u16 = 8192;
     while 0 < left {
         if j == 0 {
@@ -43,7 +47,6 @@ fn scan(
             next,
             distances,
             keys,
-            goal,
             from,
             j,
             k,
@@ -65,15 +68,15 @@ fn scan_all(
     next: &[u16],
     distances: &mut [u32],
     keys: &mut [u32],
-    goal: u16,
     from: u16,
     queued: u16,
 )
-    requires { ⌜ Searchable (now ends) (now lengths) edges × Grounded (now ends) (now lengths) edges goal (now distances) ⌝ }
-    ensures { λ _. ⌜ Grounded (now (ends .entry)) (now (lengths .entry)) edges goal (now (distances .exit)) ⌝ }
+    requires { ⌜ Bounded (now ends) (now lengths) edges (now distances) ⌝ }
+    ensures { λ _. ⌜ Keeps (now (ends .entry)) (now (lengths .entry)) edges (now (distances .entry)) (now (distances .exit)) ⌝ }
 {
     let mut size = queued;
-    let mut left: u16 = 4096;
+    // In this order a vertex is scanned once.
+    let mut left = VERTICES;
     while 0 < left {
         if size == 0 {
             break;
@@ -92,7 +95,6 @@ fn scan_all(
             next,
             distances,
             keys,
-            goal,
             from,
             v,
             size,
@@ -114,10 +116,10 @@ pub fn dijkstra(
     goal: u16,
     from: u16,
 )
-    requires { ⌜ Searchable (now ends) (now lengths) edges × Grounded (now ends) (now lengths) edges goal (now distances) ⌝ }
-    ensures { λ _. ⌜ Grounded (now (ends .entry)) (now (lengths .entry)) edges goal (now (distances .exit)) ⌝ }
+    requires { ⌜ Bounded (now ends) (now lengths) edges (now distances) ⌝ }
+    ensures { λ _. ⌜ Keeps (now (ends .entry)) (now (lengths .entry)) edges (now (distances .entry)) (now (distances .exit)) ⌝ }
 {
-    if heads.len() < 4096 {
+    if heads.len() < LISTS {
         return;
     }
     link_all(ends, heads, next, edges);
@@ -131,7 +133,6 @@ pub fn dijkstra(
         next,
         distances,
         keys,
-        goal,
         from,
         queued,
     );

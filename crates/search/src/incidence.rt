@@ -1,7 +1,7 @@
 // The incidence lists: the edge ends at each vertex. Edge end k is 2 e or 2 e + 1; a list holds k + 2, so that half of it is e + 1, and 0
 // is its end. The lists are a hint: what they hold is tested where it is used, and nothing is proved of it.
-use crate::access::get16;
-use crate::access::set16;
+use crate::access::at16_within;
+use crate::access::put16_within;
 use tables::access::put16;
 ghost use Prim.Native.Nat.{ℕ, _≤_, _<_, _*_};
 ghost use lib.ListN.{length, getD};
@@ -11,10 +11,10 @@ ghost use Rattle.model.specs.Basics.{maxEdges};
 fn link(ends: &[u16], heads: &mut [u16], next: &mut [u16], k: usize)
     requires { ⌜ (k < length (now ends)) × ((k < 2 * maxEdges) × (getD (now ends) k 0 < length (now heads))) ⌝ }
 {
-    let v = get16(ends, k);
-    let front = get16(heads, v as usize);
+    let v = at16_within(ends, k);
+    let front = at16_within(heads, v as usize);
     put16(next, k + 2, front);
-    set16(heads, v, (k + 2) as u16);
+    put16_within(heads, v, (k + 2) as u16);
 }
 
 // From the last end down: the two that find no room in next are the last of their lists, and the 0 that is read there is their end.

@@ -1,14 +1,17 @@
 // Edges that lower tentative distances, and rounds over all edges until none does.
-use crate::access::get16;
-use crate::access::get32;
-use crate::access::set32;
+use crate::access::at16_within;
+use crate::access::of32_within;
+use crate::access::put32_within;
 use tables::access::of32;
 ghost use mathlib.Core.Path.{_≡_};
 ghost use Prim.Native.Nat.{_<_, min, max};
-ghost use Rattle.search.specs.Search.{Searchable, Within, Grounded, Relaxed, Round, Settled, Counted};
+ghost use Rattle.search.specs.Search.{Bounded, Within, Relaxed, Round, Settled, Counted};
 
-// The answer of a step that lowered nothing: no vertex has this number.
-pub const NONE: u16 = 65535;
+// Vertices are numbered below this.
+pub const VERTICES: u16 = 4096;
+
+// The answer of a step that lowered nothing.
+pub const NO_VERTEX: u16 = 65535;
 
 fn lesser(a: u32, b: u32) -> u32
     ensures { λ r. ⌜ r ≡ min a b ⌝ }
@@ -29,24 +32,24 @@ pub fn relax(ends: &[u16], lengths: &[u32], distances: &mut [u32], e: u16, best:
     requires { ⌜ Within (now ends) (now lengths) (now distances) e ⌝ }
     ensures { λ r. ⌜ Relaxed (now (ends .entry)) (now (lengths .entry)) (now (distances .entry)) (now (distances .exit)) best e r ⌝ }
 {
-    let len = get32(lengths, e);
+    let len = of32_within(lengths, e);
     if best <= len {
-        return NONE;
+        return NO_VERTEX;
     }
     let i = 2 * (e as usize);
-    let a = get16(ends, i);
-    let b = get16(ends, i + 1);
-    let da = get32(distances, a);
-    let db = get32(distances, b);
+    let a = at16_within(ends, i);
+    let b = at16_within(ends, i + 1);
+    let da = of32_within(distances, a);
+    let db = of32_within(distances, b);
     let sum = lesser(da, db) + len;
     if lesser(best, greater(da, db)) <= sum {
-        return NONE;
+        return NO_VERTEX;
     }
     if da < db {
-        set32(distances, b, sum);
+        put32_within(distances, b, sum);
         return b;
     }
-    set32(distances, a, sum);
+    put32_within(distances, a, sum);
     a
 }
 
@@ -55,20 +58,13 @@ fn counted(changes: u16, r: u16) -> u16
     requires { ⌜ changes < 65535 ⌝ }
     ensures { λ n. ⌜ Counted changes r n ⌝ }
 {
-    if r == NONE { changes } else { changes + 1 }
+    if r == NO_VERTEX { changes } else { changes + 1 }
 }
 
 // A round over all edges. The answer is the number of changes.
-pub fn relax_all(
-    ends: &[u16],
-    lengths: &[u32],
-    distances: &mut [u32],
-    edges: u16,
-    goal: u16,
-    best: u32,
-) -> u16
-    requires { ⌜ Searchable (now ends) (now lengths) edges × Grounded (now ends) (now lengths) edges goal (now distances) ⌝ }
-    ensures { λ r. ⌜ Round (now (ends .entry)) (now (lengths .entry)) edges goal (now (distances .entry)) (now (distances .exit)) best r ⌝ }
+pub fn relax_all(ends: &[u16], lengths: &[u32], distances: &mut [u32], edges: u16, best: u32) -> u16
+    requires { ⌜ Bounded (now ends) (now lengths) edges (now distances) ⌝ }
+    ensures { λ r. ⌜ Round (now (ends .entry)) (now (lengths .entry)) edges (now (distances .entry)) (now (distances .exit)) best r ⌝ }
 {
     let mut changes: u16 = 0;
     let mut e: u16 = 0;
@@ -82,20 +78,13 @@ pub fn relax_all(
 
 // Rounds until nothing changes: then no edge lowers a distance below that of vertex from. After a search in the right order this is one
 // round, which finds nothing to do. After any other it is more rounds and the same answer: that is why the order needs no proof.
-pub fn settle(
-    ends: &[u16],
-    lengths: &[u32],
-    distances: &mut [u32],
-    edges: u16,
-    goal: u16,
-    from: u16,
-)
-    requires { ⌜ Searchable (now ends) (now lengths) edges × Grounded (now ends) (now lengths) edges goal (now distances) ⌝ }
-    ensures { λ _. ⌜ Settled (now (ends .entry)) (now (lengths .entry)) edges goal from (now (distances .exit)) ⌝ }
+pub fn settle(ends: &[u16], lengths: &[u32], distances: &mut [u32], edges: u16, from: u16)
+    requires { ⌜ Bounded (now ends) (now lengths) edges (now distances) ⌝ }
+    ensures { λ _. ⌜ Settled (now (ends .entry)) (now (lengths .entry)) edges from (now (distances .entry)) (now (distances .exit)) ⌝ }
 {
     loop {
         let best = of32(distances, from);
-        let changes = relax_all(ends, lengths, distances, edges, goal, best);
+        let changes = relax_all(ends, lengths, distances, edges, best);
         if changes == 0 {
             return;
         }

@@ -52,18 +52,18 @@ pub fn search(
     lengths: &[u32],
     edges: u16,
     from: u16,
-    to: u16,
+    goal: u16,
     heads: &mut [u16],
     heap: &mut [u16],
     next: &mut [u16],
     distances: &mut [u32],
     keys: &mut [u32],
 ) -> Measured
-    requires { ⌜ Searchable (now ends) (now lengths) edges × ((from < maxVertices) × ((to < maxVertices) × (maxVertices ≤ length (now distances)))) ⌝ }
+    requires { ⌜ Searchable (now ends) (now lengths) edges × ((from < maxVertices) × ((goal < maxVertices) × (maxVertices ≤ length (now distances)))) ⌝ }
     ensures { λ r. ⌜ ((degrees sides labels : List ℕ) → measuredIn r
-        ≡ distance (edgesIn (tables degrees sides (now (ends .entry)) (now (lengths .entry)) labels) edges) from to) ⌝ }
+        ≡ distance (edgesIn (tables degrees sides (now (ends .entry)) (now (lengths .entry)) labels) edges) from goal) ⌝ }
 {
-    start(distances, to);
+    start(distances, goal);
     dijkstra(
         ends,
         lengths,
@@ -73,9 +73,9 @@ pub fn search(
         next,
         distances,
         keys,
-        to,
+        goal,
         from,
     );
-    settle(ends, lengths, distances, edges, to, from);
+    settle(ends, lengths, distances, edges, from);
     answer_of(of32(distances, from))
 }

@@ -19,17 +19,16 @@ use Rattle.model.specs.Tables.{Tables}
 use Rattle.model.specs.Calls.{Call, finds, grows, lands, measures, reaches, sheets, step}
 use Rattle.counters.specs.declared.counts.Counts.{Counts}
 use Rattle.counters.specs.declared.answers.ListAnswer.{ListAnswer}
-use Rattle.counters.specs.Answers.{countsIn}
+use Rattle.counters.specs.Answers.{countsIn, listReply}
 use Rattle.tables.specs.Steps.{tables}
-use Rattle.admission.specs.Lent.{lent}
-use Rattle.calls.specs.Meaning.{outcome}
+use Rattle.admission.specs.Lent.{lent, outcome}
 use Rattle.calls.proofs.grow.grow as grow
 use Rattle.calls.proofs.land.land as land
-use Rattle.lookups.specs.Meaning.{answered, foundReply, listedReply, reachedReply}
+use Rattle.lookups.specs.Meaning.{foundReply, listedReply, reachedReply}
 use Rattle.lookups.proofs.find.find as find
 use Rattle.lookups.proofs.reach.reach as reach
 use Rattle.lookups.proofs.sheet.sheet as sheet
-use Rattle.distance.specs.Measure.{distanceReply}
+use Rattle.distance.specs.Meaning.{distanceReply}
 use Rattle.distance.proofs.query.distance as distance
 
 -- ---- the parameters of a call
@@ -70,7 +69,7 @@ module _ {M : Type 1} (𝓤 : URA M) (H : Heap 𝓤) (A : Atoms 𝓤) (mem : Mem
   Steps a z slice reply c =
       let before = tablesIn a in
       let counts = countsIn (past a .0) in
-      fact 𝓤 (answered before counts (tablesIn (past z .1)) slice reply ≡ step c (lent before counts (tablesIn (past a .1))))
+      fact 𝓤 (outcome before counts (tablesIn (past z .1)) slice reply ≡ step c (lent before counts (tablesIn (past a .1))))
 
   pub find-steps : (κs : Lfts 10) (a : Args find.signature κs)
       → find.clauses 𝓤 H A mem run κs a ≡ Ensures find.ended κs (λ r z. Steps a z [] (foundReply r) (finds (own a .0 .0)))
@@ -92,7 +91,7 @@ module _ {M : Type 1} (𝓤 : URA M) (H : Heap 𝓤) (A : Atoms 𝓤) (mem : Mem
   -- with the arguments a, and z at its end, a landing leaves and answers what `step` has at call c
   abbrev LandSteps : {R S : Type 0} → Lands R → Lands S → ListAnswer → Call → SProp 𝓤
   LandSteps a z r c =
-      fact 𝓤 (outcome (tablesIn (z .1)) (countsIn (now (z .0))) (tablesIn (past (z .1))) r
+      fact 𝓤 (outcome (tablesIn (z .1)) (countsIn (now (z .0))) (tablesIn (past (z .1))) [] (listReply r)
       ≡ step c (lent (tablesIn (a .1)) (countsIn (now (a .0))) (tablesIn (past (a .1)))))
 
   pub grow-steps : (κs : Lfts 12) (a : Args grow.signature κs)

@@ -1,1 +1,1 @@
-// What the six calls ensure, by the case of the step: proofs/CallSteps.
+// The contracts of the six calls are the equations that demand 3 speaks of (proofs/CallSteps). No code.

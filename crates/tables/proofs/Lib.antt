@@ -1,3 +1,4 @@
--- Laws for the proofs of the functions: `Lists` of clearing and comparing, at any width; `Lockstep` of the walk.
+-- Laws: `Lists` of clearing and comparing, at any width; `Sums` of sums that stop; `Lockstep` of the walk.
 pub mod Lists
+pub mod Sums
 pub mod Lockstep

@@ -1,6 +1,6 @@
--- A list cleared, and two lists compared, element by element; five at once. A function for each width has these loops, and its proof
--- says which law answers which need.
-use mathlib.Core.Path.{_≡_, refl, sym, ap, _∙_, subst}
+-- A list cleared, and two lists compared, element by element. A function for each width has these
+-- loops, and its proof says which law answers which need.
+use mathlib.Core.Path.{_≡_, refl, ap, _∙_}
 use mathlib.Core.Bool.{Bool, true, false, not}
 use mathlib.Core.List.{List, _++_, append-nil}
 use Prim.Native.Nat.{ℕ, _+_, _-_, _≤_, _<_}
@@ -8,10 +8,9 @@ use native.Mathlib.Omega.{arith}
 use borrow.Author.Count.{below-none, below-more}
 use borrow.Author.Fill.{fill-none, fill-more}
 use borrow.Author.Tests.{not-true}
-use lib.Dec.{T}
 use lib.ListN.{length, getD, set, replicate, drop, drop-of-length-le, length-set}
 use lib.Seq.{ext-getD}
-use Rattle.tables.specs.Steps.{tables}
+use Rattle.tables.specs.Steps.{Tells}
 
 -- the number of elements that a loop has before it
 abbrev pub left : List ℕ → ℕ → ℕ
@@ -39,12 +38,8 @@ cleared-all {xs₀} {xs} {i} c m =
 
 -- ---- comparing
 
--- the answer r tells whether a is b
-abbrev pub Tells : {A : Type 0} → Bool → A → A → Type 0
-Tells r a b = (r ≡ true → a ≡ b) × (a ≡ b → r ≡ true)
-
 pub differ : {A : Type 0} (a b : A) → (a ≡ b → ⊥) → Tells false a b
-differ a b h = (λ p. absurd (subst T (sym p) tt), λ e. absurd (h e))
+differ a b h = (λ p. cc, λ e. absurd (h e))
 
 pub differ-length : (xs ys : List ℕ) → (length xs ≡ length ys → ⊥) → Tells false xs ys
 differ-length xs ys h = differ xs ys (λ e. h (ap length e))
@@ -68,10 +63,4 @@ alike-all {xs} {ys} a n l = (λ _. ext-getD 0 xs ys n (λ k h. a .same k (omega 
 
 -- a comparison said no
 pub not-same : (P : Type 0) (r : Bool) → not r ≡ true → (P → r ≡ true) → P → ⊥
-not-same P r n h p = subst T (sym (h p) ∙ not-true r n) tt
-
--- ---- five tables
-
-pub tables-same : {d d′ s s′ e e′ l l′ t t′ : List ℕ} → d ≡ d′ → s ≡ s′ → e ≡ e′ → l ≡ l′ → t ≡ t′
-    → tables d s e l t ≡ tables d′ s′ e′ l′ t′
-tables-same p q r u v = λ i. tables (p i) (q i) (r i) (u i) (v i)
+not-same P r n h p = let z : _≡_ {A = ℕ} 0 1 = cc (h p, not-true r n) in omega arith

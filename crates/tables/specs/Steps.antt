@@ -1,16 +1,23 @@
 -- Single steps on the lent tables, as functions of lists that mirror the code. A read past a table's end gives 0 and a write past it
 -- changes nothing; a sum stops at the largest number of its type. That no register meets these ends is a theorem on the definitions.
+use mathlib.Core.Path.{_≡_}
 use Prim.Native.Nat.{ℕ, _+_, _*_, _-_, min}
-use mathlib.Core.Bool.{Bool}
-use mathlib.Core.List.{List}
+use mathlib.Core.Bool.{Bool, true}
+use mathlib.Core.List.{List, []}
 use lib.ListN.{length, getD, set, replicate}
 use lib.Dec.{eqb}
 use Rattle.model.specs.Basics.{if_then_else_}
-use Rattle.model.specs.Tables.{Tables}
+use Rattle.model.specs.Graph.{Edge}
+use Rattle.model.specs.Tables.{Tables, Counts, Stored, edgeIn}
 
 -- the five tables as one record
 abbrev pub tables : List ℕ → List ℕ → List ℕ → List ℕ → List ℕ → Tables
-tables d s e l t = record { degrees = d; sides = s; ends = e; lengths = l; labels = t }
+tables degrees sides ends lengths labels =
+    record { degrees = degrees; sides = sides; ends = ends; lengths = lengths; labels = labels }
+
+-- the answer r tells whether a is b
+abbrev pub Tells : {A : Type 0} → Bool → A → A → Type 0
+Tells r a b = (r ≡ true → a ≡ b) × (a ≡ b → r ≡ true)
 
 -- the end of edge d that is not v
 unfoldable pub farIn : List ℕ → ℕ → ℕ → ℕ
@@ -24,14 +31,21 @@ turnIn sides d v = if eqb (getD sides (2 * v) 0) d then getD sides (2 * v + 1) 0
 unfoldable pub setPair : List ℕ → ℕ → ℕ → ℕ → List ℕ
 setPair xs i a b = set (set xs (2 * i) a) (2 * i + 1) b
 
+-- the largest numbers of 16 and of 32 bits
+abbrev pub most16 : ℕ
+most16 = 65535
+
+abbrev pub most32 : ℕ
+most32 = 4294967295
+
 unfoldable pub more16 : ℕ → ℕ
-more16 n = min (n + 1) 65535
+more16 n = min (n + 1) most16
 
 unfoldable pub more32 : ℕ → ℕ
-more32 n = min (n + 1) 4294967295
+more32 n = min (n + 1) most32
 
 unfoldable pub sum32 : ℕ → ℕ → ℕ
-sum32 m n = min (m + n) 4294967295
+sum32 m n = min (m + n) most32
 
 -- the next label, upwards or downwards
 unfoldable pub nextIn : Bool → ℕ → ℕ
@@ -49,3 +63,11 @@ unfoldable pub zeroed : Tables → Tables
 zeroed t =
     tables (replicate (length (t .degrees)) 0) (replicate (length (t .sides)) 0) (replicate (length (t .ends)) 0)
     (replicate (length (t .lengths)) 0) (replicate (length (t .labels)) 0)
+
+-- tables and counts as one record
+abbrev pub stored : Tables → Counts → Stored
+stored t c = record { tables = t; counts = c }
+
+-- edge e: it stands in the tables of ends and lengths alone
+unfoldable pub edgeOf : List ℕ → List ℕ → ℕ → Edge
+edgeOf ends lengths e = edgeIn (tables [] [] ends lengths []) e

@@ -15,15 +15,14 @@ pub record Met : Type 0 where
 abbrev pub met : ℕ → ℕ → ℕ → Met
 met v w n = record { first = v; second = w; steps = n }
 
--- k steps before those of m
-unfoldable pub ahead : ℕ → Met → Met
-ahead k m = met (m .first) (m .second) (k + m .steps)
+-- k steps counted before those of m
+unfoldable pub stepsAhead : ℕ → Met → Met
+stepsAhead k m = met (m .first) (m .second) (k + m .steps)
 
 unfoldable pub lockstepIn : List ℕ → List ℕ → List ℕ → ℕ → ℕ → ℕ → ℕ → ℕ → Met
 lockstepIn degrees sides ends zero d v c w = met v w 0
 lockstepIn degrees sides ends (suc n) d v c w =
     let d′ = turnIn sides d v in
     let c′ = turnIn sides c w in
-    let rest = lockstepIn degrees sides ends n d′ (farIn ends d′ v) c′ (farIn ends c′ w) in
-    let on = met (rest .first) (rest .second) (suc (rest .steps)) in
+    let on = stepsAhead 1 (lockstepIn degrees sides ends n d′ (farIn ends d′ v) c′ (farIn ends c′ w)) in
     if eqb (getD degrees v 0) 2 then (if eqb (getD degrees w 0) 2 then on else met v w 0) else met v w 0

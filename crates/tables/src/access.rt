@@ -4,6 +4,10 @@ ghost use mathlib.Core.Path.{_≡_};
 ghost use lib.ListN.{getD, set};
 ghost use Rattle.tables.specs.Steps.{more16, more32, sum32};
 
+const MOST16: u16 = 65535;
+
+const MOST32: u32 = 4294967295;
+
 // The element at i, and 0 past the end.
 pub fn at16(xs: &[u16], i: usize) -> u16
     ensures { λ r. ⌜ r ≡ getD (now (xs .entry)) i 0 ⌝ }
@@ -51,21 +55,17 @@ pub fn put32(wide: &mut [u32], i: usize, x: u32)
 pub fn one_more16(n: u16) -> u16
     ensures { λ r. ⌜ r ≡ more16 n ⌝ }
 {
-    if n < 65535 { n + 1 } else { n }
+    if n < MOST16 { n + 1 } else { n }
 }
 
 pub fn one_more32(n: u32) -> u32
     ensures { λ r. ⌜ r ≡ more32 n ⌝ }
 {
-    if n < 4294967295 { n + 1 } else { n }
+    if n < MOST32 { n + 1 } else { n }
 }
 
 pub fn add32(m: u32, n: u32) -> u32
     ensures { λ r. ⌜ r ≡ sum32 m n ⌝ }
 {
-    if n <= 4294967295 - m {
-        m + n
-    } else {
-        4294967295
-    }
+    if n <= MOST32 - m { m + n } else { MOST32 }
 }

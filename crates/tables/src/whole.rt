@@ -1,8 +1,7 @@
 // Whole tables: cleared, and compared.
 ghost use mathlib.Core.Path.{_≡_};
-ghost use mathlib.Core.Bool.{true};
 ghost use lib.ListN.{length, replicate};
-ghost use Rattle.tables.specs.Steps.{tables, zeroed};
+ghost use Rattle.tables.specs.Steps.{tables, Tells, zeroed};
 
 pub fn clear16(narrow: &mut [u16])
     ensures { λ _. ⌜ now (narrow .exit) ≡ replicate (length (now (narrow .entry))) 0 ⌝ }
@@ -44,7 +43,7 @@ pub fn clear_tables(
 
 // Whether two tables have the same length and the same elements.
 pub fn same16(xs: &[u16], ys: &[u16]) -> bool
-    ensures { λ r. ⌜ (r ≡ true → now (xs .entry) ≡ now (ys .entry)) × (now (xs .entry) ≡ now (ys .entry) → r ≡ true) ⌝ }
+    ensures { λ r. ⌜ Tells r (now (xs .entry)) (now (ys .entry)) ⌝ }
 {
     if xs.len() != ys.len() {
         return false;
@@ -60,7 +59,7 @@ pub fn same16(xs: &[u16], ys: &[u16]) -> bool
 }
 
 pub fn same32(xs: &[u32], ys: &[u32]) -> bool
-    ensures { λ r. ⌜ (r ≡ true → now (xs .entry) ≡ now (ys .entry)) × (now (xs .entry) ≡ now (ys .entry) → r ≡ true) ⌝ }
+    ensures { λ r. ⌜ Tells r (now (xs .entry)) (now (ys .entry)) ⌝ }
 {
     if xs.len() != ys.len() {
         return false;
@@ -87,12 +86,9 @@ pub fn same_tables(
     lengths2: &[u32],
     labels2: &[u32],
 ) -> bool
-    ensures { λ r. ⌜ (r ≡ true
-        → tables (now (degrees .entry)) (now (sides .entry)) (now (ends .entry)) (now (lengths .entry)) (now (labels .entry))
-        ≡ tables (now (degrees2 .entry)) (now (sides2 .entry)) (now (ends2 .entry)) (now (lengths2 .entry)) (now (labels2 .entry)))
-        × (tables (now (degrees .entry)) (now (sides .entry)) (now (ends .entry)) (now (lengths .entry)) (now (labels .entry))
-        ≡ tables (now (degrees2 .entry)) (now (sides2 .entry)) (now (ends2 .entry)) (now (lengths2 .entry)) (now (labels2 .entry))
-        → r ≡ true) ⌝ }
+    ensures { λ r. ⌜ Tells r
+        (tables (now (degrees .entry)) (now (sides .entry)) (now (ends .entry)) (now (lengths .entry)) (now (labels .entry)))
+        (tables (now (degrees2 .entry)) (now (sides2 .entry)) (now (ends2 .entry)) (now (lengths2 .entry)) (now (labels2 .entry))) ⌝ }
 {
     if !same16(degrees, degrees2) {
         return false;

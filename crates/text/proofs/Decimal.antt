@@ -9,7 +9,7 @@ use native.Mathlib.Nat.{mod-eq-of-lt}
 use borrow.Author.Tests.{lt-ltb, le-ltb}
 use Rattle.model.specs.Printing.{digitsWithin, decimal, spaced, line}
 use Rattle.text.specs.Pages.{Page, write}
-use Rattle.text.proofs.Writing.{write-two}
+use Rattle.text.proofs.PageLaws.{write-two}
 
 within-one : (k n : ℕ) → n < 10 → digitsWithin k n ≡ (48 + n % 10) ∷ []
 unfolding digitsWithin

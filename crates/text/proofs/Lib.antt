@@ -1,4 +1,4 @@
-pub mod Writing
+pub mod PageLaws
 pub mod Pieces
 pub mod Decimal
 pub mod LineLaws

@@ -4,7 +4,7 @@ use Prim.Native.Nat.{ℕ}
 use mathlib.Core.List.{List, [], _∷_, _++_, append-assoc}
 use Rattle.model.specs.Printing.{decimal, spaced, line}
 use Rattle.text.specs.Pages.{Page, write}
-use Rattle.text.proofs.Writing.{write-two}
+use Rattle.text.proofs.PageLaws.{write-two}
 
 line-is : (n m : ℕ) (ns : List ℕ) → line (n ∷ m ∷ ns) ≡ decimal n ++ (32 ∷ []) ++ line (m ∷ ns)
 unfolding line spaced

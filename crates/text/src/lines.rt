@@ -1,28 +1,30 @@
 // Lines of two, four or five numbers: parted by one space, ended by the byte 10.
-use crate::put_field;
+use crate::writing::put_field;
 ghost use mathlib.Core.Path.{_≡_};
 ghost use mathlib.Core.List.{[], _∷_};
 ghost use Rattle.model.specs.Printing.{line};
 ghost use Rattle.text.specs.Pages.{page, write};
 
+pub const NEWLINE: u8 = 10;
+
 pub fn put_line2(out: &mut [u8], at: usize, a: u64, b: u64) -> usize
     ensures { λ r. ⌜ page (now (out .exit)) r ≡ write (line (a ∷ b ∷ [])) (page (now (out .entry)) at) ⌝ }
 {
-    let second = put_field(out, at, a, 32);
-    put_field(out, second, b, 10)
+    let second = put_field(out, at, a, b' ');
+    put_field(out, second, b, NEWLINE)
 }
 
 pub fn put_line4(out: &mut [u8], at: usize, a: u64, b: u64, c: u64, d: u64) -> usize
     ensures { λ r. ⌜ page (now (out .exit)) r ≡ write (line (a ∷ b ∷ c ∷ d ∷ [])) (page (now (out .entry)) at) ⌝ }
 {
-    let second = put_field(out, at, a, 32);
-    let third = put_field(out, second, b, 32);
+    let second = put_field(out, at, a, b' ');
+    let third = put_field(out, second, b, b' ');
     put_line2(out, third, c, d)
 }
 
 pub fn put_line5(out: &mut [u8], at: usize, a: u64, b: u64, c: u64, d: u64, e: u64) -> usize
     ensures { λ r. ⌜ page (now (out .exit)) r ≡ write (line (a ∷ b ∷ c ∷ d ∷ e ∷ [])) (page (now (out .entry)) at) ⌝ }
 {
-    let second = put_field(out, at, a, 32);
+    let second = put_field(out, at, a, b' ');
     put_line4(out, second, b, c, d, e)
 }

@@ -1,12 +1,12 @@
 // Lists written byte by byte. Each function answers the next position.
-use text::put_byte;
+use text::writing::put_byte;
 
 fn put_u16(out: &mut [u8], at: usize, n: u16) -> usize {
     let high = put_byte(out, at, (n % 256) as u8);
     put_byte(out, high, (n / 256) as u8)
 }
 
-// The header and n fittings.
+// The header and n vertices.
 pub fn put_start(out: &mut [u8], n: u16) -> usize {
     let mut next = put_byte(out, 0, 0x50);
     next = put_byte(out, next, 0x4E);
@@ -20,7 +20,7 @@ pub fn put_start(out: &mut [u8], n: u16) -> usize {
     next
 }
 
-// A pipe of a short length.
+// An edge, whose length fits 16 bits.
 pub fn put_edge(out: &mut [u8], at: usize, first: u16, second: u16, length: u16) -> usize {
     let mut next = put_byte(out, at, 0x50);
     next = put_u16(out, next, first);
@@ -29,7 +29,7 @@ pub fn put_edge(out: &mut [u8], at: usize, first: u16, second: u16, length: u16)
     put_u16(out, next, 0)
 }
 
-// The pipes 0-1, 1-2, .. of a line of n fittings.
+// The edges 0-1, 1-2, .. of a line of n vertices.
 pub fn put_edges(out: &mut [u8], at: usize, n: u16) -> usize {
     let mut next = at;
     let mut v: u16 = 0;

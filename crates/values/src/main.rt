@@ -9,7 +9,7 @@ use lists::put_edge;
 use lists::put_edges;
 use lists::put_start;
 use text::lines::put_line4;
-use text::put_byte;
+use text::writing::put_byte;
 
 fn record_of(answer: ListAnswer) -> u64 {
     match answer {
@@ -91,13 +91,13 @@ fn main() {
     let first = put_edge(&mut list, line, 4093, 4094, 1);
     let second = put_edge(&mut list, first, 4094, 4095, 1);
     let third = put_edge(&mut list, second, 4093, 4094, 1);
-    let pipes = put_edge(&mut list, third, 4094, 4095, 1);
-    at = put_result(&mut out, at, &list, pipes);
+    let edges = put_edge(&mut list, third, 4094, 4095, 1);
+    at = put_result(&mut out, at, &list, edges);
 
     // Full and ring together: 23. One more pipe of any kind: 23.
-    let ring = put_edge(&mut list, pipes, 0, 4092, 1);
+    let ring = put_edge(&mut list, edges, 0, 4092, 1);
     at = put_result(&mut out, at, &list, ring);
-    let more = put_edge(&mut list, pipes, 0, 4094, 1);
+    let more = put_edge(&mut list, edges, 0, 4094, 1);
     at = put_result(&mut out, at, &list, more);
 
     // A last record of the one byte 0x00: 4.

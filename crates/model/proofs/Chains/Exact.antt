@@ -1,41 +1,22 @@
 -- The chain of an edge is a path from singular to singular vertex through regular ones, and every such path with this edge is it.
-use mathlib.Core.Path.{_≡_, refl, sym, ap, _∙_, subst}
+use mathlib.Core.Path.{_≡_, refl, sym, subst}
 use mathlib.Core.Logic.{_≢_, _⊎_, inl, inr}
 use Prim.Native.Nat.{ℕ, _<_}
 use native.Mathlib.Omega.{arith}
 use mathlib.Core.Bool.{true}
-use mathlib.Core.List.{List, [], _∷_, _++_, map, reverse, reverse-append, reverse-reverse, List·Memᴰ as Mem, List·Memᴰ·head as at-head, List·Memᴰ·tail as in-tail, List·Memᴰ·cases-cons as mem-cases, List·Memᴰ·not-nil as mem-nil}
+use mathlib.Core.List.{List, [], _∷_, map, List·Memᴰ as Mem, List·Memᴰ·head as at-head, List·Memᴰ·tail as in-tail, List·Memᴰ·cases-cons as mem-cases, List·Memᴰ·not-nil as mem-nil}
 use lib.ListN.{length}
 use Rattle.model.specs.Graph.{Chain, Edge, Pass, afterOf, atOf, chainOf, edgeAt, far, isRegular, turn}
 use Rattle.model.specs.Distance.{Joins}
 use Rattle.model.specs.Notions.{IsChain, NoTwice, PathOver, one-edge, edge-on, SameChain, reversed}
-use Rattle.model.proofs.Walks.Counting.{Distinct, occurs, same-eq}
 use Rattle.model.proofs.Walks.Degree.{Proper, is-two}
-use Rattle.model.proofs.Walks.Turn.{At, two-edges}
-use Rattle.model.proofs.Walks.Trail.{Trail, done, pass, trail-back, backwards, length-backwards, across}
-use Rattle.model.proofs.Walks.Ended.{Next, next-edge, trail-short}
-use Rattle.model.proofs.Walks.RingFree.{RingFree, turn-between}
-use Rattle.model.proofs.Chains.Lines.{Line, lineEdges, afters, afters-back, trail-at}
-use Rattle.model.proofs.Chains.Same.{lineChain, chain-same, chain-of-line, ats-back}
-use Rattle.model.proofs.Chains.Partition.{On, on, line-distinct}
-use Rattle.model.proofs.Chains.Sums.{mem-occurs}
-use Rattle.model.proofs.Distances.Distance.{joins-back}
-use Rattle.model.proofs.Distances.Ways.{joins-at, far-joins}
-use Rattle.model.proofs.Distances.HopTrails.{joins-far}
-
-pub reversed-twice : (c : Chain) → reversed (reversed c) ≡ c
-unfolding reversed
-reversed-twice c = chain-same _ c refl (reverse-reverse (c .inner)) refl (reverse-reverse (c .edges))
-
-pub same-back : (c k : Chain) → SameChain c k → SameChain k c
-same-back c k (inl e) = inl (sym e)
-same-back c k (inr e) = inr (sym (ap reversed e ∙ reversed-twice k))
-
-pub same-through : (a b c : Chain) → SameChain a b → SameChain b c → SameChain a c
-same-through a b c (inl e) (inl f) = inl (e ∙ f)
-same-through a b c (inl e) (inr f) = inr (e ∙ f)
-same-through a b c (inr e) (inl f) = inr (e ∙ ap reversed f)
-same-through a b c (inr e) (inr f) = inl (e ∙ ap reversed f ∙ reversed-twice c)
+use Rattle.model.proofs.Walks.Turn.{At, two-edges, turn-between}
+use Rattle.model.proofs.Walks.Joins.{across, joins-back, joins-at, joins-of, joins-far}
+use Rattle.model.proofs.Walks.Trail.{Trail, done, pass, trail-back, backwards, Next, next-edge, trail-at, afters, afters-back}
+use Rattle.model.proofs.Walks.RingFree.{RingFree}
+use Rattle.model.proofs.Chains.Same.{lineChain, chain-same, chain-of-line, ats-back, Line, lineEdges, same-back}
+use Rattle.model.proofs.Chains.Partition.{line-distinct, LineOf, own-line}
+use Rattle.model.proofs.Basics.Counting.{mem-occurs, Distinct, occurs, same-eq}
 
 -- ---- a line is a chain
 
@@ -51,7 +32,7 @@ module _ (es : List Edge) (pr : Proper es) where
   trail-path {p = p} a j done = one-edge p (a .inside) j
   trail-path {p = p} {f = f} a j (pass t c e u) =
       let nx : Next es p f t = next-edge es p f t pr a c e in
-      edge-on p (a .inside) j (trail-path (nx .across .at) (far-joins es pr t f (nx .at)) u)
+      edge-on p (a .inside) j (trail-path (nx .across .at) (joins-of es t f pr (nx .at)) u)
 
   trail-between : {p f q g : ℕ} {ss : List Pass} → Trail es p f ss q g → (v : ℕ) → Mem v (map atOf ss) → isRegular es v ≡ true
   unfolding atOf
@@ -77,15 +58,11 @@ module _ (es : List Edge) (pr : Proper es) where
         trail = rw (x .again) at (trail-back pr (x .at) (l .trail));
         starts = l .stops;
         stops = l .starts;
-        short = omega (arith, length-backwards (l .passes), l .short);
       }
 
   pub line-back-chain : (l : Line es) → lineChain (line-back l) ≡ reversed (lineChain l)
   unfolding lineChain reversed line-back
-  line-back-chain l =
-      let e : reverse (afters (backwards (l .passes))) ++ (l .last ∷ []) ≡ l .first ∷ afters (l .passes) = afters-back (l .trail) in
-      chain-same _ _ refl (ats-back (l .passes)) refl
-      (rw (← e) (sym (reverse-append (reverse (afters (backwards (l .passes)))) (l .last ∷ []) ∙ rw (reverse-reverse (afters (backwards (l .passes)))) refl)))
+  line-back-chain l = chain-same _ _ refl (ats-back (l .passes)) refl (afters-back (l .trail))
 
   module _ (rf : RingFree es) where
     line-is-chain : (l : Line es) → IsChain es (lineChain l)
@@ -93,33 +70,17 @@ module _ (es : List Edge) (pr : Proper es) where
     line-is-chain l =
         let x = across es (l .first) (l .start) pr (l .at) in
         record {
-          path = trail-path (x .at) (far-joins es pr (l .first) (l .start) (l .at)) (l .trail);
+          path = trail-path (x .at) (joins-of es (l .first) (l .start) pr (l .at)) (l .trail);
           starts = l .starts;
           stops = l .stops;
           between = trail-between (l .trail);
-          no-edge-twice = no-twice (lineEdges l) (line-distinct es pr rf l);
+          no-edge-twice = no-twice (lineEdges l) (line-distinct es pr l);
         }
 
-    -- ---- a chain as a line: first the chain of an edge
-
-    pub record LineOf (c : Chain) : Type 0 where
-      pub line : Line es
-      pub chain-is : lineChain line ≡ c
-
-    pub own-line : (d : ℕ) → d < length es → LineOf (chainOf es d)
-    own-line d h = go (chain-of-line es pr (o .line) d (o .mem))
-      where
-        o : On es pr rf d
-        o = on es pr rf d h
-
-        go : SameChain (chainOf es d) (lineChain (o .line)) → LineOf (chainOf es d)
-        go (inl e) = record { line = o .line; chain-is = sym e }
-        go (inr e) = record { line = line-back (o .line); chain-is = line-back-chain (o .line) ∙ sym e }
-
     pub chain-is-chain : (d : ℕ) → d < length es → IsChain es (chainOf es d)
-    chain-is-chain d h = let o = own-line d h in subst (λ (c : Chain). IsChain es c) (o .chain-is) (line-is-chain (o .line))
+    chain-is-chain d h = let o = own-line es pr rf d h in subst (λ (c : Chain). IsChain es c) (o .chain-is) (line-is-chain (o .line))
 
-    -- ---- then every chain
+    -- ---- a chain is a line
 
     record AsTrail (v : ℕ) (ds vs : List ℕ) (w : ℕ) : Type 0 where
       first : ℕ
@@ -137,8 +98,8 @@ module _ (es : List Edge) (pr : Proper es) where
           first = d;
           passes = [];
           last = d;
-          at = joins-at es pr d w v h (joins-back _ v w j);
-          trail = rw (joins-far es pr d w v h (joins-back _ v w j)) done;
+          at = joins-at es d w v pr h (joins-back _ v w j);
+          trail = rw (joins-far es d w v pr h (joins-back _ v w j)) done;
           edges-are = refl;
           inner-is = refl;
         }
@@ -146,21 +107,21 @@ module _ (es : List Edge) (pr : Proper es) where
       where
         go : AsTrail x ds vs w → AsTrail v (d ∷ ds) (x ∷ vs) w
         go r =
-            let f : far es d v ≡ x = joins-far es pr d x v h (joins-back _ v x j) in
+            let f : far es d v ≡ x = joins-far es d x v pr h (joins-back _ v x j) in
             let c : isRegular es x ≡ true = reg x (at-head refl) in
             let n : d ≢ r .first = λ q. once .0 (rw (r .edges-are) (at-head q)) in
-            let t : turn es d x ≡ r .first = turn-between es x d (r .first) (two-edges es x pr (is-two es x c)) (joins-at es pr d v x h j) (r .at) n in
+            let t : turn es d x ≡ r .first = turn-between es x d (r .first) (two-edges es x pr (is-two es x c)) (joins-at es d v x pr h j) (r .at) n in
             record {
               first = d;
               passes = record { before = d; at = x; after = r .first } ∷ r .passes;
               last = r .last;
-              at = joins-at es pr d x v h (joins-back _ v x j);
+              at = joins-at es d x v pr h (joins-back _ v x j);
               trail = rw f (pass (r .first) c t (r .trail));
               edges-are = rw (r .edges-are) refl;
               inner-is = rw (r .inner-is) refl;
             }
 
-    as-line : (c : Chain) → IsChain es c → LineOf c
+    as-line : (c : Chain) → IsChain es c → LineOf es pr rf c
     unfolding lineChain
     as-line c k =
         let r : AsTrail (c .start) (c .edges) (c .inner) (c .stop) = path-trail (k .path) (k .between) (k .no-edge-twice) in
@@ -175,7 +136,6 @@ module _ (es : List Edge) (pr : Proper es) where
             trail = r .trail;
             starts = k .starts;
             stops = k .stops;
-            short = trail-short es pr ((across es (r .first) (c .start) pr (r .at)) .at) (r .trail) (k .stops);
           };
           chain-is = chain-same _ c refl (sym (r .inner-is)) refl (sym (r .edges-are));
         }
@@ -184,6 +144,6 @@ module _ (es : List Edge) (pr : Proper es) where
     pub chain-only : (c : Chain) (d : ℕ) → IsChain es c → Mem d (c .edges) → SameChain c (chainOf es d)
     unfolding lineChain
     chain-only c d k m =
-        let a : LineOf c = as-line c k in
+        let a : LineOf es pr rf c = as-line c k in
         let m′ : Mem d (lineEdges (a .line)) = subst (λ (z : Chain). Mem d (z .edges)) (sym (a .chain-is)) m in
         same-back (chainOf es d) c (subst (λ (z : Chain). SameChain (chainOf es d) z) (a .chain-is) (chain-of-line es pr (a .line) d m′))

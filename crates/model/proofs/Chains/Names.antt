@@ -4,16 +4,16 @@ use mathlib.Core.Logic.{_⊎_, inl, inr}
 use Prim.Native.Nat.{ℕ, zero, suc, _+_, _≤_, _<_}
 use native.Mathlib.Omega.{arith}
 use native.Mathlib.Decide.{ℕ-discrete}
-use mathlib.Core.List.{List, [], _∷_, map, List·Memᴰ as Mem, List·Memᴰ·head as at-head, List·Memᴰ·tail as in-tail, List·Memᴰ·cases-cons as mem-cases, List·Memᴰ·not-nil as mem-nil, reverse, Memᴰ·append-right}
+use mathlib.Core.List.{List, [], _∷_, map, List·Memᴰ as Mem, List·Memᴰ·head as at-head, List·Memᴰ·tail as in-tail, List·Memᴰ·cases-cons as mem-cases, List·Memᴰ·not-nil as mem-nil}
 use lib.ListN.{length}
 use Rattle.model.specs.Basics.{countFrom, upTo}
-use Rattle.model.specs.Graph.{Edge, nameOf, afterOf, chainOf, edgeAt, onwards}
+use Rattle.model.specs.Graph.{Edge, nameOf}
 use Rattle.model.specs.Register.{Register}
 use Rattle.model.specs.Queries.{row, rowsOf, sheet}
 use Rattle.model.specs.Notions.{Rising, SheetNames}
 use Rattle.model.proofs.Walks.Degree.{Proper}
 use Rattle.model.proofs.Walks.RingFree.{RingFree}
-use Rattle.model.proofs.Chains.Partition.{On, on, name-mem, same-name, least-le, least-mem, mem-chain}
+use Rattle.model.proofs.Chains.Partition.{chain-name, name-in-chain}
 use Rattle.model.proofs.Chains.Sums.{name-below}
 use Rattle.model.proofs.Chains.Sheet.{rows-yes, rows-no}
 
@@ -71,34 +71,5 @@ sheet-names r pr rf =
       rows-are = n .rows-are;
       rising = n .rising;
       each-names-itself = λ d m. (omega (arith, n .each d m .1 .0), n .each d m .1 .1);
-      every-edge = λ d h. n .all (nameOf es d) (omega arith) (omega (arith, name-below es pr rf d h)) (own d h);
+      every-edge = λ d h. n .all (nameOf es d) (omega arith) (omega (arith, name-below es pr rf d h)) (chain-name es pr rf (nameOf es d) d h (name-in-chain es d));
     }
-  where
-    own : (d : ℕ) → d < length (r .edges) → nameOf (r .edges) (nameOf (r .edges) d) ≡ nameOf (r .edges) d
-    own d h =
-        let o : On (r .edges) pr rf d = on (r .edges) pr rf d h in
-        same-name (r .edges) pr rf (o .line) (nameOf (r .edges) d) d (name-mem (r .edges) pr rf (o .line) d (o .mem)) (o .mem)
-
--- ---- the name of a chain is the least of its edges, and the name of each of them
-
-module _ (es : List Edge) (pr : Proper es) (rf : RingFree es) where
-  pub chain-has : (d : ℕ) → Mem d ((chainOf es d) .edges)
-  unfolding chainOf
-  chain-has d = Memᴰ·append-right (reverse (map afterOf (onwards es d ((edgeAt es d) .first)))) (at-head refl)
-
-  pub chain-name : (c d : ℕ) → d < length es → Mem c ((chainOf es d) .edges) → nameOf es c ≡ nameOf es d
-  chain-name c d h m =
-      let o : On es pr rf d = on es pr rf d h in
-      same-name es pr rf (o .line) c d (mem-chain es pr rf (o .line) d c (o .mem) m) (o .mem)
-
-  pub name-in-chain : (d : ℕ) → Mem (nameOf es d) ((chainOf es d) .edges)
-  unfolding nameOf
-  name-in-chain d = go (mem-cases (least-mem d ((chainOf es d) .edges)))
-    where
-      go : (nameOf es d ≡ d) ⊎ Mem (nameOf es d) ((chainOf es d) .edges) → Mem (nameOf es d) ((chainOf es d) .edges)
-      go (inl e) = rw e (chain-has d)
-      go (inr m) = m
-
-  pub name-least : (c d : ℕ) → Mem c ((chainOf es d) .edges) → nameOf es d ≤ c
-  unfolding nameOf
-  name-least c d m = least-le d ((chainOf es d) .edges) c (in-tail m)

@@ -1,25 +1,28 @@
 -- The chains partition the edges: each edge lies on one chain, the one of its name.
-use mathlib.Core.Path.{_≡_, refl}
+use mathlib.Core.Path.{_≡_, refl, sym, ap, _∙_, subst}
 use mathlib.Core.Logic.{_⊎_, inl, inr}
 use Prim.Native.Nat.{ℕ, _≤_, _<_, min}
 use native.Mathlib.Omega.{arith}
 use native.Mathlib.Decide.{decLe}
-use mathlib.Core.List.{List, [], _∷_, _++_, map-append, reverse, reverse-reverse, List·Memᴰ as Mem, List·Memᴰ·head as at-head, List·Memᴰ·tail as in-tail, List·Memᴰ·cases-cons as mem-cases, List·Memᴰ·eq-of-singleton as mem-one, Memᴰ·cast, Memᴰ·append-left}
+use mathlib.Core.List.{List, [], _∷_, _++_, map-append, reverse, List·Memᴰ as Mem, List·Memᴰ·head as at-head, List·Memᴰ·tail as in-tail, List·Memᴰ·cases-cons as mem-cases, List·Memᴰ·eq-of-singleton as mem-one, map, Memᴰ·append-right}
 use lib.ListN.{length}
 use Rattle.model.specs.Basics.{least}
-use Rattle.model.specs.Graph.{Edge, Pass, afterOf, chainOf, edgeAt, endsAt, far, nameOf}
-use Rattle.model.proofs.Basics.Lists.{mem-reverse}
-use Rattle.model.proofs.Walks.Counting.{Distinct, AllBelow, same-eq, same-ne}
+use Rattle.model.specs.Graph.{Edge, afterOf, chainOf, edgeAt, far, nameOf, onwards, Chain, atOf, endOnwards}
+use Rattle.model.specs.Distance.{forth, back}
+use Rattle.model.specs.Notions.{SameChain}
+use Rattle.model.proofs.Basics.Lists.{reverse-onto}
+use Rattle.model.proofs.Basics.Counting.{Distinct, AllBelow}
 use Rattle.model.proofs.Walks.Degree.{Proper}
 use Rattle.model.proofs.Walks.Turn.{At}
-use Rattle.model.proofs.Walks.Trail.{Trail, done, pass, trail-back, trail-append, backwards, across, proper-at}
-use Rattle.model.proofs.Chains.Lines.{Line, lineEdges, afters, trail-at}
-use Rattle.model.proofs.Chains.Same.{chain-is-line}
-use Rattle.model.proofs.Walks.Ended.{trail-short, trail-distinct, trail-below}
+use Rattle.model.proofs.Walks.Joins.{across, joins-at, joins-far}
+use Rattle.model.proofs.Walks.Trail.{Trail, trail-back, trail-append, backwards, trail-at, afters, afters-back}
+use Rattle.model.proofs.Chains.Same.{Line, lineEdges, lineChain, chain-same, chain-of-line, ats-back, same-back, same-mem}
+use Rattle.model.proofs.Walks.Ended.{trail-distinct, trail-below}
 use Rattle.model.proofs.Walks.RingFree.{RingFree}
+use Rattle.model.proofs.Walks.Whole.{Onwards, onwards-ends}
 
 -- `least` is the least
-pub least-le : (x : ℕ) (ys : List ℕ) (m : ℕ) → Mem m (x ∷ ys) → least x ys ≤ m
+least-le : (x : ℕ) (ys : List ℕ) (m : ℕ) → Mem m (x ∷ ys) → least x ys ≤ m
 unfolding least
 least-le x [] m h = let e : m ≡ x = mem-one h in omega arith
 least-le x (y ∷ ys) m h = go (mem-cases h) (least-le (min x y) ys (min x y) (at-head refl)) (λ k. least-le (min x y) ys m (in-tail k))
@@ -32,7 +35,7 @@ least-le x (y ∷ ys) m h = go (mem-cases h) (least-le (min x y) ys (min x y) (a
     go (inl e) i j = omega arith
     go (inr k) i j = tail (mem-cases k) i j
 
-pub least-mem : (x : ℕ) (ys : List ℕ) → Mem (least x ys) (x ∷ ys)
+least-mem : (x : ℕ) (ys : List ℕ) → Mem (least x ys) (x ∷ ys)
 unfolding least
 least-mem x [] = at-head refl
 least-mem x (y ∷ ys) = go (mem-cases (least-mem (min x y) ys)) (decLe x y)
@@ -42,83 +45,81 @@ least-mem x (y ∷ ys) = go (mem-cases (least-mem (min x y) ys)) (decLe x y)
     go (inl e) (yes h) = at-head (let z : least (min x y) ys ≡ x = omega arith in z)
     go (inl e) (no h) = in-tail (at-head (let z : least (min x y) ys ≡ y = omega arith in z))
 
--- where a trail ends, its last edge stands on it
-trail-last : {es : List Edge} {p f q g : ℕ} {ss : List Pass} → Trail es p f ss q g → Mem q (p ∷ afters ss)
-unfolding afters afterOf
-trail-last done = at-head refl
-trail-last (pass t c e u) = in-tail (trail-last u)
+-- the name of a chain is the least of its edges
+pub chain-has : (es : List Edge) (d : ℕ) → Mem d ((chainOf es d) .edges)
+unfolding chainOf
+chain-has es d = Memᴰ·append-right (reverse (map afterOf (onwards es d ((edgeAt es d) .first)))) (at-head refl)
 
-second-at : (es : List Edge) (p : ℕ) → Proper es → p < length es → At es ((edgeAt es p) .second) p
-unfolding endsAt
-second-at es p pr h = record {
-  inside = h;
-  meets = omega (arith, same-ne ((edgeAt es p) .first) ((edgeAt es p) .second) (proper-at es p pr h), same-eq ((edgeAt es p) .second) _ refl);
-}
+pub name-in-chain : (es : List Edge) (d : ℕ) → Mem (nameOf es d) ((chainOf es d) .edges)
+unfolding nameOf
+name-in-chain es d = go (mem-cases (least-mem d ((chainOf es d) .edges)))
+  where
+    go : (nameOf es d ≡ d) ⊎ Mem (nameOf es d) ((chainOf es d) .edges) → Mem (nameOf es d) ((chainOf es d) .edges)
+    go (inl e) = rw e (chain-has es d)
+    go (inr m) = m
 
-module _ (es : List Edge) (pr : Proper es) (rf : RingFree es) where
-  -- the line on which an edge lies
-  pub record On (p : ℕ) : Type 0 where
-    pub line : Line es
-    pub mem : Mem p (lineEdges line)
+pub name-least : (es : List Edge) (c d : ℕ) → Mem c ((chainOf es d) .edges) → nameOf es d ≤ c
+unfolding nameOf
+name-least es c d m = least-le d ((chainOf es d) .edges) c (in-tail m)
 
-  pub on : (p : ℕ) → p < length es → On p
-  unfolding afters
-  on p h =
-      let ab = second-at es p pr h in
-      let r = rf p ((edgeAt es p) .second) ab in
-      let x = across es p ((edgeAt es p) .second) pr ab in
-      let r₂ = rf p (far es p ((edgeAt es p) .second)) (x .at) in
-      let aq : At es (r .to) (r .onto) = trail-at pr ab (r .trail) in
-      let back = trail-back pr ab (r .trail) in
-      let t = trail-append back (r₂ .trail) in
-      record {
-        line = record {
-          start = r .to;
-          first = r .onto;
-          passes = backwards (r .passes) ++ r₂ .passes;
-          last = r₂ .onto;
-          stop = r₂ .to;
-          at = aq;
-          trail = t;
-          starts = r .singular;
-          stops = r₂ .singular;
-          short = trail-short es pr ((across es (r .onto) (r .to) pr aq) .at) t (r₂ .singular);
-        };
-        mem = simp map-append (Memᴰ·append-left (afters (r₂ .passes)) (trail-last back));
-      }
-
-  -- two edges of one line have chains with the same edges, hence one name
-  pub chain-mem : (l : Line es) (k j : ℕ) → Mem k (lineEdges l) → Mem j (lineEdges l) → Mem j ((chainOf es k) .edges)
-  chain-mem l k j hk hj = go (chain-is-line es pr l k hk)
-    where
-      go : ((chainOf es k) .edges ≡ lineEdges l) ⊎ ((chainOf es k) .edges ≡ reverse (lineEdges l)) → Mem j ((chainOf es k) .edges)
-      go (inl e) = rw e hj
-      go (inr e) = rw e (mem-reverse j (lineEdges l) hj)
-
-  pub mem-chain : (l : Line es) (k j : ℕ) → Mem k (lineEdges l) → Mem j ((chainOf es k) .edges) → Mem j (lineEdges l)
-  mem-chain l k j hk hj = go (chain-is-line es pr l k hk)
-    where
-      go : ((chainOf es k) .edges ≡ lineEdges l) ⊎ ((chainOf es k) .edges ≡ reverse (lineEdges l)) → Mem j (lineEdges l)
-      go (inl e) = rw e at hj
-      go (inr e) = let m = mem-reverse j (reverse (lineEdges l)) (rw e at hj) in rw reverse-reverse at m
-
-  name-le : (l : Line es) (k j : ℕ) → Mem k (lineEdges l) → Mem j (lineEdges l) → nameOf es k ≤ j
-  unfolding nameOf
-  name-le l k j hk hj = least-le k ((chainOf es k) .edges) j (in-tail (chain-mem l k j hk hj))
-
-  pub name-mem : (l : Line es) (k : ℕ) → Mem k (lineEdges l) → Mem (nameOf es k) (lineEdges l)
-  unfolding nameOf
-  name-mem l k hk = go (mem-cases (least-mem k ((chainOf es k) .edges)))
-    where
-      go : (nameOf es k ≡ k) ⊎ Mem (nameOf es k) ((chainOf es k) .edges) → Mem (nameOf es k) (lineEdges l)
-      go (inl e) = Memᴰ·cast e hk
-      go (inr m) = mem-chain l k (nameOf es k) hk m
-
-  pub same-name : (l : Line es) (k j : ℕ) → Mem k (lineEdges l) → Mem j (lineEdges l) → nameOf es k ≡ nameOf es j
-  same-name l k j hk hj = omega (arith, name-le l k (nameOf es j) hk (name-mem l j hj), name-le l j (nameOf es k) hj (name-mem l k hk))
-
+-- the edges of a line
+module _ (es : List Edge) (pr : Proper es) where
   pub line-distinct : (l : Line es) → Distinct (lineEdges l)
   line-distinct l = trail-distinct es pr ((across es (l .first) (l .start) pr (l .at)) .at) (l .trail) (l .stops)
 
   pub line-below : (l : Line es) → AllBelow (length es) (lineEdges l)
   line-below l = trail-below es pr ((across es (l .first) (l .start) pr (l .at)) .at) (l .trail)
+
+module _ (es : List Edge) (pr : Proper es) (rf : RingFree es) where
+  -- a chain as a line
+  pub record LineOf (c : Chain) : Type 0 where
+    pub line : Line es
+    pub chain-is : lineChain line ≡ c
+
+  -- the chain of an edge is one: the walk from the edge's first end, read backwards, and behind it the walk from its second end
+  pub own-line : (d : ℕ) → d < length es → LineOf (chainOf es d)
+  unfolding lineChain chainOf endOnwards afters
+  own-line d h =
+      let a = (edgeAt es d) .first in
+      let b = (edgeAt es d) .second in
+      let at-a : At es a d = joins-at es d b a pr h (back refl refl) in
+      let s : Onwards es d a = onwards-ends es pr rf d a at-a in
+      let t : Onwards es d b = onwards-ends es pr rf d b (joins-at es d a b pr h (forth refl refl)) in
+      let at : At es (s .to) (s .onto) = trail-at pr at-a (s .trail) in
+      let up : Trail es (s .onto) (far es (s .onto) (s .to)) (backwards (onwards es d a)) d b = rw (joins-far es d b a pr h (back refl refl)) at (trail-back pr at-a (s .trail)) in
+      let whole : Line es = record {
+        start = s .to;
+        first = s .onto;
+        passes = backwards (onwards es d a) ++ onwards es d b;
+        last = t .onto;
+        stop = t .to;
+        at = at;
+        trail = trail-append up (t .trail);
+        starts = s .singular;
+        stops = t .singular;
+      } in
+      record {
+        line = whole;
+        chain-is = chain-same (lineChain whole) (chainOf es d) (sym (s .ends-at))
+            (map-append atOf (backwards (onwards es d a)) (onwards es d b) ∙ rw (ats-back (onwards es d a)) refl)
+            (sym (t .ends-at))
+            (simp map-append (ap (λ (l : List ℕ). l ++ afters (onwards es d b)) (afters-back (s .trail)) ∙ reverse-onto d (afters (onwards es d a)) (afters (onwards es d b))));
+      }
+
+  -- the edges of a chain have this chain, and its name
+  pub chain-again : (c d : ℕ) → d < length es → Mem c ((chainOf es d) .edges) → SameChain (chainOf es c) (chainOf es d)
+  unfolding lineChain
+  chain-again c d h m =
+      let o : LineOf (chainOf es d) = own-line d h in
+      let m′ : Mem c (lineEdges (o .line)) = subst (λ (k : Chain). Mem c (k .edges)) (sym (o .chain-is)) m in
+      subst (λ (k : Chain). SameChain (chainOf es c) k) (o .chain-is) (chain-of-line es pr (o .line) c m′)
+
+  pub chain-back : (c d : ℕ) → d < length es → Mem c ((chainOf es d) .edges) → Mem d ((chainOf es c) .edges)
+  chain-back c d h m = same-mem _ _ d (same-back _ _ (chain-again c d h m)) (chain-has es d)
+
+  pub chain-name : (c d : ℕ) → d < length es → Mem c ((chainOf es d) .edges) → nameOf es c ≡ nameOf es d
+  chain-name c d h m =
+      let s : SameChain (chainOf es c) (chainOf es d) = chain-again c d h m in
+      let le = name-least es (nameOf es d) c (same-mem _ _ _ (same-back _ _ s) (name-in-chain es d)) in
+      let ge = name-least es (nameOf es c) d (same-mem _ _ _ s (name-in-chain es c)) in
+      omega arith

@@ -1,26 +1,26 @@
 -- The two lengths from a regular vertex along its two edges to the ends of its chain add up to the chain's length.
-use mathlib.Core.Path.{_≡_, refl, sym, ap, _∙_}
+use mathlib.Core.Path.{_≡_, refl, ap, _∙_}
 use mathlib.Core.Logic.{inl, inr}
 use Prim.Native.Nat.{ℕ, _+_, _<_}
 use native.Mathlib.Omega.{arith}
-use mathlib.Core.Bool.{true}
-use mathlib.Core.List.{List, _∷_, _++_, map, reverse, List·Memᴰ as Mem}
+use mathlib.Core.Bool.{true, false}
+use mathlib.Core.List.{List, _∷_, map, List·Memᴰ as Mem}
 use lib.ListN.{length}
 use Rattle.model.specs.Basics.{sum}
 use Rattle.model.specs.Graph.{Edge, Pass, afterOf, chainLength, chainOf, edgeAt, far, isRegular, lengthAt, lengthsOf, onwards, turn}
-use Rattle.model.specs.Distance.{lengthVia}
+use Rattle.model.specs.Distance.{lengthVia, Joins, back, forth}
 use Rattle.model.specs.Queries.{lengthTo}
 use Rattle.model.specs.Notions.{SameChain, reversed}
-use Rattle.model.proofs.Basics.Lists.{sum-append, sum-reverse}
+use Rattle.model.proofs.Basics.Lists.{sum-around, sum-reverse}
 use Rattle.model.proofs.Walks.Degree.{Proper}
 use Rattle.model.proofs.Walks.Turn.{At}
-use Rattle.model.proofs.Walks.Trail.{Trail, pass, trail-walk}
-use Rattle.model.proofs.Walks.Ended.{Next, next-edge, trail-short}
+use Rattle.model.proofs.Walks.Trail.{Trail, pass, trail-walk, Next, next-edge, walk-stop}
+use Rattle.model.proofs.Walks.Ended.{trail-short}
 use Rattle.model.proofs.Walks.RingFree.{RingFree}
-use Rattle.model.proofs.Chains.Lines.{Ends, first-end, second-end, ends-of}
+use Rattle.model.proofs.Walks.Joins.{joins-of, joins-at, joins-far, joins-back}
+use Rattle.model.proofs.Walks.Whole.{Onwards, onwards-ends}
 use Rattle.model.proofs.Chains.Own.{inner-chain}
-use Rattle.model.proofs.Chains.Exact.{chain-is-chain, chain-only}
-use Rattle.model.proofs.Labels.Inwards.{Inward, inward-on}
+use Rattle.model.proofs.Chains.Partition.{chain-again}
 
 -- the lengths of the edges that a walk goes along
 passed : List Edge → List Pass → ℕ
@@ -29,7 +29,7 @@ passed es ss = sum (lengthsOf es (map afterOf ss))
 -- from an end v of edge d: the chain is what lies along d and what lies the other way
 chain-at : (es : List Edge) (d v : ℕ) → Proper es → At es v d → chainLength es d ≡ lengthTo es d v + passed es (onwards es d v)
 unfolding chainLength chainOf lengthTo lengthVia sum lengthsOf passed
-chain-at es d v pr a = go (ends-of es d v pr a)
+chain-at es d v pr a = go (joins-of es d v pr a)
   where
     first : ℕ
     first = (edgeAt es d) .first
@@ -37,21 +37,24 @@ chain-at es d v pr a = go (ends-of es d v pr a)
     second : ℕ
     second = (edgeAt es d) .second
 
-    whole : sum (lengthsOf es (reverse (map afterOf (onwards es d first)) ++ (d ∷ map afterOf (onwards es d second))))
-        ≡ passed es (onwards es d first) + (lengthAt es d + passed es (onwards es d second))
-    whole =
-        omega (
-          arith,
-          sum-append es (reverse (map afterOf (onwards es d first))) (d ∷ map afterOf (onwards es d second)),
-          sum-reverse es (map afterOf (onwards es d first)),
-        )
+    whole : chainLength es d ≡ passed es (onwards es d first) + (lengthAt es d + passed es (onwards es d second))
+    whole = sum-around es (map afterOf (onwards es d first)) d (map afterOf (onwards es d second))
 
     to : (x y : ℕ) → x ≡ y → passed es (onwards es d x) ≡ passed es (onwards es d y)
     to x y e = ap (λ (z : ℕ). passed es (onwards es d z)) e
 
-    go : Ends es d v → chainLength es d ≡ lengthTo es d v + passed es (onwards es d v)
-    go (first-end s f) = omega (arith, whole, to first v s, to second (far es d v) f)
-    go (second-end s f) = omega (arith, whole, to second v s, to first (far es d v) f)
+    go : Joins (edgeAt es d) v (far es d v) → chainLength es d ≡ lengthTo es d v + passed es (onwards es d v)
+    go (forth s f) = omega (arith, whole, to first v s, to second (far es d v) f)
+    go (back s f) = omega (arith, whole, to second v s, to first (far es d v) f)
+
+-- a hop along edge d is as long as the reach, and from a singular vertex as the chain
+pub hop-lengths : (es : List Edge) → Proper es → (d v w : ℕ) → d < length es → Joins (edgeAt es d) v w
+    → (lengthVia es d w ≡ lengthTo es d v) × (isRegular es v ≡ false → lengthVia es d w ≡ chainLength es d)
+unfolding lengthTo passed onwards sum lengthsOf
+hop-lengths es pr d v w h j =
+    let b : Joins (edgeAt es d) w v = joins-back (edgeAt es d) v w j in
+    let e : lengthVia es d w ≡ lengthTo es d v = rw (joins-far es d w v pr h b) refl in
+    (e, λ c. let z : passed es (onwards es d v) ≡ 0 = rw (walk-stop (length es) es d v c) refl in omega (arith, chain-at es d v pr (joins-at es d w v pr h b)))
 
 module _ (es : List Edge) (pr : Proper es) (rf : RingFree es) where
   -- who comes to a regular vertex goes on along its other edge
@@ -61,7 +64,7 @@ module _ (es : List Edge) (pr : Proper es) (rf : RingFree es) where
   onwards-on d v a c =
       let t = turn es d v in
       let nx : Next es d v t = next-edge es d v t pr a c refl in
-      let w : Inward es v t (onwards es t (far es t v)) = inward-on es pr rf v t (nx .at) in
+      let w : Onwards es t (far es t v) = onwards-ends es pr rf t (far es t v) (nx .across .at) in
       let u : Trail es d v (record { before = d; at = v; after = t } ∷ onwards es t (far es t v)) (w .onto) (w .to) = pass t c refl (w .trail) in
       trail-walk (length es) u (w .singular) (omega (arith, trail-short es pr a u (w .singular)))
 
@@ -80,4 +83,4 @@ module _ (es : List Edge) (pr : Proper es) (rf : RingFree es) where
   pub reaches-sum : (c d v : ℕ) → d < length es → Mem v ((chainOf es d) .inner) → At es v c → isRegular es v ≡ true
       → lengthTo es c v + lengthTo es (turn es c v) v ≡ chainLength es d
   reaches-sum c d v h m a q =
-      both-reaches c v a q ∙ sym (same-length d c (chain-only es pr rf (chainOf es d) c (chain-is-chain es pr rf d h) (inner-chain es pr rf d c v h m a)))
+      both-reaches c v a q ∙ same-length c d (chain-again es pr rf c d h (inner-chain es pr rf d c v h m a))

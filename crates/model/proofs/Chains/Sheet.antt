@@ -5,22 +5,23 @@ use Prim.Native.Nat.{ℕ, zero, suc, _+_, _*_, _≤_}
 use native.Mathlib.Omega.{arith}
 use native.Mathlib.Nat.{add-zero}
 use native.Mathlib.Decide.{ℕ-discrete}
-use mathlib.Core.Bool.{Bool, true, false}
 use mathlib.Core.List.{List, [], _∷_, _++_}
 use lib.ListN.{length, drop, length-append}
 use lib.Dec.{ltb}
 use borrow.Author.Tests.{eq-eqb, ne-eqb, le-ltb}
-use Rattle.model.specs.Basics.{countFrom, if_then_else_, inFront, sum, upTo}
+use Rattle.model.specs.Basics.{countFrom, inFront, sum, upTo}
 use Rattle.model.specs.Graph.{Edge, chainLength, edgeAt, lengthAt, nameOf}
 use Rattle.model.specs.Register.{Register}
 use Rattle.model.specs.Queries.{concat, listed, row, rowsOf, sheet, sheetNumbers}
 use Rattle.model.specs.Tables.{edgeLengths}
 use Rattle.model.specs.Calls.{Effect, sheetEffect}
 use Rattle.model.specs.Series.{lengthColumn}
-use Rattle.model.proofs.Walks.Counting.{same-eq, same-ne}
+use Rattle.model.proofs.Basics.Counting.{same-eq, same-ne}
 use Rattle.model.proofs.Walks.Degree.{Proper}
 use Rattle.model.proofs.Walks.RingFree.{RingFree}
-use Rattle.model.proofs.Chains.Sums.{total, named, chains-sum}
+use Rattle.model.proofs.Basics.Total.{total, total-front}
+use Rattle.model.proofs.Basics.Booleans.{if-either}
+use Rattle.model.proofs.Chains.Sums.{named, chains-sum}
 
 -- ---- sums over the numbers below n, from the front and from the back
 
@@ -35,11 +36,6 @@ sumOf-count g at (suc n) =
     let i : sumOf g (countFrom (suc at) n) + (total at g + g at) ≡ total (suc at + n) g = sumOf-count g (suc at) n in
     let e : total (suc at + n) g ≡ total (at + suc n) g = ap (λ (m : ℕ). total m g) (let z : suc at + n ≡ at + suc n = omega arith in z) in
     omega (arith, i, e)
-
-total-front : (n : ℕ) (g : ℕ → ℕ) → total (suc n) g ≡ g 0 + total n (λ k. g (suc k))
-unfolding total
-total-front zero g = omega arith
-total-front (suc n) g = omega (arith, total-front n g)
 
 lengths-total : (es : List Edge) → sum (edgeLengths es) ≡ total (length es) (λ d. lengthAt es d)
 unfolding sum edgeLengths lengthAt edgeAt total
@@ -106,13 +102,9 @@ sheet-length r = length-rows (r .edges) (upTo (length (r .edges)))
 
 -- ---- the sheet in a slice
 
-either-leaves : (r : Register) (b : Bool) (x y : Effect) → x .leaves ≡ r → y .leaves ≡ r → (if b then x else y) .leaves ≡ r
-either-leaves r true x y h k = h
-either-leaves r false x y h k = k
-
 pub sheet-leaves : (r : Register) (slice : List ℕ) → (sheetEffect r slice) .leaves ≡ r
 unfolding sheetEffect
-sheet-leaves r slice = either-leaves r (ltb (length slice) (length (sheetNumbers r))) _ _ refl refl
+sheet-leaves r slice = if-either (λ (e : Effect). e .leaves ≡ r) (ltb (length slice) (length (sheetNumbers r))) _ _ refl refl
 
 -- a slice that is long enough
 pub sheet-into : (r : Register) (slice : List ℕ) → 5 * length (sheet r) ≤ length slice → sheetEffect r slice

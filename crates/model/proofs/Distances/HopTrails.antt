@@ -1,20 +1,19 @@
 -- A hop is a trail of the same length, so a way over the chains is one over the edges.
 use mathlib.Core.Path.{_≡_, refl, sym, ap, _∙_, subst}
-use Prim.Native.Nat.{ℕ, _+_, _<_}
+use Prim.Native.Nat.{ℕ, _+_, _<_, zero, suc}
 use native.Mathlib.Omega.{arith}
-use mathlib.Core.List.{List, _∷_, map, reverse-cons}
+use native.Mathlib.Nat.{not-suc-le-zero}
+use mathlib.Core.List.{List, _∷_, map, []}
 use lib.ListN.{length, getD, take}
 use Rattle.model.specs.Basics.{sum}
 use Rattle.model.specs.Graph.{Edge, Pass, afterOf, atOf, edgeAt, endOnwards, far, lengthsOf, onwards, walk}
-use Rattle.model.specs.Distance.{ChainWay, Hop, Joins, LooseWay, Way, back, backwards as other-way, forth, here, hop, last, lengthVia, reach, stay, stop, stretch, whole-chain}
+use Rattle.model.specs.Distance.{ChainWay, Hop, Joins, LooseWay, Way, backwards as other-way, here, hop, last, lengthVia, reach, stay, stop, stretch, whole-chain, along}
 use Rattle.model.proofs.Basics.Lists.{sum-reverse}
 use Rattle.model.proofs.Walks.Degree.{Proper}
 use Rattle.model.proofs.Walks.Turn.{At}
-use Rattle.model.proofs.Walks.Trail.{Trail, proper-at, trail-back, backwards, walked, far-first, far-second}
-use Rattle.model.proofs.Chains.Lines.{afters, afters-back, trail-at}
-use Rattle.model.proofs.Walks.Rings.{trail-endOf}
+use Rattle.model.proofs.Walks.Joins.{joins-at, joins-of, joins-far, Across, across, joins-back}
+use Rattle.model.proofs.Walks.Trail.{Trail, trail-back, backwards, walked, trail-at, trail-endOf, afters, afters-back, done, pass, Next, next-edge}
 use Rattle.model.proofs.Distances.Distance.{way-same, way-append}
-use Rattle.model.proofs.Distances.Ways.{joins-at, far-joins, trail-way, map-take, part}
 
 -- ---- lengths
 unfoldable pub alongEdges : List Edge → ℕ → List Pass → ℕ
@@ -23,84 +22,94 @@ alongEdges es p ss = sum (lengthsOf es (p ∷ afters ss))
 -- the way back has the same length
 pub along-back : {es : List Edge} {p f q g : ℕ} {ss : List Pass} → Trail es p f ss q g → alongEdges es q (backwards ss) ≡ alongEdges es p ss
 unfolding alongEdges
-along-back {es} {p} {f} {q} {g} {ss} u =
-    sym (sum-reverse es (q ∷ afters (backwards ss)))
-    ∙ ap (λ (l : List ℕ). sum (lengthsOf es l)) (reverse-cons q (afters (backwards ss)) ∙ afters-back u)
+along-back {es} {p} {ss = ss} u = ap (λ (l : List ℕ). sum (lengthsOf es l)) (afters-back u) ∙ sum-reverse es (p ∷ afters ss)
+
+map-take : (k : ℕ) (ss : List Pass) → map afterOf (take k ss) ≡ take k (map afterOf ss)
+map-take zero ss = refl
+map-take (suc k) [] = refl
+map-take (suc k) (s ∷ ss) = ap (λ (l : List ℕ). afterOf s ∷ l) (map-take k ss)
+
+-- the first k regular vertices of a trail lead to the next one
+record Part (es : List Edge) (p f k : ℕ) (ss : List Pass) : Type 0 where
+  onto : ℕ
+  trail : Trail es p f (take k ss) onto (getD (map atOf ss) k 0)
+
+part : {es : List Edge} {p f q g : ℕ} {ss : List Pass} (k : ℕ) → Trail es p f ss q g → k < length ss → Part es p f k ss
+unfolding atOf
+part k done h = absurd (not-suc-le-zero h)
+part {p = p} zero (pass t c e u) h = record { onto = p; trail = done }
+part (suc k) (pass t c e u) h = let r = part k u (omega arith) in record { onto = r .onto; trail = pass t c e (r .trail) }
 
 -- ---- a hop is a trail
-pub record HopTrail (es : List Edge) (f g d : ℕ) : Type 0 where
+pub record HopTrail (es : List Edge) (v w l : ℕ) : Type 0 where
   pub edge : ℕ
-  pub to : ℕ
   pub passes : List Pass
   pub onto : ℕ
-  pub inside : edge < length es
-  pub joins : Joins (edgeAt es edge) f to
-  pub trail : Trail es edge to passes onto g
-  pub len : d ≡ alongEdges es edge passes
+  pub at : At es v edge
+  pub trail : Trail es edge (far es edge v) passes onto w
+  pub len : l ≡ alongEdges es edge passes
 
 module _ (es : List Edge) (pr : Proper es) where
-  pub joins-far : (p f g : ℕ) → p < length es → Joins (edgeAt es p) f g → far es p g ≡ f
-  joins-far p f g h (forth a b) = far-second es p g (λ e. proper-at es p pr h (e ∙ sym b)) ∙ a
-  joins-far p f g h (back a b) = far-first es p g b ∙ a
-
-  on-trail : (p f g : ℕ) → p < length es → Joins (edgeAt es p) f g → HopTrail es f (endOnwards es p g) (lengthVia es p g)
+  on-trail : (d v w : ℕ) → d < length es → Joins (edgeAt es d) v w → HopTrail es v (endOnwards es d w) (lengthVia es d w)
   unfolding endOnwards onwards lengthVia alongEdges afters
-  on-trail p f g h j =
-      let w = walked (length es) es p g in
+  on-trail d v w h j =
+      let b : Joins (edgeAt es d) w v = joins-back (edgeAt es d) v w j in
+      let u = walked (length es) es d w in
       record {
-        edge = p;
-        to = g;
-        passes = walk (length es) es p g;
-        onto = w .onto;
-        inside = h;
-        joins = j;
-        trail = subst (λ (z : ℕ). Trail es p g (walk (length es) es p g) (w .onto) z) (sym (trail-endOf (w .trail))) (w .trail);
+        edge = d;
+        passes = walk (length es) es d w;
+        onto = u .onto;
+        at = joins-at es d w v pr h b;
+        trail = rw (joins-far es d w v pr h b, trail-endOf (u .trail)) (u .trail);
         len = refl;
       }
 
-  stretch-trail : (p k f g : ℕ) → p < length es → Joins (edgeAt es p) f g → k < length (onwards es p g)
-      → HopTrail es f (getD (map atOf (onwards es p g)) k 0) (sum (lengthsOf es (p ∷ take k (map afterOf (onwards es p g)))))
+  stretch-trail : (d k v w : ℕ) → d < length es → Joins (edgeAt es d) v w → k < length (onwards es d w)
+      → HopTrail es v (getD (map atOf (onwards es d w)) k 0) (sum (lengthsOf es (d ∷ take k (map afterOf (onwards es d w)))))
   unfolding onwards alongEdges afters
-  stretch-trail p k f g h j l =
-      let r = part k ((walked (length es) es p g) .trail) l in
+  stretch-trail d k v w h j l =
+      let b : Joins (edgeAt es d) w v = joins-back (edgeAt es d) v w j in
+      let r = part k ((walked (length es) es d w) .trail) l in
       record {
-        edge = p;
-        to = g;
-        passes = take k (walk (length es) es p g);
+        edge = d;
+        passes = take k (walk (length es) es d w);
         onto = r .onto;
-        inside = h;
-        joins = j;
-        trail = r .trail;
-        len = ap (λ (xs : List ℕ). sum (lengthsOf es (p ∷ xs))) (sym (map-take k (walk (length es) es p g)));
+        at = joins-at es d w v pr h b;
+        trail = rw (joins-far es d w v pr h b) (r .trail);
+        len = ap (λ (xs : List ℕ). sum (lengthsOf es (d ∷ xs))) (sym (map-take k (walk (length es) es d w)));
       }
 
-  hop-trail-back : {f g d : ℕ} → HopTrail es f g d → HopTrail es g f d
-  hop-trail-back {f} {g} {d} t =
-      let a : At es (t .to) (t .edge) = joins-at es pr (t .edge) f (t .to) (t .inside) (t .joins) in
-      let b : At es g (t .onto) = trail-at pr a (t .trail) in
+  hop-trail-back : {v w l : ℕ} → HopTrail es v w l → HopTrail es w v l
+  hop-trail-back {v} t =
+      let x : Across es (t .edge) v = across es (t .edge) v pr (t .at) in
       record {
         edge = t .onto;
-        to = far es (t .onto) g;
         passes = backwards (t .passes);
         onto = t .edge;
-        inside = b .inside;
-        joins = far-joins es pr (t .onto) g b;
-        trail = subst (λ (z : ℕ). Trail es (t .onto) (far es (t .onto) g) (backwards (t .passes)) (t .edge) z) (joins-far (t .edge) f (t .to) (t .inside) (t .joins)) (trail-back pr a (t .trail));
+        at = trail-at pr (x .at) (t .trail);
+        trail = rw (x .again) at (trail-back pr (x .at) (t .trail));
         len = t .len ∙ sym (along-back (t .trail));
       }
 
-  pub hop-trail : {f g d : ℕ} → Hop es f g d → HopTrail es f g d
-  hop-trail (whole-chain p h j c) = on-trail p _ _ h j
-  hop-trail (reach p h j c) = on-trail p _ _ h j
-  hop-trail (stretch p k h j c l) = stretch-trail p k _ _ h j l
+  pub hop-trail : {v w l : ℕ} → Hop es v w l → HopTrail es v w l
+  hop-trail (whole-chain d h j c) = on-trail d _ _ h j
+  hop-trail (reach d h j c) = on-trail d _ _ h j
+  hop-trail (stretch d k h j c l) = stretch-trail d k _ _ h j l
   hop-trail (other-way h) = hop-trail-back (hop-trail h)
 
-  -- so it is a way over the edges, of the same length
-  pub hop-way : {f g d : ℕ} → Hop es f g d → Way es f g d
-  unfolding alongEdges afters
-  hop-way {f} {g} {d} h =
+  -- a trail is a way
+  trail-way : {x p f q g : ℕ} {ss : List Pass} → At es f p → Joins (edgeAt es p) x f → Trail es p f ss q g → Way es x g (alongEdges es p ss)
+  unfolding alongEdges sum lengthsOf afters afterOf
+  trail-way {x} {p} a j done = along p (a .inside) j here
+  trail-way {x} {p} {f} a j (pass t c e u) =
+      let nx : Next es p f t = next-edge es p f t pr a c e in
+      along p (a .inside) j (trail-way (nx .across .at) (joins-of es t f pr (nx .at)) u)
+
+  -- so a hop is one, of the same length
+  hop-way : {v w l : ℕ} → Hop es v w l → Way es v w l
+  hop-way {v} h =
       let t = hop-trail h in
-      way-same (sym (t .len)) (trail-way es pr (joins-at es pr (t .edge) f (t .to) (t .inside) (t .joins)) (t .joins) (t .trail))
+      way-same (sym (t .len)) (trail-way ((across es (t .edge) v pr (t .at)) .at) (joins-of es (t .edge) v pr (t .at)) (t .trail))
 
   -- every way over the chains is one over the edges, of the same length, whatever its stops
   pub chains-edges : {f g d : ℕ} → ChainWay es f g d → Way es f g d

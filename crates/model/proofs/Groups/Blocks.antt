@@ -1,7 +1,7 @@
 -- Where a path begins: its block, its label and its direction, from the neighbour of its first vertex.
 use mathlib.Core.Path.{_≡_, refl, sym, ap, _∙_, subst}
 use mathlib.Core.Logic.{_≢_, _⊎_, inl, inr}
-use Prim.Native.Nat.{ℕ, suc, _+_, _-_, _≤_}
+use Prim.Native.Nat.{ℕ, suc, _+_, _-_}
 use native.Mathlib.Omega.{arith}
 use mathlib.Core.Bool.{Bool, true, false}
 use mathlib.Core.List.{List, [], _∷_, _++_}
@@ -9,15 +9,14 @@ use lib.ListN.{length, getD}
 use Rattle.model.specs.Graph.{Edge, degree, far}
 use Rattle.model.specs.Labels.{Marks, base}
 use Rattle.model.proofs.Walks.Degree.{Proper}
-use Rattle.model.proofs.Walks.Turn.{At, TwoEdges, two-edges}
-use Rattle.model.proofs.Walks.Trail.{across}
-use Rattle.model.proofs.Walks.Ended.{far-ne}
-use Rattle.model.proofs.Groups.Shape.{Shape, size, pick, pick-yes, pick-no, Between, Courses}
-use Rattle.model.proofs.Labels.Laid.{Near, none-near, near}
-use Rattle.model.proofs.Groups.Origins.{Origins, Aligned, Stand, Fits, LowIs, labelAt, lowAt}
+use Rattle.model.proofs.Walks.Turn.{At}
+use Rattle.model.proofs.Groups.Shape.{Shape, size, pick, pick-yes, pick-no, between-differ, between-or, Courses}
+use Rattle.model.proofs.Labels.Laid.{Direction, Near, none-near, near}
+use Rattle.model.proofs.Groups.Origins.{Origins, BlockAt, Aligned, Stand, FitsBlock, LowIs, labelAt, lowAt}
+use Rattle.model.proofs.Walks.Joins.{across, far-ne}
 
 -- one more block, to which no regular vertex belongs yet
-unfoldable pub withBlock : Origins → (k g q : ℕ) → Origins
+abbrev withBlock : Origins → (k g q : ℕ) → Origins
 withBlock l k g q = record {
   block = l .block;
   owner = λ i. pick i k g (l .owner i);
@@ -29,33 +28,28 @@ module _ (es : List Edge) (m : Marks) (blocks : ℕ) (h : Shape) (l : Origins) (
   abbrev l′ : Origins
   l′ = withBlock l (blocks + 1) g q
 
+  not-new : (v : ℕ) → degree es v ≡ 2 → l .block v ≢ blocks + 1
+  not-new v c z = omega (arith, z, lab .most v c)
+
   old-owner : (v : ℕ) → degree es v ≡ 2 → l′ .owner (l′ .block v) ≡ l .owner (l .block v)
-  unfolding withBlock
-  old-owner v c = pick-no (l .block v) (blocks + 1) _ _ (λ z. omega (arith, z, lab .most v c))
+  old-owner v c = pick-no (l .block v) (blocks + 1) _ _ (not-new v c)
 
   old-origin : (v : ℕ) → degree es v ≡ 2 → l′ .origin (l′ .block v) ≡ l .origin (l .block v)
-  unfolding withBlock
-  old-origin v c = pick-no (l .block v) (blocks + 1) _ _ (λ z. omega (arith, z, lab .most v c))
+  old-origin v c = pick-no (l .block v) (blocks + 1) _ _ (not-new v c)
 
   old-rising : (v : ℕ) → degree es v ≡ 2 → l′ .rising (l′ .block v) ≡ l .rising (l .block v)
-  unfolding withBlock
-  old-rising v c = pick-no (l .block v) (blocks + 1) _ _ (λ z. omega (arith, z, lab .most v c))
-
-  old-block : (v : ℕ) → l′ .block v ≡ l .block v
-  unfolding withBlock
-  old-block v = refl
+  old-rising v c = pick-no (l .block v) (blocks + 1) _ _ (not-new v c)
 
   stand-more : (v c : ℕ) → degree es v ≡ 2 → Stand es m h l v c → Stand es m h l′ v c
   stand-more v c d s = record {
-    spot = s .spot;
+    between = s .between;
     first = rw (old-origin v d) (s .first);
     last = rw (old-origin v d) (s .last);
-    fits = rw (old-origin v d, old-rising v d, old-block v) (s .fits);
+    fits = rw (old-origin v d, old-rising v d) (s .fits);
     low-is = rw (old-rising v d) (s .low-is);
   }
 
-  pub more-blocks : Aligned es m (blocks + 1) h (withBlock l (blocks + 1) g q)
-  unfolding withBlock
+  more-blocks : Aligned es m (blocks + 1) h (withBlock l (blocks + 1) g q)
   more-blocks = record {
     owned = λ v e c a. old-owner v c ∙ lab .owned v e c a;
     least = lab .least;
@@ -72,63 +66,49 @@ pub record Start (es : List Edge) (p : Edge) (m : Marks) (h : Shape) (x e : ℕ)
   pub origins : Origins
   pub aligned : Aligned es m blocks′ h origins
   pub now : ℕ
-  pub now-least : 1 ≤ now
-  pub now-most : now ≤ blocks′
-  pub now-owner : origins .owner now ≡ h .group e
-  pub now-rising : origins .rising now ≡ up
-  pub now-first : 1 ≤ origins .origin now
-  pub now-last : origins .origin now ≤ size h (length es) (h .group e)
-  pub now-fits : Fits up (origins .origin now) (base now) (h .place e) label
+  pub block-at : BlockAt origins blocks′ (h .group e) (size h (length es) (h .group e)) up now
+  pub fits : FitsBlock origins now (h .place e) label
   pub beside : degree (es ++ (p ∷ [])) (far es e x) ≡ 2 → origins .block (far es e x) ≡ now
 
--- an edge at a regular vertex of an open group is one of the two
-pub between-or : (es : List Edge) (h : Shape) (v g e : ℕ) → Proper es → degree es v ≡ 2 → (u : Between es h v g) → At es v e → (e ≡ u .lo) ⊎ (e ≡ u .hi)
-between-or es h v g e pr c u a = go (t .only e a) (t .only (u .lo) (u .lo-at)) (t .only (u .hi) (u .hi-at))
-  where
-    t : TwoEdges es v
-    t = two-edges es v pr c
+-- the direction beside a vertex at the high end of a course is the one of its block
+same-way : (up r : Bool) (lo hi low e : ℕ) → lo ≢ hi → e ≡ hi → Direction up low e → LowIs r lo hi low → up ≡ r
+same-way true true lo hi low e n q k lw = refl
+same-way false false lo hi low e n q k lw = refl
+same-way true false lo hi low e n q k lw = absurd (k (lw ∙ sym q))
+same-way false true lo hi low e n q k lw = absurd (n (sym lw ∙ k ∙ q))
 
-    differ : u .lo ≡ u .hi → ⊥
-    differ z = let q : h .place (u .lo) ≡ h .place (u .hi) = ap (h .place) z in omega (arith, u .step)
-
-    go : (e ≡ t .low) ⊎ (e ≡ t .high) → (u .lo ≡ t .low) ⊎ (u .lo ≡ t .high) → (u .hi ≡ t .low) ⊎ (u .hi ≡ t .high) → (e ≡ u .lo) ⊎ (e ≡ u .hi)
-    go (inl i) (inl j) (inl k) = inl (i ∙ sym j)
-    go (inl i) (inl j) (inr k) = inl (i ∙ sym j)
-    go (inl i) (inr j) (inl k) = inr (i ∙ sym k)
-    go (inl i) (inr j) (inr k) = absurd (differ (j ∙ sym k))
-    go (inr i) (inl j) (inl k) = absurd (differ (j ∙ sym k))
-    go (inr i) (inl j) (inr k) = inr (i ∙ sym k)
-    go (inr i) (inr j) (inl k) = inl (i ∙ sym j)
-    go (inr i) (inr j) (inr k) = inl (i ∙ sym j)
-
-module _ (es : List Edge) (p : Edge) (pr : Proper es) (relabellings : ℕ) (m : Marks) (blocks : ℕ) (h : Shape) (w : Courses es relabellings h) (l : Origins) (lab : Aligned es m blocks h l)
+module _ (es : List Edge) (p : Edge) (pr : Proper es) {relabellings : ℕ} {m : Marks} {blocks : ℕ} {h : Shape} (w : Courses es relabellings h) {l : Origins} (lab : Aligned es m blocks h l)
     (x e : ℕ) (cx : degree es x ≡ 1) (a : At es x e) (hi : far es e (h .low e) ≡ x) (top : suc (h .place e) ≡ size h (length es) (h .group e)) where
   f : ℕ
   f = far es e x
 
   start-new : (up : Bool) (label blocks′ : ℕ) → degree (es ++ (p ∷ [])) (far es e x) ≢ 2 → up ≡ true → label ≡ base (blocks + 1) - 1 → blocks′ ≡ blocks + 1 → Start es p m h x e up label blocks′
-  unfolding withBlock base
+  unfolding base
   start-new up label blocks′ n u t b =
       let g = h .group e in
       let s = size h (length es) g in
+      let rises = pick-yes (blocks + 1) (blocks + 1) true (l .rising (blocks + 1)) refl in
+      let origin = pick-yes (blocks + 1) (blocks + 1) s (l .origin (blocks + 1)) refl in
       rw (u, t, b) (record {
         origins = withBlock l (blocks + 1) g s;
         aligned = more-blocks es m blocks h l lab g s;
         now = blocks + 1;
-        now-least = omega arith;
-        now-most = omega arith;
-        now-owner = pick-yes (blocks + 1) (blocks + 1) g _ refl;
-        now-rising = pick-yes (blocks + 1) (blocks + 1) true _ refl;
-        now-first = rw (pick-yes (blocks + 1) (blocks + 1) s (l .origin (blocks + 1)) refl) (omega (arith, top));
-        now-last = rw (pick-yes (blocks + 1) (blocks + 1) s (l .origin (blocks + 1)) refl) (omega arith);
-        now-fits = rw (pick-yes (blocks + 1) (blocks + 1) s (l .origin (blocks + 1)) refl) (omega (arith, top));
+        block-at = record {
+          least = omega arith;
+          most = omega arith;
+          owner-is = pick-yes (blocks + 1) (blocks + 1) g _ refl;
+          rising-is = rises;
+          first = rw origin (omega (arith, top));
+          last = rw origin (omega arith);
+        };
+        fits = rw (rises, origin) (omega (arith, top));
         beside = λ c. absurd (n c);
       })
 
   start-on : (up : Bool) (label blocks′ : ℕ) → degree es (far es e x) ≡ 2 → label ≡ getD (m .labels) (far es e x) 0 → blocks′ ≡ blocks
-      → ((up ≡ true) × (getD (m .lows) (far es e x) 0 ≢ e)) ⊎ ((up ≡ false) × (getD (m .lows) (far es e x) 0 ≡ e)) → Start es p m h x e up label blocks′
+      → Direction up (getD (m .lows) (far es e x) 0) e → Start es p m h x e up label blocks′
   unfolding f labelAt lowAt
-  start-on up label blocks′ c t b dir = side (l .rising (l .block f)) refl dir (between-or es h f (h .group e) e pr c (s .spot) af)
+  start-on up label blocks′ c t b dir = go (between-or es h f (h .group e) e pr c (s .between) af)
     where
       af : At es f e
       af = (across es e x pr a) .at
@@ -136,34 +116,26 @@ module _ (es : List Edge) (p : Edge) (pr : Proper es) (relabellings : ℕ) (m : 
       s : Stand es m h l f (h .group e)
       s = lab .stands f e c af (w .leaf-open x e cx a)
 
-      start : up ≡ l .rising (l .block f) → e ≡ s .spot .hi → Start es p m h x e up label blocks′
+      start : up ≡ l .rising (l .block f) → e ≡ s .between .hi → Start es p m h x e up label blocks′
       start u q = rw (u, t, b) (record {
         origins = l;
         aligned = lab;
         now = l .block f;
-        now-least = lab .least f c;
-        now-most = lab .most f c;
-        now-owner = lab .owned f e c af;
-        now-rising = refl;
-        now-first = s .first;
-        now-last = omega (arith, s .last);
-        now-fits = subst (λ (i : ℕ). Fits (l .rising (l .block f)) (l .origin (l .block f)) (base (l .block f)) (h .place i) (getD (m .labels) f 0)) (sym q) (s .fits);
+        block-at = record {
+          least = lab .least f c;
+          most = lab .most f c;
+          owner-is = lab .owned f e c af;
+          rising-is = refl;
+          first = s .first;
+          last = omega (arith, s .last);
+        };
+        fits = subst (λ (i : ℕ). FitsBlock l (l .block f) (h .place i) (getD (m .labels) f 0)) (sym q) (s .fits);
         beside = λ z. refl;
       })
 
-      side : (r : Bool) → l .rising (l .block f) ≡ r
-          → ((up ≡ true) × (getD (m .lows) f 0 ≢ e)) ⊎ ((up ≡ false) × (getD (m .lows) f 0 ≡ e))
-          → (e ≡ s .spot .lo) ⊎ (e ≡ s .spot .hi) → Start es p m h x e up label blocks′
-      side r z k (inl q) = absurd (far-ne es e x pr a (sym (sym hi ∙ ap (λ (i : ℕ). far es i (h .low i)) q ∙ s .spot .lo-end)))
-      side true z (inl k) (inr q) = start (k .0 ∙ sym z) q
-      side false z (inr k) (inr q) = start (k .0 ∙ sym z) q
-      side true z (inr k) (inr q) =
-          let lw : LowIs true (s .spot .lo) (s .spot .hi) (getD (m .lows) f 0) = subst (λ (r : Bool). LowIs r (s .spot .lo) (s .spot .hi) (getD (m .lows) f 0)) z (s .low-is) in
-          let same : s .spot .lo ≡ s .spot .hi = sym lw ∙ k .1 ∙ q in
-          absurd (let pl : h .place (s .spot .lo) ≡ h .place (s .spot .hi) = ap (h .place) same in omega (arith, s .spot .step))
-      side false z (inl k) (inr q) =
-          let lw : LowIs false (s .spot .lo) (s .spot .hi) (getD (m .lows) f 0) = subst (λ (r : Bool). LowIs r (s .spot .lo) (s .spot .hi) (getD (m .lows) f 0)) z (s .low-is) in
-          absurd (k .1 (lw ∙ sym q))
+      go : (e ≡ s .between .lo) ⊎ (e ≡ s .between .hi) → Start es p m h x e up label blocks′
+      go (inl q) = absurd (far-ne es e x pr a (sym (sym hi ∙ ap (λ (i : ℕ). far es i (h .low i)) q ∙ s .between .lo-end)))
+      go (inr q) = start (same-way up (l .rising (l .block f)) (s .between .lo) (s .between .hi) _ e (between-differ (s .between)) q dir (s .low-is)) q
 
   pub start-of : (up : Bool) (label blocks′ : ℕ) → Near es p (far es e x) blocks e m up label blocks′ → Start es p m h x e up label blocks′
   start-of up label blocks′ (none-near n u t b) = start-new up label blocks′ n u t b

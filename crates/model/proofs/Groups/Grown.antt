@@ -1,53 +1,30 @@
 -- The groups after one more edge: it follows the end of group gx, and what was group gy follows it.
-use mathlib.Core.Path.{_≡_, refl, sym, _∙_}
-use mathlib.Core.Logic.{_≢_, _⊎_, inl, inr}
-use Prim.Native.Nat.{ℕ, suc, _+_, _*_, _≤_, _<_}
+use mathlib.Core.Path.{_≡_, refl, sym, ap, _∙_}
+use mathlib.Core.Logic.{_≢_, _⊎_}
+use Prim.Native.Nat.{ℕ, _+_, _≤_, _<_}
 use native.Mathlib.Omega.{arith}
 use native.Mathlib.Decide.{ℕ-discrete}
 use mathlib.Core.Bool.{Bool, true}
 use mathlib.Core.List.{List, [], _∷_, _++_}
 use lib.ListN.{length}
-use Rattle.model.specs.Basics.{floorLog}
-use Rattle.model.specs.Graph.{Edge, degree, endsAt, far, same}
-use Rattle.model.proofs.Walks.Counting.{same-eq, same-ne}
-use Rattle.model.proofs.Walks.Degree.{Proper, proper-snoc}
-use Rattle.model.proofs.Walks.Turn.{At}
+use Rattle.model.specs.Graph.{Edge, endsAt, far, same}
+use Rattle.model.proofs.Walks.Degree.{Proper, two-ends}
 use Rattle.model.proofs.Walks.Snoc.{far-old}
-use Rattle.model.proofs.Walks.Ended.{other-end}
-use Rattle.model.proofs.Chains.Sums.{total, total-same, total-add}
-use Rattle.model.proofs.Walks.NewEdge.{length-new, at-new, at-last, Which, is-new, is-old, which}
+use Rattle.model.proofs.Walks.NewEdge.{length-new}
+use Rattle.model.proofs.Groups.Seams.{Seam}
 use Rattle.model.proofs.Groups.Shape.{Shape, size, pick, pick-yes, pick-no, Courses}
 use Rattle.model.proofs.Walks.NewTurn.{far-last}
+use Rattle.model.proofs.Basics.Counting.{same-eq, same-ne}
+use Rattle.model.proofs.Basics.Total.{total, total-same, total-add}
 
 unfoldable pub grown : Shape → (n gx gy x k : ℕ) → Bool → Shape
 grown h n gx gy x k b = record {
   group = λ e. pick e n gx (pick (h .group e) gy gx (h .group e));
-  place = λ e. pick e n (size h n gx) (pick (h .group e) gy (size h n gx + 1 + h .place e) (h .place e));
+  place = λ e. pick e n (size h n gx) (pick (h .group e) gy (size h n gx + 1) 0 + h .place e);
   low = λ e. pick e n x (h .low e);
   spent = λ g. pick g gx (h .spent gx + h .spent gy + k) (pick g gy 0 (h .spent g));
   isOpen = λ g. pick g gx b (h .isOpen g);
 }
-
--- what the edge and the two groups must be; `b`: the course is open afterwards
-pub record Seam (es : List Edge) (p : Edge) (h : Shape) (gx gy x y k : ℕ) (b : Bool) : Type 0 where
-  pub differ : gx ≢ gy
-  pub gx-in : gx ≤ length es
-  pub x-end : endsAt x p ≡ 1
-  pub y-end : endsAt y p ≡ 1
-  pub x-y : x ≢ y
-  pub open-x : (e : ℕ) → e < length es → h .group e ≡ gx → h .isOpen gx ≡ true
-  pub open-y : (e : ℕ) → e < length es → h .group e ≡ gy → h .isOpen gy ≡ true
-  pub y-some : (e : ℕ) → e < length es → h .group e ≡ gy → b ≡ true
-  pub x-zero : degree es x ≡ 0 → (b ≡ true) × (size h (length es) gx ≡ 0)
-  pub y-zero : degree es y ≡ 0 → (b ≡ true) × (size h (length es) gy ≡ 0)
-  pub x-one : (e : ℕ) → degree es x ≡ 1 → At es x e → (h .group e ≡ gx) × (far es e (h .low e) ≡ x) × (suc (h .place e) ≡ size h (length es) gx)
-  pub y-one : (e : ℕ) → b ≡ true → degree es y ≡ 1 → At es y e → (h .group e ≡ gy) × (h .low e ≡ y) × (h .place e ≡ 0)
-  pub y-in : (e : ℕ) → degree es y ≡ 1 → At es y e → (h .group e ≡ gx) ⊎ (h .group e ≡ gy)
-  pub x-seam : (e : ℕ) → e < length es → h .group e ≡ gx → suc (h .place e) ≡ size h (length es) gx → endsAt (far es e (h .low e)) p ≡ 1
-  pub y-seam : (e : ℕ) → e < length es → h .group e ≡ gy → h .place e ≡ 0 → endsAt (h .low e) p ≡ 1
-  pub shut : (b ≡ true) ⊎ ((e : ℕ) → e < length es → h .group e ≡ gx → h .place e ≡ 0 → endsAt (h .low e) p ≡ 1)
-  pub pays : let s = size h (length es) gx + size h (length es) gy + 1 in h .spent gx + h .spent gy + k ≤ s * floorLog s
-  pub pays-open : b ≡ true → let s = size h (length es) gx + size h (length es) gy + 1 in h .spent gx + h .spent gy + k + s ≤ s * floorLog s + 1
 
 -- One more edge p in the list es, with groups h, that follows the end x of group gx; its other end is y, and what was group gy follows
 -- it. k labels change, and the course is open afterwards if b.
@@ -68,36 +45,39 @@ pub record Growth : Type 0 where
   pub s : Seam es p h gx gy x y k b
 
 -- the edges and the groups with the new edge
-pub record After : Type 0 where
+pub record GrownTo : Type 0 where
   pub new : List Edge
   pub h′ : Shape
 
-abbrev pub after : Growth → After
-after it = record { new = it .es ++ (it .p ∷ []); h′ = grown (it .h) (length (it .es)) (it .gx) (it .gy) (it .x) (it .k) (it .b) }
+abbrev pub grownTo : Growth → GrownTo
+grownTo it = record { new = it .es ++ (it .p ∷ []); h′ = grown (it .h) (length (it .es)) (it .gx) (it .gy) (it .x) (it .k) (it .b) }
 
 module _ (it : Growth) where
-  open Growth it using (es, p, pr, d, relabellings, h, w, gx, gy, x, y, k, b, s)
-  open After (after it) using (new, h′)
+  open Growth it using (es, p, pr, d, h, gx, gy, x, y, b, s)
+  open GrownTo (grownTo it) using (new, h′)
 
   abbrev n : ℕ
   n = length es
 
-  -- an edge in the new groups
-  pub data Look (e : ℕ) : Type 0 where
-    new-one : e ≡ length es → Look e
-    in-x : e < length es → h .group e ≡ gx → Look e
-    in-y : e < length es → h .group e ≡ gy → Look e
-    elsewhere : e < length es → h .group e ≢ gx → h .group e ≢ gy → Look e
+  -- what was group g is group `goesTo g` now, `goesBy g` places further on
+  abbrev pub goesTo : ℕ → ℕ
+  goesTo g = pick g gy gx g
 
-  pub look : (e : ℕ) → e < length new → Look e
-  look e l = go (which es p e l) (ℕ-discrete (h .group e) gx) (ℕ-discrete (h .group e) gy)
+  abbrev pub goesBy : ℕ → ℕ
+  goesBy g = pick g gy (size h (length es) gx + 1) 0
+
+  pub data Goes (g : ℕ) : Type 0 where
+    follows : g ≡ gy → goesTo g ≡ gx → goesBy g ≡ size h (length es) gx + 1 → Goes g
+    stays : g ≢ gy → goesTo g ≡ g → goesBy g ≡ 0 → Goes g
+
+  pub goes : (g : ℕ) → Goes g
+  goes g = go (ℕ-discrete g gy)
     where
-      go : Which es p e → Dec (h .group e ≡ gx) → Dec (h .group e ≡ gy) → Look e
-      go (is-new i) a c = new-one i
-      go (is-old i) (yes a) c = in-x i a
-      go (is-old i) (no a) (yes c) = in-y i c
-      go (is-old i) (no a) (no c) = elsewhere i a c
+      go : Dec (g ≡ gy) → Goes g
+      go (yes q) = follows q (pick-yes g gy gx g q) (pick-yes g gy _ _ q)
+      go (no q) = stays q (pick-no g gy gx g q) (pick-no g gy _ _ q)
 
+  -- the group, the place and the low end of an edge now
   pub record Seen (e g i f : ℕ) : Type 0 where
     pub group-is : h′ .group e ≡ g
     pub place-is : h′ .place e ≡ i
@@ -107,25 +87,21 @@ module _ (it : Growth) where
   unfolding grown
   seen-new = record { group-is = pick-yes n n _ _ refl; place-is = pick-yes n n _ _ refl; low-is = pick-yes n n _ _ refl }
 
-  pub seen-y : (e : ℕ) → e < length es → h .group e ≡ gy → Seen e gx (size h (length es) gx + 1 + h .place e) (h .low e)
+  pub seen-old : (e g : ℕ) → e < length es → h .group e ≡ g → Seen e (goesTo g) (goesBy g + h .place e) (h .low e)
   unfolding grown
-  seen-y e l q =
+  seen-old e g l q =
       let ne : e ≢ length es = λ z. omega arith in
-      record {
-        group-is = pick-no e (length es) _ _ ne ∙ pick-yes (h .group e) gy _ _ q;
-        place-is = pick-no e (length es) _ _ ne ∙ pick-yes (h .group e) gy _ _ q;
-        low-is = pick-no e (length es) _ _ ne;
-      }
+      record { group-is = pick-no e n _ _ ne ∙ ap goesTo q; place-is = pick-no e n _ _ ne ∙ ap (λ (c : ℕ). goesBy c + h .place e) q; low-is = pick-no e n _ _ ne }
 
-  pub seen-old : (e : ℕ) → e < length es → h .group e ≢ gy → Seen e (h .group e) (h .place e) (h .low e)
-  unfolding grown
-  seen-old e l q =
-      let ne : e ≢ length es = λ z. omega arith in
-      record {
-        group-is = pick-no e (length es) _ _ ne ∙ pick-no (h .group e) gy _ _ q;
-        place-is = pick-no e (length es) _ _ ne ∙ pick-no (h .group e) gy _ _ q;
-        low-is = pick-no e (length es) _ _ ne;
-      }
+  pub seen-y : (e : ℕ) → e < length es → h .group e ≡ gy → Seen e gx (size h (length es) gx + 1 + h .place e) (h .low e)
+  seen-y e l q =
+      let o = seen-old e gy l q in
+      record { group-is = o .group-is ∙ pick-yes gy gy gx gy refl; place-is = omega (arith, o .place-is, pick-yes gy gy (size h n gx + 1) 0 refl); low-is = o .low-is }
+
+  pub seen-o : (e g : ℕ) → g ≢ gy → e < length es → h .group e ≡ g → Seen e g (h .place e) (h .low e)
+  seen-o e g d l q =
+      let o = seen-old e g l q in
+      record { group-is = o .group-is ∙ pick-no g gy gx g d; place-is = omega (arith, o .place-is, pick-no g gy (size h n gx + 1) 0 d); low-is = o .low-is }
 
   -- sizes
   part-x : (e : ℕ) → e < length es → same (h′ .group e) gx ≡ same (h .group e) gx + same (h .group e) gy
@@ -133,7 +109,7 @@ module _ (it : Growth) where
     where
       go : Dec (h .group e ≡ gy) → same (h′ .group e) gx ≡ same (h .group e) gx + same (h .group e) gy
       go (yes q) = omega (arith, same-eq (h′ .group e) gx ((seen-y e l q) .group-is), same-eq (h .group e) gy q, same-ne (h .group e) gx (λ z. s .differ (sym z ∙ q)))
-      go (no q) = rw ((seen-old e l q) .group-is) (omega (arith, same-ne (h .group e) gy q))
+      go (no q) = rw ((seen-o e (h .group e) q l refl) .group-is) (omega (arith, same-ne (h .group e) gy q))
 
   pub size-x : size h′ (length new) gx ≡ size h (length es) gx + size h (length es) gy + 1
   unfolding size total
@@ -144,92 +120,30 @@ module _ (it : Growth) where
     where
       go : Dec (h .group e ≡ gy) → same (h′ .group e) g ≡ same (h .group e) g
       go (yes q) = omega (arith, same-ne (h′ .group e) g (λ z. a (sym z ∙ (seen-y e l q) .group-is)), same-ne (h .group e) g (λ z. c (sym z ∙ q)))
-      go (no q) = rw ((seen-old e l q) .group-is) refl
+      go (no q) = rw ((seen-o e (h .group e) q l refl) .group-is) refl
 
   pub size-o : (g : ℕ) → g ≢ gx → g ≢ gy → size h′ (length new) g ≡ size h (length es) g
   unfolding size total
   size-o g a c = rw (length-new es p) (omega (arith, same-ne (h′ .group (length es)) g (λ z. a (sym z ∙ seen-new .group-is)), total-same (length es) _ _ (part-o g a c)))
 
-  -- which edges, groups and places
-  pub below′ : (e : ℕ) → e < length new → h′ .group e < length new
-  below′ e l = go (look e l)
+  pub goes-room : (g : ℕ) → goesBy g + size h (length es) g ≤ size h′ (length new) (goesTo g)
+  goes-room g = go (goes g) (ℕ-discrete g gx)
     where
-      go : Look e → h′ .group e < length new
-      go (new-one i) = rw (i, seen-new .group-is) (omega (arith, length-new es p, s .gx-in))
-      go (in-x i q) = rw ((seen-old e i (λ z. s .differ (sym q ∙ z))) .group-is) (omega (arith, length-new es p, w .below e i))
-      go (in-y i q) = rw ((seen-y e i q) .group-is) (omega (arith, length-new es p, s .gx-in))
-      go (elsewhere i q r) = rw ((seen-old e i r) .group-is) (omega (arith, length-new es p, w .below e i))
-
-  pub old-x : (e : ℕ) → e < length es → h .group e ≡ gx → Seen e gx (h .place e) (h .low e)
-  old-x e i q = let o = seen-old e i (λ z. s .differ (sym q ∙ z)) in record { group-is = o .group-is ∙ q; place-is = o .place-is; low-is = o .low-is }
-
-  pub place-x : (e : ℕ) → e < length es → h .group e ≡ gx → h .place e < size h (length es) gx
-  place-x e i q = rw q at (w .fits e i)
-
-  pub place-y : (e : ℕ) → e < length es → h .group e ≡ gy → h .place e < size h (length es) gy
-  place-y e i q = rw q at (w .fits e i)
-
-  pub fits′ : (e : ℕ) → e < length new → h′ .place e < size h′ (length new) (h′ .group e)
-  fits′ e l = go (look e l)
-    where
-      go : Look e → h′ .place e < size h′ (length new) (h′ .group e)
-      go (new-one i) = rw (i, seen-new .group-is, seen-new .place-is, size-x) (omega arith)
-      go (in-x i q) = let o = old-x e i q in rw (o .group-is, o .place-is, size-x) (omega (arith, place-x e i q))
-      go (in-y i q) = let o = seen-y e i q in rw (o .group-is, o .place-is, size-x) (omega (arith, place-y e i q))
-      go (elsewhere i q r) = let o = seen-old e i r in rw (o .group-is, o .place-is, size-o (h .group e) q r) (w .fits e i)
-
-  pub apart′ : (e c : ℕ) → e < length new → c < length new → h′ .group e ≡ h′ .group c → h′ .place e ≡ h′ .place c → e ≡ c
-  apart′ e c l m g t = go (look e l) (look c m)
-    where
-      far-off : (e c : ℕ) → h′ .group e ≡ h′ .group c → h′ .group e ≡ gx → c < length es → h .group c ≢ gx → h .group c ≢ gy → ⊥
-      far-off e c g q i a b = a (sym ((seen-old c i b) .group-is) ∙ sym g ∙ q)
-
-      group-new : (e : ℕ) → e ≡ length es → h′ .group e ≡ gx
-      group-new e i = rw i (seen-new .group-is)
-
-      place-new : (e : ℕ) → e ≡ length es → h′ .place e ≡ size h (length es) gx
-      place-new e i = rw i (seen-new .place-is)
-
-      go : Look e → Look c → e ≡ c
-      go (new-one i) (new-one j) = i ∙ sym j
-      go (new-one i) (in-x j r) = absurd (omega (arith, t, place-new e i, (old-x c j r) .place-is, place-x c j r))
-      go (new-one i) (in-y j r) = absurd (omega (arith, t, place-new e i, (seen-y c j r) .place-is))
-      go (new-one i) (elsewhere j r r′) = absurd (far-off e c g (group-new e i) j r r′)
-      go (in-x i q) (new-one j) = absurd (omega (arith, t, place-new c j, (old-x e i q) .place-is, place-x e i q))
-      go (in-x i q) (in-x j r) = w .apart e c i j (q ∙ sym r) (sym ((old-x e i q) .place-is) ∙ t ∙ (old-x c j r) .place-is)
-      go (in-x i q) (in-y j r) = absurd (omega (arith, t, (old-x e i q) .place-is, (seen-y c j r) .place-is, place-x e i q))
-      go (in-x i q) (elsewhere j r r′) = absurd (far-off e c g ((old-x e i q) .group-is) j r r′)
-      go (in-y i q) (new-one j) = absurd (omega (arith, t, place-new c j, (seen-y e i q) .place-is))
-      go (in-y i q) (in-x j r) = absurd (omega (arith, t, (old-x c j r) .place-is, (seen-y e i q) .place-is, place-x c j r))
-      go (in-y i q) (in-y j r) = w .apart e c i j (q ∙ sym r) (omega (arith, t, (seen-y e i q) .place-is, (seen-y c j r) .place-is))
-      go (in-y i q) (elsewhere j r r′) = absurd (far-off e c g ((seen-y e i q) .group-is) j r r′)
-      go (elsewhere i q q′) (new-one j) = absurd (far-off c e (sym g) (group-new c j) i q q′)
-      go (elsewhere i q q′) (in-x j r) = absurd (far-off c e (sym g) ((old-x c j r) .group-is) i q q′)
-      go (elsewhere i q q′) (in-y j r) = absurd (far-off c e (sym g) ((seen-y c j r) .group-is) i q q′)
-      go (elsewhere i q q′) (elsewhere j r r′) =
-          w .apart e c i j (sym ((seen-old e i q′) .group-is) ∙ g ∙ (seen-old c j r′) .group-is) (sym ((seen-old e i q′) .place-is) ∙ t ∙ (seen-old c j r′) .place-is)
+      go : Goes g → Dec (g ≡ gx) → goesBy g + size h (length es) g ≤ size h′ (length new) (goesTo g)
+      go (follows q t c) d = rw (t, c) (omega (arith, size-x, ap (size h n) q))
+      go (stays q t c) (yes r) = rw (t, c) (omega (arith, size-x, ap (size h n) r, ap (size h′ (length new)) r))
+      go (stays q t c) (no r) = rw (t, c) (omega (arith, size-o g r q))
 
   pub low-old : (e : ℕ) → e < length es → h′ .low e ≡ h .low e
   unfolding grown
   low-old e i = pick-no e (length es) x (h .low e) (λ z. omega arith)
 
-  pub ends′ : (e : ℕ) → e < length new → At new (h′ .low e) e
-  ends′ e l = go (which es p e l)
-    where
-      go : Which es p e → At new (h′ .low e) e
-      go (is-new i) = rw (i, seen-new .low-is) (at-last es p (s .x-end))
-      go (is-old i) = rw (low-old e i) (at-new es p (w .ends e i))
-
   -- the new edge's ends
   pub far-new : far new (length es) x ≡ y
-  far-new = far-last es p pr d x y (s .x-end) (s .y-end) (s .x-y)
+  far-new = far-last es p pr d x y (s .high .x-end) (s .low .y-end) (s .x-y)
 
   pub x-or-y : (z : ℕ) → endsAt z p ≡ 1 → (z ≡ x) ⊎ (z ≡ y)
-  x-or-y z o = go (ℕ-discrete z x)
-    where
-      go : Dec (z ≡ x) → (z ≡ x) ⊎ (z ≡ y)
-      go (yes e) = inl e
-      go (no e) = inr (other-end new (length es) x z (proper-snoc es p pr d) (at-last es p (s .x-end)) (at-last es p o) e ∙ far-new)
+  x-or-y z o = two-ends p x y z (s .high .x-end) (s .low .y-end) (s .x-y) o
 
   pub old-end : (e : ℕ) → e < length es → far new e (h′ .low e) ≡ far es e (h .low e)
   old-end e i = rw (low-old e i) (far-old es p e (h .low e) i)
@@ -241,3 +155,12 @@ module _ (it : Growth) where
   pub open-o : (g : ℕ) → g ≢ gx → h′ .isOpen g ≡ h .isOpen g
   unfolding grown
   open-o g q = pick-no g gx b (h .isOpen g) q
+
+  -- a group that is open was open
+  pub was-open : (e : ℕ) → e < length es → h′ .isOpen (h′ .group e) ≡ true → h .isOpen (h .group e) ≡ true
+  was-open e i t = go (ℕ-discrete (h .group e) gy) (ℕ-discrete (h .group e) gx)
+    where
+      go : Dec (h .group e ≡ gy) → Dec (h .group e ≡ gx) → h .isOpen (h .group e) ≡ true
+      go (yes q) d = rw q ((s .low .open-y e i q) .0)
+      go (no q) (yes r) = rw r (s .high .open-x e i r)
+      go (no q) (no r) = sym (open-o (h .group e) r) ∙ (rw ((seen-o e _ q i refl) .group-is) at t)

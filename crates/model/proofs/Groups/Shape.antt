@@ -1,9 +1,10 @@
 -- Ghost state: groups of edges. The edges of a group follow each other on a path, its course, which no split cuts.
-use mathlib.Core.Path.{_≡_, refl, _∙_}
-use mathlib.Core.Logic.{_≢_}
+use mathlib.Core.Path.{_≡_, sym, ap, _∙_}
+use mathlib.Core.Logic.{_≢_, _⊎_, inl, inr}
 use Prim.Native.Nat.{ℕ, zero, suc, _+_, _*_, _≤_, _<_}
 use native.Mathlib.Omega.{arith}
-use native.Mathlib.Nat.{not-suc-le-zero}
+use native.Mathlib.Decide.{ℕ-discrete}
+use native.Mathlib.Nat.{not-suc-le-zero, one-mul}
 use mathlib.Core.Bool.{Bool, true}
 use mathlib.Core.List.{List, []}
 use lib.ListN.{length}
@@ -11,9 +12,10 @@ use lib.Dec.{eqb}
 use borrow.Author.Tests.{eq-eqb, ne-eqb}
 use Rattle.model.specs.Basics.{floorLog, if_then_else_}
 use Rattle.model.specs.Graph.{Edge, degree, far, same}
-use Rattle.model.proofs.Walks.Counting.{same-ne}
-use Rattle.model.proofs.Walks.Turn.{At}
-use Rattle.model.proofs.Chains.Sums.{total, total-same, total-zero, total-one, total-swap}
+use Rattle.model.proofs.Walks.Degree.{Proper}
+use Rattle.model.proofs.Walks.Turn.{At, TwoEdges, two-edges, turn-between}
+use Rattle.model.proofs.Basics.Counting.{same-ne, same-most}
+use Rattle.model.proofs.Basics.Total.{total, total-same, total-zero, total-one, total-swap, total-const}
 
 -- For each edge: its group, its place on the group's course (from 0), the vertex at its low end there.
 -- For each group: the relabellings charged to it, and whether its course is still open (not closed on itself).
@@ -50,7 +52,7 @@ pub data LeafAt (es : List Edge) (h : Shape) (x e : ℕ) : Type 0 where
   at-high : far es e (h .low e) ≡ x → suc (h .place e) ≡ size h (length es) (h .group e) → LeafAt es h x e
 
 -- a regular vertex of an open group lies between two edges that follow each other
-pub record Between (es : List Edge) (h : Shape) (v g : ℕ) : Type 0 where
+pub record Successive (es : List Edge) (h : Shape) (v g : ℕ) : Type 0 where
   pub lo : ℕ
   pub hi : ℕ
   pub lo-at : At es v lo
@@ -61,17 +63,44 @@ pub record Between (es : List Edge) (h : Shape) (v g : ℕ) : Type 0 where
   pub lo-end : far es lo (h .low lo) ≡ v
   pub hi-end : h .low hi ≡ v
 
+pub between-differ : {es : List Edge} {h : Shape} {v g : ℕ} (u : Successive es h v g) → u .lo ≢ u .hi
+between-differ {h = h} u z = let q : h .place (u .lo) ≡ h .place (u .hi) = ap (h .place) z in omega (arith, u .step)
+
+-- it has no other edges
+pub between-or : (es : List Edge) (h : Shape) (v g e : ℕ) → Proper es → degree es v ≡ 2 → (u : Successive es h v g) → At es v e → (e ≡ u .lo) ⊎ (e ≡ u .hi)
+between-or es h v g e pr c u a = go (ℕ-discrete (u .lo) e)
+  where
+    t : TwoEdges es v
+    t = two-edges es v pr c
+
+    go : Dec (u .lo ≡ e) → (e ≡ u .lo) ⊎ (e ≡ u .hi)
+    go (yes q) = inl (sym q)
+    go (no q) = inr (sym (turn-between es v (u .lo) e t (u .lo-at) a q) ∙ turn-between es v (u .lo) (u .hi) t (u .lo-at) (u .hi-at) (between-differ u))
+
+-- The invariant of the groups: an open group is a course with its leaves at the ends, and every group has paid for its relabellings.
 pub record Courses (es : List Edge) (relabellings : ℕ) (h : Shape) : Type 0 where
+  -- each edge has a place of its own on its group's course
   pub below : (e : ℕ) → e < length es → h .group e < length es
   pub fits : (e : ℕ) → e < length es → h .place e < size h (length es) (h .group e)
   pub apart : (e d : ℕ) → e < length es → d < length es → h .group e ≡ h .group d → h .place e ≡ h .place d → e ≡ d
   pub ends : (e : ℕ) → e < length es → At es (h .low e) e
+  -- a group with a leaf is open; leaves are at the ends of its course, and regular vertices inside
   pub leaf-open : (x e : ℕ) → degree es x ≡ 1 → At es x e → h .isOpen (h .group e) ≡ true
   pub leaf : (x e : ℕ) → degree es x ≡ 1 → At es x e → LeafAt es h x e
-  pub between : (v e : ℕ) → degree es v ≡ 2 → At es v e → h .isOpen (h .group e) ≡ true → Between es h v (h .group e)
+  pub between : (v e : ℕ) → degree es v ≡ 2 → At es v e → h .isOpen (h .group e) ≡ true → Successive es h v (h .group e)
+  -- a group of s edges has spent at most s log s, and at least s - 1 less while it is open; all together have spent all relabellings
   pub cost : (g : ℕ) → h .spent g ≤ size h (length es) g * floorLog (size h (length es) g)
   pub cost-open : (g : ℕ) → h .isOpen g ≡ true → h .spent g + size h (length es) g ≤ size h (length es) g * floorLog (size h (length es) g) + 1
   pub sums : (m : ℕ) → length es ≤ m → total m (h .spent) ≡ relabellings
+
+pub place-fits : {es : List Edge} {relabellings : ℕ} {h : Shape} → Courses es relabellings h → (e g : ℕ) → e < length es → h .group e ≡ g → h .place e < size h (length es) g
+place-fits w e g l q = rw q at (w .fits e l)
+
+-- one place, one vertex
+pub between-one : {es : List Edge} {relabellings : ℕ} {h : Shape} → Courses es relabellings h → {v z g : ℕ} (u : Successive es h v g) (t : Successive es h z g)
+    → h .place (u .hi) ≡ h .place (t .hi) → v ≡ z
+between-one {h = h} w u t q =
+    sym (u .hi-end) ∙ ap (h .low) (w .apart (u .hi) (t .hi) (u .hi-at .inside) (t .hi-at .inside) (u .hi-group ∙ sym (t .hi-group)) q) ∙ t .hi-end
 
 -- groups that are not there yet
 module _ {es : List Edge} {relabellings : ℕ} {h : Shape} (w : Courses es relabellings h) (g : ℕ) (l : length es ≤ g) where
@@ -106,19 +135,14 @@ no-courses = record {
 
 -- ---- the sizes add up
 
-pub total-le : (n : ℕ) (f g : ℕ → ℕ) → ((k : ℕ) → k < n → f k ≤ g k) → total n f ≤ total n g
-unfolding total
-total-le zero f g h = omega arith
-total-le (suc n) f g h = omega (arith, total-le n f g (λ k l. h k (omega arith)), h n (omega arith))
+pub size-most : (h : Shape) (n g : ℕ) → size h n g ≤ n
+unfolding size total
+size-most h zero g = omega arith
+size-most h (suc n) g = omega (arith, size-most h n g, same-most (h .group n) g)
 
-total-ones : (n : ℕ) → total n (λ k. 1) ≡ n
-unfolding total
-total-ones zero = refl
-total-ones (suc n) = omega (arith, total-ones n)
-
-pub sizes : (h : Shape) (n : ℕ) → ((e : ℕ) → e < n → h .group e < n) → total n (λ g. size h n g) ≡ n
+pub sizes-sum : (h : Shape) (n : ℕ) → ((e : ℕ) → e < n → h .group e < n) → total n (λ g. size h n g) ≡ n
 unfolding size
-sizes h n below =
+sizes-sum h n below =
     total-swap n n (λ g e. same (h .group e) g)
     ∙ total-same n _ (λ e. 1) (λ e l. total-same n (λ g. same (h .group e) g) (λ g. same (h .group e) g * 1) (λ g m. omega arith) ∙ total-one n (h .group e) (λ g. 1) (below e l))
-    ∙ total-ones n
+    ∙ total-const n 1 ∙ one-mul n

@@ -10,14 +10,14 @@ use lib.ListN.{length}
 use Rattle.model.specs.Graph.{Edge, degree, same}
 use Rattle.model.specs.Labels.{Marks, base}
 use Rattle.model.proofs.Basics.Booleans.{true-or-false}
-use Rattle.model.proofs.Walks.Counting.{same-eq, same-ne}
 use Rattle.model.proofs.Walks.Degree.{Proper}
 use Rattle.model.proofs.Walks.Turn.{At, TwoEdges, two-edges}
-use Rattle.model.proofs.Chains.Sums.{total}
-use Rattle.model.proofs.Groups.Shape.{Shape, size, Courses}
-use Rattle.model.proofs.Groups.Origins.{Origins, Aligned, Stand, Fits, labelAt, gap}
-use Rattle.model.proofs.Groups.Laying.{size-most, base-least}
-use Rattle.model.proofs.Groups.Gaps.{fits-gap, fits-one, gap-le}
+use Rattle.model.proofs.Groups.Shape.{Shape, size, size-most, place-fits, between-one}
+use Rattle.model.proofs.Groups.Origins.{Stand, labelAt, gap, offset, fits-near, fits-same}
+use Rattle.model.proofs.Groups.Ghosts.{Ghosts}
+use Rattle.model.proofs.Groups.Laying.{base-least}
+use Rattle.model.proofs.Basics.Counting.{same-eq, same-ne}
+use Rattle.model.proofs.Basics.Total.{total}
 
 -- two groups are together at most all edges
 one-of : (x g c : ℕ) → g ≢ c → same x g + same x c ≤ 1
@@ -54,18 +54,18 @@ under-base : (t i n : ℕ) → gap t (base i) + 1 ≤ 8192 → i ≤ n → t ≤
 unfolding gap base
 under-base t i n e l = omega (arith, e, l)
 
-module _ (es : List Edge) (pr : Proper es) (relabellings : ℕ) (m : Marks) (blocks : ℕ) (h : Shape) (w : Courses es relabellings h) (l : Origins) (lab : Aligned es m blocks h l)
-    (room : length es ≤ 4096) where
+module _ (es : List Edge) (pr : Proper es) {relabellings : ℕ} {m : Marks} {blocks : ℕ} (ghosts : Ghosts es relabellings m blocks) (room : length es ≤ 4096) where
+  open Ghosts ghosts using (shape as h, courses as w, origins as l, aligned as lab)
+
   abbrev off : ℕ → ℕ
-  off v = gap (labelAt m v) (base (l .block v))
+  off v = offset m l v
 
   open-off : (v g : ℕ) → Stand es m h l v g → off v + 1 ≤ size h (length es) g
   open-off v g s =
-      let u = s .spot in
-      let f : h .place (u .hi) < size h (length es) g = rw (u .hi-group) at (w .fits (u .hi) (u .hi-at .inside)) in
-      let e = fits-gap (l .rising (l .block v)) (l .origin (l .block v)) (base (l .block v)) (h .place (u .hi)) (labelAt m v) (s .fits) in
-      let k = gap-le (h .place (u .hi)) (l .origin (l .block v)) (size h (length es) g - 1) (omega (arith, f)) (omega (arith, s .last)) in
-      omega (arith, e, k, f)
+      let u = s .between in
+      let f = place-fits w (u .hi) g (u .hi-at .inside) (u .hi-group) in
+      let k = fits-near l (l .block v) (h .place (u .hi)) (labelAt m v) (size h (length es) g - 1) (s .fits) (omega (arith, f)) (omega (arith, s .last)) in
+      omega (arith, k, f)
 
   any-off : (v e : ℕ) → degree es v ≡ 2 → At es v e → off v + 1 ≤ 2 * size h (length es) (h .group e)
   any-off v e c a = go (true-or-false (h .isOpen (h .group e)))
@@ -95,15 +95,10 @@ module _ (es : List Edge) (pr : Proper es) (relabellings : ℕ) (m : Marks) (blo
       go (inl o) =
           let sv : Stand es m h l v (h .group e) = lab .stands v e cv av o in
           let sz : Stand es m h l z (h .group e) = rw q at (lab .stands z c cz az (rw q o)) in
-          let fz : Fits (l .rising (l .block v)) (l .origin (l .block v)) (base (l .block v)) (h .place (sz .spot .hi)) (labelAt m v) =
-          rw tg (subst (λ (k : ℕ). Fits (l .rising k) (l .origin k) (base k) (h .place (sz .spot .hi)) (labelAt m z)) (sym bl) (sz .fits)) in
-          let pl = fits-one (l .rising (l .block v)) (l .origin (l .block v)) (base (l .block v)) (h .place (sv .spot .hi)) (h .place (sz .spot .hi)) (labelAt m v) (sv .fits) fz in
-          let hi : sv .spot .hi ≡ sz .spot .hi =
-          w .apart (sv .spot .hi) (sz .spot .hi) (sv .spot .hi-at .inside) (sz .spot .hi-at .inside) (sv .spot .hi-group ∙ sym (sz .spot .hi-group)) pl in
-          sym (sv .spot .hi-end) ∙ ap (h .low) hi ∙ sz .spot .hi-end
+          between-one w (sv .between) (sz .between) (fits-same l (l .block v) (l .block z) _ _ _ _ bl tg (sv .fits) (sz .fits))
 
-  pub unique : (v z : ℕ) → degree es v ≡ 2 → degree es z ≡ 2 → labelAt m v ≡ labelAt m z → v ≡ z
-  unique v z cv cz tg = go (ℕ-discrete (l .block v) (l .block z))
+  pub label-unique : (v z : ℕ) → degree es v ≡ 2 → degree es z ≡ 2 → labelAt m v ≡ labelAt m z → v ≡ z
+  label-unique v z cv cz tg = go (ℕ-discrete (l .block v) (l .block z))
     where
       tv : TwoEdges es v
       tv = two-edges es v pr cv
@@ -117,13 +112,14 @@ module _ (es : List Edge) (pr : Proper es) (relabellings : ℕ) (m : Marks) (blo
           let t : off v + off z + 1 ≤ 8192 = two-off v z (tv .low) (tz .low) cv cz (tv .low-at) (tz .low-at) q in
           absurd (far-bases (labelAt m v) (l .block v) (l .block z) q (subst (λ (o : ℕ). off v + gap o (base (l .block z)) + 1 ≤ 8192) (sym tg) t))
 
-  pub not-zero : (v : ℕ) → degree es v ≡ 2 → 1 ≤ labelAt m v
-  not-zero v c =
+  off-most : (v : ℕ) → degree es v ≡ 2 → off v + 1 ≤ 8192
+  off-most v c =
       let t : TwoEdges es v = two-edges es v pr c in
-      near-base (labelAt m v) (base (l .block v)) (omega (arith, any-off v (t .low) c (t .low-at), size-most h (length es) (h .group (t .low)), room)) (base-least (l .block v) (lab .least v c))
+      omega (arith, any-off v (t .low) c (t .low-at), size-most h (length es) (h .group (t .low)), room)
+
+  pub not-zero : (v : ℕ) → degree es v ≡ 2 → 1 ≤ labelAt m v
+  not-zero v c = near-base (labelAt m v) (base (l .block v)) (off-most v c) (base-least (l .block v) (lab .least v c))
 
   -- and none is beyond the last base by more than 8,191
   pub label-most : (v : ℕ) → degree es v ≡ 2 → labelAt m v ≤ 8192 * blocks + 8191
-  label-most v c =
-      let t : TwoEdges es v = two-edges es v pr c in
-      under-base (labelAt m v) (l .block v) blocks (omega (arith, any-off v (t .low) c (t .low-at), size-most h (length es) (h .group (t .low)), room)) (lab .most v c)
+  label-most v c = under-base (labelAt m v) (l .block v) blocks (off-most v c) (lab .most v c)

@@ -13,13 +13,13 @@ use Rattle.model.specs.Register.{Register, marksOf}
 use Rattle.model.specs.Notions.{Upwards, reversed}
 use Rattle.model.proofs.Basics.Booleans.{not-both}
 use Rattle.model.proofs.Walks.Degree.{Proper, is-two}
-use Rattle.model.proofs.Walks.Turn.{At, two-edges}
-use Rattle.model.proofs.Walks.Trail.{Trail, done, pass, Across, across}
-use Rattle.model.proofs.Walks.Ended.{Next, next-edge, far-ne}
-use Rattle.model.proofs.Walks.RingFree.{RingFree, turn-between}
-use Rattle.model.proofs.Chains.Lines.{Line, afters}
-use Rattle.model.proofs.Chains.Same.{lineChain}
-use Rattle.model.proofs.Chains.Exact.{LineOf, own-line, line-back, line-back-chain}
+use Rattle.model.proofs.Walks.Turn.{At, two-edges, turn-between}
+use Rattle.model.proofs.Walks.Joins.{Across, across, far-ne}
+use Rattle.model.proofs.Walks.Trail.{Trail, done, pass, Next, next-edge, afters}
+use Rattle.model.proofs.Walks.RingFree.{RingFree}
+use Rattle.model.proofs.Chains.Same.{lineChain, Line}
+use Rattle.model.proofs.Chains.Partition.{LineOf, own-line}
+use Rattle.model.proofs.Chains.Exact.{line-back, line-back-chain}
 use Rattle.model.proofs.Groups.Origins.{labelAt, lowAt}
 use Rattle.model.proofs.Labels.Rise.{Rise, up-to, down-to, Sided}
 
@@ -30,7 +30,7 @@ trail-still (pass t c e u) j = absurd (not-both _ c j)
 
 module _ (es : List Edge) (pr : Proper es) (m : Marks) (s : Sided es m) where
   -- the labels and low edges of what is passed, where they rise on the way
-  record Climbs (p f : ℕ) (ss : List Pass) (q : ℕ) : Type 0 where
+  record Ascends (p f : ℕ) (ss : List Pass) (q : ℕ) : Type 0 where
     labels-are : map (labelAt m) (map atOf ss) ≡ countFrom (labelAt m f) (length ss)
     lows-are : map (lowAt m) (map atOf ss) ++ (q ∷ []) ≡ p ∷ afters ss
 
@@ -44,24 +44,24 @@ module _ (es : List Edge) (pr : Proper es) (m : Marks) (s : Sided es m) where
   on-up f p t l n (up-to a b e) = (b, e)
   on-up f p t l n (down-to a b e) = absurd (n (sym a ∙ l))
 
-  climbs : {p f q g : ℕ} {ss : List Pass} → At es f p → Trail es p f ss q g → (isRegular es f ≡ true → lowAt m f ≡ p) → Climbs p f ss q
+  ascends : {p f q g : ℕ} {ss : List Pass} → At es f p → Trail es p f ss q g → (isRegular es f ≡ true → lowAt m f ≡ p) → Ascends p f ss q
   unfolding countFrom afters atOf afterOf
-  climbs a done l = record { labels-are = refl; lows-are = refl }
-  climbs {p} {f} {q} {g} a (pass {ss = ss} t c e u) l = go (isRegular es (far es t f)) refl (λ k. climbs (nx .across .at) u k)
+  ascends a done l = record { labels-are = refl; lows-are = refl }
+  ascends {p} {f} {q} {g} a (pass {ss = ss} t c e u) l = go (isRegular es (far es t f)) refl (λ k. ascends (nx .across .at) u k)
     where
       nx : Next es p f t
       nx = next-edge es p f t pr a c e
 
-      goal : Climbs t (far es t f) ss q → map (labelAt m) (map atOf ss) ≡ countFrom (suc (labelAt m f)) (length ss)
-          → Climbs p f (record { before = p; at = f; after = t } ∷ ss) q
+      goal : Ascends t (far es t f) ss q → map (labelAt m) (map atOf ss) ≡ countFrom (suc (labelAt m f)) (length ss)
+          → Ascends p f (record { before = p; at = f; after = t } ∷ ss) q
       goal r k =
           record {
             labels-are = ap (λ (ls : List ℕ). labelAt m f ∷ ls) k;
             lows-are = rw (l c) (ap (λ (ls : List ℕ). p ∷ ls) (r .lows-are));
           }
 
-      go : (b : Bool) → isRegular es (far es t f) ≡ b → ((isRegular es (far es t f) ≡ true → lowAt m (far es t f) ≡ t) → Climbs t (far es t f) ss q)
-          → Climbs p f (record { before = p; at = f; after = t } ∷ ss) q
+      go : (b : Bool) → isRegular es (far es t f) ≡ b → ((isRegular es (far es t f) ≡ true → lowAt m (far es t f) ≡ t) → Ascends t (far es t f) ss q)
+          → Ascends p f (record { before = p; at = f; after = t } ∷ ss) q
       go true c′ ih =
           let o = on-up f p t (l c) (nx .other) (rise f t c (nx .at) c′) in
           let r = ih (λ x. o .0) in
@@ -94,13 +94,13 @@ module _ (es : List Edge) (pr : Proper es) (m : Marks) (s : Sided es m) where
       go (to-last x) = to-last x
 
   -- a line is read upwards from its start or from its stop
-  line-climbs : (l : Line es) → (isRegular es (far es (l .first) (l .start)) ≡ true → lowAt m (far es (l .first) (l .start)) ≡ l .first)
-      → Climbs (l .first) (far es (l .first) (l .start)) (l .passes) (l .last)
-  line-climbs l k = climbs ((across es (l .first) (l .start) pr (l .at)) .at) (l .trail) k
+  line-ascends : (l : Line es) → (isRegular es (far es (l .first) (l .start)) ≡ true → lowAt m (far es (l .first) (l .start)) ≡ l .first)
+      → Ascends (l .first) (far es (l .first) (l .start)) (l .passes) (l .last)
+  line-ascends l k = ascends ((across es (l .first) (l .start) pr (l .at)) .at) (l .trail) k
 
-  other-climbs : (l : Line es) → lowAt m (far es (l .first) (l .start)) ≢ l .first
+  other-ascends : (l : Line es) → lowAt m (far es (l .first) (l .start)) ≢ l .first
       → isRegular es (far es (l .last) (l .stop)) ≡ true → lowAt m (far es (l .last) (l .stop)) ≡ l .last
-  other-climbs l n c = go (falls (x .at) (l .trail) (λ c′. n))
+  other-ascends l n c = go (falls (x .at) (l .trail) (λ c′. n))
     where
       x : Across es (l .first) (l .start)
       x = across es (l .first) (l .start) pr (l .at)
@@ -115,7 +115,7 @@ module _ (r : Register) (pr : Proper (r .edges)) (rf : RingFree (r .edges)) (s :
       → Upwards r (lineChain l)
   unfolding marksOf labelAt lowAt lineChain
   upwards l k =
-      let c = line-climbs (r .edges) pr (marksOf r) s l k in
+      let c = line-ascends (r .edges) pr (marksOf r) s l k in
       record {
         lowest = labelAt (marksOf r) (far (r .edges) (l .first) (l .start));
         labels = c .labels-are ∙ ap (λ (n : ℕ). countFrom (labelAt (marksOf r) (far (r .edges) (l .first) (l .start))) n) (sym (length-map (l .passes) atOf));
@@ -140,4 +140,4 @@ module _ (r : Register) (pr : Proper (r .edges)) (rf : RingFree (r .edges)) (s :
       go (yes e) = inl (subst (λ (c : Chain). Upwards r c) (o .chain-is) (upwards l (λ c. e)))
       go (no n) =
           inr (subst (λ (c : Chain). Upwards r c) (line-back-chain es pr l ∙ ap reversed (o .chain-is))
-          (upwards (line-back es pr l) (other-climbs es pr (marksOf r) s l n)))
+          (upwards (line-back es pr l) (other-ascends es pr (marksOf r) s l n)))

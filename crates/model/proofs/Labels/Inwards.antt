@@ -6,14 +6,13 @@ use mathlib.Core.Bool.{true, false}
 use mathlib.Core.List.{List, [], _∷_}
 use lib.ListN.{length}
 use borrow.Author.Tests.{eqb-true}
-use Rattle.model.specs.Graph.{Edge, Pass, degree, endsAt, far, isRegular, onwards}
+use Rattle.model.specs.Graph.{Edge, Pass, degree, far, isRegular, onwards}
 use Rattle.model.specs.Labels.{inwards}
 use Rattle.model.proofs.Walks.Degree.{Proper}
-use Rattle.model.proofs.Walks.Turn.{At}
-use Rattle.model.proofs.Walks.Trail.{Trail, done, pass, across}
-use Rattle.model.proofs.Walks.Snoc.{Clear}
+use Rattle.model.proofs.Walks.Turn.{At, onlyEdge-is}
+use Rattle.model.proofs.Walks.Joins.{across}
+use Rattle.model.proofs.Walks.Trail.{Trail, done, pass}
 use Rattle.model.proofs.Walks.RingFree.{RingFree}
-use Rattle.model.proofs.Walks.Rings.{onlyEdge-is}
 use Rattle.model.proofs.Labels.Following.{Ith, here, later}
 use Rattle.model.proofs.Walks.Whole.{Onwards, onwards-ends}
 
@@ -38,11 +37,6 @@ trail-regular done zero s j = elim j [ ]
 trail-regular done (suc i) s j = elim j [ ]
 trail-regular (pass t c tn u) zero s here = eqb-true _ _ c
 trail-regular (pass t c tn u) (suc i) s (later j) = trail-regular u i s j
-
-pub trail-clear : {es : List Edge} {q f r g : ℕ} {ss : List Pass} (p : Edge) → ((v : ℕ) → degree es v ≡ 2 → endsAt v p ≡ 0) → Trail es q f ss r g → Clear p ss
-unfolding isRegular
-trail-clear p n done = tt
-trail-clear p n (pass t c tn u) = (n _ (eqb-true _ _ c), trail-clear p n u)
 
 pub record Inward (es : List Edge) (x e : ℕ) (ss : List Pass) : Type 0 where
   pub onto : ℕ

@@ -1,7 +1,8 @@
 -- What one more edge does to the labels, in one form: a path is labelled upwards or downwards, from a label on.
 use mathlib.Core.Path.{_≡_, refl}
-use mathlib.Core.Logic.{_≢_, _⊎_}
+use mathlib.Core.Logic.{_≢_, _⊎_, inl, inr}
 use Prim.Native.Nat.{ℕ, _+_, _-_, _≤_}
+use native.Mathlib.Omega.{arith}
 use native.Mathlib.Decide.{ℕ-discrete}
 use mathlib.Core.Bool.{Bool, true, false}
 use mathlib.Core.List.{List, [], _∷_, _++_}
@@ -9,51 +10,44 @@ use lib.ListN.{length, getD}
 use borrow.Author.Tests.{eq-eqb, ne-eqb}
 use Rattle.model.specs.Graph.{Edge, Pass, degree, endsAt, far}
 use Rattle.model.specs.Labels.{Labelling, Marks, attach, base, inwards}
+use Rattle.model.proofs.Walks.Degree.{degree-snoc, end-cases}
 use Rattle.model.proofs.Walks.Turn.{At}
 use Rattle.model.proofs.Walks.Trail.{Trail}
-use Rattle.model.proofs.Labels.Following.{following, from-base}
+use Rattle.model.proofs.Labels.Following.{following, from-base, InPath}
 use Rattle.model.proofs.Labels.Splits.{Bare}
 
--- ---- attaching
+-- A path goes on beside a vertex with this low edge, from its edge e: downwards if that is the low edge, else upwards.
+abbrev pub Direction : Bool → ℕ → ℕ → Type 0
+Direction true low e = low ≢ e
+Direction false low e = low ≡ e
 
--- from which label on a path is labelled, and in which direction
-pub data Kind (blocks e : ℕ) (kept : List Pass) (m : Marks) (up : Bool) (label blocks′ : ℕ) : Type 0 where
-  newBlock : kept ≡ [] → up ≡ true → label ≡ base (blocks + 1) - 1 → blocks′ ≡ blocks + 1 → Kind blocks e kept m up label blocks′
-  goes-up : (u : Pass) (us : List Pass) → kept ≡ u ∷ us → label ≡ getD (m .labels) (u .at) 0 → up ≡ true → getD (m .lows) (u .at) 0 ≢ e → blocks′ ≡ blocks
-      → Kind blocks e kept m up label blocks′
-  goes-down : (u : Pass) (us : List Pass) → kept ≡ u ∷ us → label ≡ getD (m .labels) (u .at) 0 → up ≡ false → getD (m .lows) (u .at) 0 ≡ e → blocks′ ≡ blocks
-      → Kind blocks e kept m up label blocks′
-
-pub record AttachOf (blocks e : ℕ) (kept path : List Pass) (m : Marks) (res : Labelling) : Type 0 where
-  pub up : Bool
-  pub label : ℕ
-  pub marks-is : res .marks ≡ following up label path m
-  pub kind : Kind blocks e kept m up label (res .blocks)
-
-pub attach-of : (blocks e : ℕ) (kept path : List Pass) (m : Marks) → AttachOf blocks e kept path m (attach blocks e kept path m)
-unfolding attach following
-attach-of blocks e [] path m = record { up = true; label = base (blocks + 1) - 1; marks-is = from-base blocks path m; kind = newBlock refl refl refl refl }
-attach-of blocks e (u ∷ us) path m = go (ℕ-discrete (getD (m .lows) (u .at) 0) e)
-  where
-    go : Dec (getD (m .lows) (u .at) 0 ≡ e) → AttachOf blocks e (u ∷ us) path m (attach blocks e (u ∷ us) path m)
-    go (yes q) = record {
-      up = false;
-      label = getD (m .labels) (u .at) 0;
-      marks-is = rw (eq-eqb (getD (m .lows) (u .at) 0) e q);
-      kind = goes-down u us refl refl refl q refl;
-    }
-    go (no q) = record {
-      up = true;
-      label = getD (m .labels) (u .at) 0;
-      marks-is = rw (ne-eqb (getD (m .lows) (u .at) 0) e q);
-      kind = goes-up u us refl refl refl q refl;
-    }
-
--- the same by the neighbour f of the first vertex of the path
+-- From which label on a path is labelled, and in which direction, by the neighbour f of its first vertex: a new block, or on from f.
 pub data Near (es : List Edge) (p : Edge) (f blocks e : ℕ) (m : Marks) (up : Bool) (label blocks′ : ℕ) : Type 0 where
   none-near : degree (es ++ (p ∷ [])) f ≢ 2 → up ≡ true → label ≡ base (blocks + 1) - 1 → blocks′ ≡ blocks + 1 → Near es p f blocks e m up label blocks′
-  near : degree es f ≡ 2 → endsAt f p ≡ 0 → label ≡ getD (m .labels) f 0 → blocks′ ≡ blocks
-      → ((up ≡ true) × (getD (m .lows) f 0 ≢ e)) ⊎ ((up ≡ false) × (getD (m .lows) f 0 ≡ e)) → Near es p f blocks e m up label blocks′
+  near : degree es f ≡ 2 → endsAt f p ≡ 0 → label ≡ getD (m .labels) f 0 → blocks′ ≡ blocks → Direction up (getD (m .lows) f 0) e → Near es p f blocks e m up label blocks′
+
+-- what `attach` makes of the marks m′ after the splits
+pub record Attached (es : List Edge) (p : Edge) (f blocks e : ℕ) (path : List Pass) (m m′ : Marks) (res : Labelling) : Type 0 where
+  pub up : Bool
+  pub label : ℕ
+  pub marks-is : res .marks ≡ following up label path m′
+  pub by : Near es p f blocks e m up label (res .blocks)
+
+pub attached : (es : List Edge) (p : Edge) (f blocks e : ℕ) (kept path : List Pass) (m m′ : Marks) → Bare es p m m′ → (kept ≡ [] → degree (es ++ (p ∷ [])) f ≢ 2)
+    → ((u : Pass) (us : List Pass) → kept ≡ u ∷ us → (u .at ≡ f) × (degree es f ≡ 2) × (endsAt f p ≡ 0)) → Attached es p f blocks e path m m′ (attach blocks e kept path m′)
+unfolding attach following
+attached es p f blocks e [] path m m′ br stop head =
+    record { up = true; label = base (blocks + 1) - 1; marks-is = from-base blocks path m′; by = none-near (stop refl) refl refl refl }
+attached es p f blocks e (u ∷ us) path m m′ br stop head = go (ℕ-discrete (getD (m′ .lows) (u .at) 0) e)
+  where
+    on : (up : Bool) → Direction up (getD (m′ .lows) (u .at) 0) e → Near es p f blocks e m up (getD (m′ .labels) (u .at) 0) blocks
+    on up dir =
+        let h = head u us refl in
+        near (h .1) (h .2) (rw (h .0) (br .label-kept f (inr (h .2)))) refl (rw (h .0, br .low-kept f (inr (h .2))) at dir)
+
+    go : Dec (getD (m′ .lows) (u .at) 0 ≡ e) → Attached es p f blocks e path m m′ (attach blocks e (u ∷ us) path m′)
+    go (yes q) = record { up = false; label = getD (m′ .labels) (u .at) 0; marks-is = rw (eq-eqb (getD (m′ .lows) (u .at) 0) e q); by = on false q }
+    go (no q) = record { up = true; label = getD (m′ .labels) (u .at) 0; marks-is = rw (ne-eqb (getD (m′ .lows) (u .at) 0) e q); by = on true q }
 
 -- a path is labelled that begins at the leaf x, whose only edge is e; y is the other end of the new edge
 pub record Laid (es : List Edge) (p : Edge) (blocks : ℕ) (m : Marks) (res : Labelling) (x y e : ℕ) (path : List Pass) : Type 0 where
@@ -72,10 +66,30 @@ pub record Laid (es : List Edge) (p : Edge) (blocks : ℕ) (m : Marks) (res : La
   pub trail : Trail (es ++ (p ∷ [])) e x path onto to
   pub stops : degree (es ++ (p ∷ [])) to ≢ 2
   pub by : Near es p (far es e x) blocks e m up label (res .blocks)
+  pub has : (v : ℕ) → endsAt v p ≡ 1 → degree (es ++ (p ∷ [])) v ≡ 2 → InPath path v
 
+-- an extension labels x alone, with its edge e; a merge x, y with its edge c, and the regular vertices of y's chain
+abbrev pub extendPath : List Edge → (x e : ℕ) → List Pass
+extendPath es x e = record { before = e; at = x; after = length es } ∷ []
+
+abbrev pub mergePath : List Edge → (x y e c : ℕ) → List Pass
+mergePath es x y e c = record { before = e; at = x; after = length es } ∷ record { before = length es; at = y; after = c } ∷ inwards es y
+
+-- the forms of one more edge: no end was a leaf; x was one and y was not; both were, and y's chain has no more regular vertices than x's
 pub data Inserted (es : List Edge) (p : Edge) (blocks : ℕ) (m : Marks) (res : Labelling) : Type 0 where
   fresh : degree es (p .first) ≢ 1 → degree es (p .second) ≢ 1 → res .blocks ≡ blocks → Bare es p m (res .marks) → Inserted es p blocks m res
-  extends : (x y e : ℕ) → degree es y ≢ 1 → Laid es p blocks m res x y e (record { before = e; at = x; after = length es } ∷ []) → Inserted es p blocks m res
+  extends : (x y e : ℕ) → degree es y ≢ 1 → Laid es p blocks m res x y e (extendPath es x e) → Inserted es p blocks m res
   merges : (x y e c : ℕ) → degree es y ≡ 1 → At es y c → length (inwards es y) ≤ length (inwards es x)
-      → Laid es p blocks m res x y e (record { before = e; at = x; after = length es } ∷ record { before = length es; at = y; after = c } ∷ inwards es y)
+      → Laid es p blocks m res x y e (mergePath es x y e c)
       → Inserted es p blocks m res
+
+-- where neither end was a leaf, neither is regular afterwards
+pub fresh-none : (es : List Edge) (p : Edge) → degree es (p .first) ≢ 1 → degree es (p .second) ≢ 1 → (v : ℕ) → endsAt v p ≡ 1 → degree (es ++ (p ∷ [])) v ≢ 2
+fresh-none es p ca cb v o c = go (end-cases p v o)
+  where
+    one : degree es v ≡ 1
+    one = omega (arith, degree-snoc es p v)
+
+    go : (p .first ≡ v) ⊎ (p .second ≡ v) → ⊥
+    go (inl q) = ca (rw q one)
+    go (inr q) = cb (rw q one)

@@ -9,7 +9,8 @@ use lib.ListN.{length, getD, List·getD-eq-default}
 use Rattle.model.specs.Graph.{Edge, Pass, degree, endsAt}
 use Rattle.model.specs.Labels.{Labelling, Marks, relabelCount}
 use Rattle.model.proofs.Walks.Degree.{degree-snoc, endsAt-le, zero-or-one}
-use Rattle.model.proofs.Labels.Following.{following, ithLabel, Wears, given, kept, wears, re-path, re-first, following-long}
+use Rattle.model.proofs.Labels.Following.{following, ithLabel, Wears, given, kept, wears, following-long}
+use Rattle.model.proofs.Labels.Relabellings.{relabelCount-path, relabelCount-first}
 use Rattle.model.proofs.Labels.Laid.{Laid}
 use Rattle.model.proofs.Labels.Splits.{Bare}
 use Rattle.model.proofs.Labels.Inwards.{trail-regular}
@@ -18,40 +19,40 @@ use Rattle.model.proofs.Labels.Inwards.{trail-regular}
 abbrev pub BareSingular : List Edge → Marks → Type 0
 BareSingular es m = (f : ℕ) → degree es f ≢ 2 → getD (m .labels) f 0 ≡ 0
 
-module _ (es : List Edge) (p : Edge) (d : p .first ≢ p .second) (blocks : ℕ) (m : Marks) (z : BareSingular es m) where
+module _ (es : List Edge) (p : Edge) (d : p .first ≢ p .second) {m : Marks} (z : BareSingular es m) where
   -- after the splits
-  pub bare-split : (m′ : Marks) → Bare es p m m′ → (f : ℕ) → degree (es ++ (p ∷ [])) f ≢ 2 → getD (m′ .labels) f 0 ≡ 0
-  bare-split m′ b f n = go (ℕ-discrete (degree es f) 2) (zero-or-one (endsAt f p) (endsAt-le f p d))
+  pub bare-split : {m′ : Marks} → Bare es p m m′ → (f : ℕ) → degree (es ++ (p ∷ [])) f ≢ 2 → getD (m′ .labels) f 0 ≡ 0
+  bare-split {m′} b f n = go (ℕ-discrete (degree es f) 2) (zero-or-one (endsAt f p) (endsAt-le f p d))
     where
       go : Dec (degree es f ≡ 2) → (endsAt f p ≡ 0) ⊎ (endsAt f p ≡ 1) → getD (m′ .labels) f 0 ≡ 0
       go (yes c) (inl o) = absurd (n (omega (arith, degree-snoc es p f)))
       go (yes c) (inr o) = b .label-off f o c
       go (no c) o = b .label-kept f (inl c) ∙ z f c
 
-  pub bare-laid : (res : Labelling) (x y e : ℕ) (path : List Pass) → length (m .labels) ≡ length (m .lows) → Laid es p blocks m res x y e path → BareSingular (es ++ (p ∷ [])) (res .marks)
-  bare-laid res x y e path ll l f n = rw (l .marks-is) (go (decLt f (length (l .m′ .labels))))
+  pub bare-laid : {blocks x y e : ℕ} {res : Labelling} {path : List Pass} → length (m .labels) ≡ length (m .lows) → Laid es p blocks m res x y e path → BareSingular (es ++ (p ∷ [])) (res .marks)
+  bare-laid {path = path} ll l f n = rw (l .marks-is) (go (decLt f (length (l .m′ .labels))))
     where
       worn : (t w : ℕ) → Wears (l .up) (l .label) path (l .m′) f t w → t ≡ 0
       worn t w (given i s j q r u) = absurd (n (rw q at (trail-regular (l .trail) i s j)))
-      worn t w (kept k r u) = r ∙ bare-split (l .m′) (l .bare) f n
+      worn t w (kept k r u) = r ∙ bare-split (l .bare) f n
 
       go : Dec (f < length (l .m′ .labels)) → getD ((following (l .up) (l .label) path (l .m′)) .labels) f 0 ≡ 0
       go (yes h) = worn _ _ (wears (l .up) (l .label) path (l .m′) f h (omega (arith, h, l .bare .labels-long, l .bare .lows-long)))
       go (no h) = List·getD-eq-default ((following (l .up) (l .label) path (l .m′)) .labels) 0 (omega (arith, h, (following-long (l .up) (l .label) path (l .m′)) .labels-long))
 
   -- how many vertices are relabelled
-  pub moves-extend : (res : Labelling) (x y e : ℕ) (s : Pass) → s .at ≡ x → Laid es p blocks m res x y e (s ∷ []) → relabelCount (m .labels) (res .marks .labels) ≡ 0
+  pub moves-extend : {blocks x y e : ℕ} {res : Labelling} (s : Pass) → s .at ≡ x → Laid es p blocks m res x y e (s ∷ []) → relabelCount (m .labels) (res .marks .labels) ≡ 0
   unfolding following
-  moves-extend res x y e s q l =
+  moves-extend {x = x} s q l =
       let bx : getD (m .labels) (s .at) 0 ≡ 0 = rw q (z x (λ c. omega (arith, l .x-leaf))) in
-      let r = re-first (m .labels) (l .up) (l .label) s [] (l .m′) 0 bx (re-path (m .labels) (l .up) (ithLabel (l .up) (l .label) 0) [] _) in
+      let r = relabelCount-first (m .labels) (l .up) (l .label) s [] (l .m′) 0 bx (relabelCount-path (m .labels) (l .up) (ithLabel (l .up) (l .label) 0) [] _) in
       rw (l .marks-is) (omega (arith, r, l .bare .no-move))
 
-  pub moves-merge : (res : Labelling) (x y e : ℕ) (s t : Pass) (ss : List Pass) → s .at ≡ x → t .at ≡ y → degree es y ≡ 1 → Laid es p blocks m res x y e (s ∷ t ∷ ss)
+  pub moves-merge : {blocks x y e : ℕ} {res : Labelling} (s t : Pass) (ss : List Pass) → s .at ≡ x → t .at ≡ y → degree es y ≡ 1 → Laid es p blocks m res x y e (s ∷ t ∷ ss)
       → relabelCount (m .labels) (res .marks .labels) ≤ length ss
-  moves-merge res x y e s t ss q r cy l =
+  moves-merge {x = x} {y} s t ss q r cy l =
       let bx : getD (m .labels) (s .at) 0 ≡ 0 = rw q (z x (λ c. omega (arith, l .x-leaf))) in
       let by : getD (m .labels) (t .at) 0 ≡ 0 = rw r (z y (λ c. omega arith)) in
-      let r₂ = re-first (m .labels) (l .up) (ithLabel (l .up) (l .label) 0) t ss _ (length ss) by (re-path (m .labels) (l .up) _ ss _) in
-      let r₁ = re-first (m .labels) (l .up) (l .label) s (t ∷ ss) (l .m′) (length ss) bx r₂ in
+      let r₂ = relabelCount-first (m .labels) (l .up) (ithLabel (l .up) (l .label) 0) t ss _ (length ss) by (relabelCount-path (m .labels) (l .up) _ ss _) in
+      let r₁ = relabelCount-first (m .labels) (l .up) (l .label) s (t ∷ ss) (l .m′) (length ss) bx r₂ in
       rw (l .marks-is) (omega (arith, r₁, l .bare .no-move))

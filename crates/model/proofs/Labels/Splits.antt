@@ -13,7 +13,7 @@ use Rattle.model.specs.Basics.{if_then_else_}
 use Rattle.model.specs.Graph.{Edge, degree, endsAt, isRegular}
 use Rattle.model.specs.Labels.{Marks, mark, relabelCount, split}
 use Rattle.model.proofs.Walks.Degree.{end-cases, end-first, end-second}
-use Rattle.model.proofs.Labels.Following.{re-same, re-off}
+use Rattle.model.proofs.Labels.Relabellings.{moved-new, relabelCount-same, relabelCount-set}
 
 -- a split, if the vertex is regular
 unfoldable pub unlabel : List Edge → ℕ → Marks → Marks
@@ -38,20 +38,19 @@ record Off (es : List Edge) (f : ℕ) (m m′ : Marks) : Type 0 where
   long-lows : length (m′ .lows) ≡ length (m .lows)
   move : (ts : List ℕ) → relabelCount ts (m′ .labels) ≤ relabelCount ts (m .labels)
 
-set-zero : (xs : List ℕ) (f v : ℕ) → getD xs v 0 ≡ 0 → getD (set xs f 0) v 0 ≡ 0
-set-zero xs f v z = go (ℕ-discrete v f) (decLt v (length xs))
-  where
-    go : Dec (v ≡ f) → Dec (v < length xs) → getD (set xs f 0) v 0 ≡ 0
-    go (no e) d = getD-set-other xs f v 0 0 e ∙ z
-    go (yes e) (yes l) = rw (← e) (getD-set-same xs v 0 0 l)
-    go (yes e) (no l) = List·getD-eq-default (set xs f 0) 0 (omega (arith, length-set xs f 0))
-
 set-off : (xs : List ℕ) (f : ℕ) → getD (set xs f 0) f 0 ≡ 0
 set-off xs f = go (decLt f (length xs))
   where
     go : Dec (f < length xs) → getD (set xs f 0) f 0 ≡ 0
     go (yes l) = getD-set-same xs f 0 0 l
     go (no l) = List·getD-eq-default (set xs f 0) 0 (omega (arith, length-set xs f 0))
+
+set-zero : (xs : List ℕ) (f v : ℕ) → getD xs v 0 ≡ 0 → getD (set xs f 0) v 0 ≡ 0
+set-zero xs f v z = go (ℕ-discrete v f)
+  where
+    go : Dec (v ≡ f) → getD (set xs f 0) v 0 ≡ 0
+    go (no e) = getD-set-other xs f v 0 0 e ∙ z
+    go (yes e) = rw e (set-off xs f)
 
 not-here : (es : List Edge) (f v : ℕ) → degree es f ≡ 2 → degree es v ≢ 2 ⊎ (f ≢ v) → v ≢ f
 not-here es f v c (inl n) e = n (rw e c)
@@ -69,7 +68,7 @@ one-off es f m = go (ℕ-discrete (degree es f) 2)
       kept-low = λ v o. getD-set-other (m .lows) f v 0 0 (not-here es f v c o);
       long-labels = length-set (m .labels) f 0;
       long-lows = length-set (m .lows) f 0;
-      move = λ ts. re-off ts (m .labels) f;
+      move = λ ts. let k = relabelCount-set ts (m .labels) f 0 0 (omega (arith, moved-new (getD ts f 0))) in omega (arith, k);
     })
     go (no c) = rw (ne-eqb (degree es f) 2 c) (record {
       off = λ v e q. absurd (c (rw e q));
@@ -88,7 +87,7 @@ splits es p m d = record {
   low-kept = λ v o. t .kept-low v (other (p .second) v (end-second p d) o) ∙ s .kept-low v (other (p .first) v (end-first p d) o);
   labels-long = t .long-labels ∙ s .long-labels;
   lows-long = t .long-lows ∙ s .long-lows;
-  no-move = omega (arith, t .move (m .labels), s .move (m .labels), re-same (m .labels));
+  no-move = omega (arith, t .move (m .labels), s .move (m .labels), relabelCount-same (m .labels));
 }
   where
     m₁ : Marks
@@ -115,5 +114,5 @@ no-splits es p m f = record {
   low-kept = λ v o. refl;
   labels-long = refl;
   lows-long = refl;
-  no-move = omega (arith, re-same (m .labels));
+  no-move = omega (arith, relabelCount-same (m .labels));
 }

@@ -16,6 +16,7 @@ use Rattle.model.specs.Queries.{Reply, chainAt, find, found, listed, mea
 use Rattle.model.specs.Tables.{fits}
 use Rattle.model.specs.Calls.{Call, Effect, answers, effect, finds, grows, lands, measures, reaches, readEffect, sheetEffect, sheets}
 use Rattle.model.specs.Series.{Demand3, Landing, Made, accepts, after, afterCall, landedBy, makes, series, since, start}
+use Rattle.model.proofs.Basics.Booleans.{if-either}
 use Rattle.model.proofs.Series.Whole.{demand3}
 
 -- ---- 21 holds in no series
@@ -33,14 +34,6 @@ refusalOf (refuses n) = n
 abbrev Own : Reply → Type 0
 Own a = refusalOf a ≤ 9
 
-own-refusal : (n : ℕ) → n ≤ 9 → Own (refuses n)
-unfolding refusalOf
-own-refusal n h = h
-
-either : (b : Bool) (n : ℕ) (x : Reply) → n ≤ 9 → Own x → Own (if b then refuses n else x)
-either true n x h k = own-refusal n h
-either false n x h k = k
-
 own-find : (r : Register) (label : ℕ) → Own (find r label)
 unfolding find refusalOf
 own-find r label = go (vertexWith r label (upTo (r .vertices)))
@@ -51,19 +44,17 @@ own-find r label = go (vertexWith r label (upTo (r .vertices)))
 
 own-reach : (r : Register) (v : ℕ) → Own (reach r v)
 unfolding reach refusalOf
-own-reach r v = either (not (ltb v (r .vertices))) 5 _ (omega arith) (either (not (isRegular (r .edges) v)) 8 _ (omega arith) (omega arith))
+own-reach r v =
+    if-either Own (not (ltb v (r .vertices))) (refuses 5) _ (omega arith)
+    (if-either Own (not (isRegular (r .edges) v)) (refuses 8) _ (omega arith) (omega arith))
 
 own-measure : (r : Register) (v w : ℕ) → Own (measure r v w)
 unfolding measure refusalOf
-own-measure r v w = either (not (ltb v (r .vertices) && ltb w (r .vertices))) 5 _ (omega arith) (omega arith)
+own-measure r v w = if-either Own (not (ltb v (r .vertices) && ltb w (r .vertices))) (refuses 5) _ (omega arith) (omega arith)
 
 own-sheet : (r : Register) (slice : List ℕ) → Own ((sheetEffect r slice) .reply)
 unfolding sheetEffect refusalOf
-own-sheet r slice = go (ltb (length slice) (length (sheetNumbers r))) _ _ (omega arith) (omega arith)
-  where
-    go : (b : Bool) (x y : Effect) → Own (x .reply) → Own (y .reply) → Own ((if b then x else y) .reply)
-    go true x y h k = h
-    go false x y h k = k
+own-sheet r slice = if-either (λ (x : Effect). Own (x .reply)) (ltb (length slice) (length (sheetNumbers r))) _ _ (omega arith) (omega arith)
 
 own-effect : (c : Call) (r : Register) → Own ((effect c r) .reply)
 unfolding effect readEffect answers refusalOf

@@ -7,11 +7,10 @@ use Rattle.model.specs.Cases.{closesRing}
 use Rattle.model.specs.Register.{Register, landEdge, landed, refused, withEdge}
 use Rattle.model.specs.Notions.{Admissible, Ring}
 use Rattle.model.proofs.Walks.Degree.{Proper}
-use Rattle.model.proofs.Walks.Keeps.{RefusedRing, refused-24}
+use Rattle.model.proofs.Series.Accepted.{edge-lands, edge-refused, refused-24}
 use Rattle.model.proofs.Walks.RingFree.{RingFree, ring-free}
-use Rattle.model.proofs.Walks.Rings.{no-ring, Sound}
-use Rattle.model.proofs.Walks.Ring.{ring-none, ring-closed}
-use Rattle.model.proofs.Series.Held.{edge-lands, edge-refused}
+use Rattle.model.proofs.Walks.Sound.{Sound}
+use Rattle.model.proofs.Walks.Ring.{ring-none, ring-closed, no-ring}
 
 module _ (r : Register) (sound : Sound r) where
   pr : Proper (r .edges)
@@ -26,11 +25,11 @@ module _ (r : Register) (sound : Sound r) where
     where
       go : (b : Bool) → closesRing (r .edges) (e .first) (e .second) ≡ b → (Ring (r .edges ++ (e ∷ [])) → landEdge r e ≡ refused 24)
           × ((Ring (r .edges ++ (e ∷ [])) → ⊥) → landEdge r e ≡ landed (withEdge r e))
-      go true c = (λ q. edge-refused r e a c, λ n. absurd (n (ring-closed (r .edges) e pr rf (a .differ) c)))
+      go true c = (λ q. edge-refused r e a c, λ n. absurd (n (ring-closed (r .edges) e pr rf (a .lawful .differ) c)))
       go false c = (
-        λ q. absurd (ring-none (r .edges ++ (e ∷ [])) (ring-free (r .edges) e pr (a .differ) rf (no-ring (r .edges) e pr c)) q),
-        λ n. edge-lands r e a c,
+        λ q. absurd (ring-none (r .edges ++ (e ∷ [])) (ring-free (r .edges) e pr (a .lawful .differ) rf (no-ring (r .edges) e pr c)) q),
+        λ n. edge-lands r e (record { admissible = a; no-ring = c }),
       )
 
   pub refused-closes : (e : Edge) → landEdge r e ≡ refused 24 → Ring (r .edges ++ (e ∷ []))
-  refused-closes e h = let q : RefusedRing r e = refused-24 r e h in ring-closed (r .edges) e pr rf (q .differ) (q .closes)
+  refused-closes e h = let q = refused-24 r e h in ring-closed (r .edges) e pr rf (q .0 .lawful .differ) (q .1)

@@ -1,6 +1,6 @@
 -- Every number of a register fits 32 bits, and no distance is the number for "not joined".
 use mathlib.Core.Path.{_≡_, refl, subst}
-use Prim.Native.Nat.{ℕ, zero, suc, _+_, _*_, _≤_, _<_}
+use Prim.Native.Nat.{ℕ, _+_, _*_, _≤_, _<_}
 use native.Mathlib.Omega.{arith}
 use native.Mathlib.Nat.{mul-le-mul-right, mul-le-mul-left}
 use native.Mathlib.Decide.{decLt}
@@ -8,7 +8,7 @@ use mathlib.Core.Bool.{Bool, true, false}
 use mathlib.Core.List.{List, [], _∷_, _++_, map, reverse}
 use lib.ListN.{length, getD}
 use lib.Dec.{eqb, leb}
-use Rattle.model.specs.Basics.{floorLog, if_then_else_, maxEdges, maxLength, sum}
+use Rattle.model.specs.Basics.{floorLog, if_then_else_, maxEdges, maxLength, maxVertices, sum}
 use Rattle.model.specs.Graph.{Edge, Pass, afterOf, chainLength, chainOf, edgeAt, far, lengthAt, lengthsOf, onwards}
 use Rattle.model.specs.Cases.{Case, caseAt, extends, merges, newChain, splitBoth, splitExtends, splitNew}
 use Rattle.model.specs.Labels.{Labelling, Marks, attach, extend, innerCount, labelCase, labelEdge, merge}
@@ -17,28 +17,22 @@ use Rattle.model.specs.Distance.{distance, joined, lengthVia}
 use Rattle.model.specs.Queries.{lengthTo}
 use Rattle.model.specs.Notions.{Reachable}
 use Rattle.model.proofs.Computing.{computing}
-use Rattle.model.proofs.Basics.Lists.{sum-append, sum-reverse}
-use Rattle.model.proofs.Walks.Counting.{occurs}
+use Rattle.model.proofs.Basics.Booleans.{if-either}
+use Rattle.model.proofs.Basics.Lists.{sum-around}
+use Rattle.model.proofs.Basics.Counting.{occurs}
 use Rattle.model.proofs.Walks.Degree.{Proper}
-use Rattle.model.proofs.Walks.Keeps.{Accepted, Added}
+use Rattle.model.proofs.Series.Accepted.{Accepted}
 use Rattle.model.proofs.Walks.NewEdge.{length-new}
 use Rattle.model.proofs.Walks.RingFree.{RingFree}
-use Rattle.model.proofs.Chains.Sums.{total, length-occurs, once}
+use Rattle.model.proofs.Basics.Total.{total-const, total-le}
+use Rattle.model.proofs.Chains.Sums.{length-occurs, once}
 use Rattle.model.proofs.Groups.FloorLog.{floorLog-mono}
 use Rattle.model.proofs.Distances.Nearer.{distance-most}
 use Rattle.model.proofs.Series.Labelled.{Labelled, label-small, labelled-bound}
 use Rattle.model.proofs.Series.Lawful.{AllLawful, edges-lawful}
-use Rattle.model.proofs.Series.Reachable.{full, reachable-keeps}
-
-labelled : (r : Register) → Reachable r → Labelled r
-labelled r k = (full r k) .kept .labelled
+use Rattle.model.proofs.Series.Reachable.{labelled, reachable-keeps}
 
 -- ---- a chain's length
-
-total-most : (n : ℕ) (g : ℕ → ℕ) → ((k : ℕ) → k < n → g k ≤ maxLength) → total n g ≤ maxLength * n
-unfolding total
-total-most zero g h = omega arith
-total-most (suc n) g h = omega (arith, total-most n g (λ k l. h k (omega arith)), h n (omega arith))
 
 once-most : (c l : ℕ) → c ≤ 1 → l ≤ maxLength → c * l ≤ maxLength
 once-most c l a b = let z : c * l ≤ 1 * l = mul-le-mul-right l a in omega arith
@@ -52,7 +46,8 @@ chain-most es n pr rf f d h =
     omega (
       arith,
       length-occurs es pr rf d h,
-      total-most (length es) (λ c. occurs c ds * lengthAt es c)
+      total-const (length es) maxLength,
+      total-le (length es) (λ c. occurs c ds * lengthAt es c) (λ c. maxLength)
           (λ c l. once-most (occurs c ds) (lengthAt es c) (o .distinct c) (f c l .most-length)),
     )
 
@@ -73,7 +68,7 @@ reach-part es d v = go (eqb ((edgeAt es d) .first) v)
     ahead = map afterOf (onwards es d ((edgeAt es d) .second))
 
     whole : sum (lengthsOf es (reverse behind ++ (d ∷ ahead))) ≡ sum (lengthsOf es behind) + (lengthAt es d + sum (lengthsOf es ahead))
-    whole = omega (arith, sum-append es (reverse behind) (d ∷ ahead), sum-reverse es behind)
+    whole = sum-around es behind d ahead
 
     go : (b : Bool) → lengthVia es d (if b then (edgeAt es d) .second else (edgeAt es d) .first) ≤ sum (lengthsOf es (reverse behind ++ (d ∷ ahead)))
     go true = omega (arith, whole)
@@ -95,16 +90,12 @@ unfolding attach
 attach-blocks blocks d [] path m = omega arith
 attach-blocks blocks d (u ∷ us) path m = omega arith
 
-either : (b : Bool) (x y : Labelling) (n : ℕ) → x .blocks ≤ n → y .blocks ≤ n → (if b then x else y) .blocks ≤ n
-either true x y n h k = h
-either false x y n h k = k
-
 case-blocks : (c : Case) (es : List Edge) (e : Edge) (blocks : ℕ) (m : Marks) → (labelCase c es e blocks m) .blocks ≤ blocks + 1
 unfolding labelCase merge extend
 case-blocks newChain es e blocks m = omega arith
 case-blocks (extends x) es e blocks m = attach-blocks blocks _ _ _ m
 case-blocks merges es e blocks m =
-    either (leb (innerCount es (e .second)) (innerCount es (e .first))) _ _ (blocks + 1)
+    if-either (λ (l : Labelling). l .blocks ≤ blocks + 1) (leb (innerCount es (e .second)) (innerCount es (e .first))) _ _
     (attach-blocks blocks _ _ _ m) (attach-blocks blocks _ _ _ m)
 case-blocks (splitExtends x) es e blocks m = attach-blocks blocks _ _ _ _
 case-blocks (splitNew x) es e blocks m = omega arith
@@ -117,15 +108,15 @@ few-empty : FewBlocks empty
 unfolding empty
 few-empty = omega arith
 
-few-vertex : (r r′ : Register) → FewBlocks r → Added r r′ → FewBlocks r′
+few-vertex : (r : Register) → FewBlocks r → r .vertices < maxVertices → FewBlocks (withVertex r)
 unfolding withVertex
-few-vertex r r′ h a = subst (λ (s : Register). FewBlocks s) (a .result) h
+few-vertex r h a = h
 
-few-edge : (r : Register) (e : Edge) (r′ : Register) → FewBlocks r → Accepted r e r′ → FewBlocks r′
+few-edge : (r : Register) (e : Edge) → FewBlocks r → Accepted r e → FewBlocks (withEdge r e)
 unfolding withEdge labelEdge
-few-edge r e r′ h a =
+few-edge r e h a =
     let b = case-blocks (caseAt (r .edges) e) (r .edges) e (r .blocks) (marksOf r) in
-    subst (λ (s : Register). FewBlocks s) (a .result) (omega (arith, b, length-new (r .edges) e, h))
+    omega (arith, b, length-new (r .edges) e, h)
 
 pub blocks-small : (r : Register) → Reachable r → r .blocks ≤ length (r .edges)
 blocks-small r k = reachable-keeps (λ s. FewBlocks s) few-empty few-vertex few-edge r k

@@ -6,24 +6,25 @@ use mathlib.Core.Bool.{Bool, true, false}
 use mathlib.Core.List.{List, [], _∷_, _++_}
 use lib.ListN.{length, take, drop}
 use lib.Seq.{take-append-seam, drop-append-seam}
-use borrow.Author.Tests.{lt-ltb}
 use Rattle.model.specs.Basics.{floorLog, if_then_else_, sum}
 use Rattle.model.specs.Graph.{isRegular}
 use Rattle.model.specs.Register.{Register, empty, labelOf}
 use Rattle.model.specs.Distance.{distance}
-use Rattle.model.specs.Queries.{Reply, find, listed, measure, measured, refuses, sheet, sheetNumbers}
+use Rattle.model.specs.Queries.{Reply, find, listed, refuses, sheet, sheetNumbers}
 use Rattle.model.specs.Tables.{Stored, Tables, countsOf, edgeLengths, fits, storedOf}
 use Rattle.model.specs.Calls.{Call, Effect, Outcome, answers, effect, finds, measures, sheetEffect, sheets}
 use Rattle.model.specs.Series.{AtEnd, Demand3, DistanceAnswer, FindsOwn, Landing, Made, SheetAnswer, after, afterCall, landedEdges, lengthColumn, makes, series, since}
+use Rattle.model.specs.Notions.{Reachable}
 use Rattle.model.proofs.Walks.Degree.{Proper}
 use Rattle.model.proofs.Walks.RingFree.{RingFree}
 use Rattle.model.proofs.Chains.Sheet.{sheet-sum, sheet-length, sheet-into}
 use Rattle.model.proofs.Distances.Distance.{is-distance}
 use Rattle.model.proofs.Distances.Hops.{chains-distance, loose-distance}
 use Rattle.model.proofs.Series.Labelled.{labelled-bound}
-use Rattle.model.proofs.Series.Answers.{finds-chain}
+use Rattle.model.proofs.Series.Answers.{finds-chain, measure-is}
 use Rattle.model.proofs.Series.Told.{Told, told, edges-count}
-use Rattle.model.proofs.Series.Facts.{Kept, kept-empty, kept-made, kept-after, kept-held, start-is, outcomeOf, makes-fits, makes-refused}
+use Rattle.model.proofs.Series.Kept.{Kept, kept-held, start-is, outcomeOf, makes-fits, makes-refused}
+use Rattle.model.proofs.Series.Reachable.{kept, reachable-after, reachable-empty}
 
 -- ---- a series does to what is stored what it does to the register
 
@@ -42,16 +43,12 @@ makes-does m r k = go (fits (m .scratch)) refl
         let e = makes-refused m r k f in
         (ap (λ (o : Outcome). o .lent .stored) e, ap (λ (o : Outcome). o .reply) e)
 
-series-is : (ms : List Made) (r : Register) → Kept r → series ms (storedOf r) ≡ storedOf (after ms r)
+series-is : (ms : List Made) (r : Register) → Reachable r → series ms (storedOf r) ≡ storedOf (after ms r)
 unfolding series after
 series-is [] r k = refl
-series-is (m ∷ ms) r k = rw ((makes-does m r k) .0) (series-is ms (afterCall m r) (kept-made m r k))
+series-is (m ∷ ms) r k = rw ((makes-does m r (kept r k)) .0) (series-is ms (afterCall m r) (reachable-after (m ∷ []) r k))
 
 -- ---- the facts of one register
-
-pub measure-is : (r : Register) (v w : ℕ) → v < r .vertices → w < r .vertices → measure r v w ≡ measured (distance (r .edges) v w)
-unfolding measure
-measure-is r v w a b = rw (lt-ltb v (r .vertices) a, lt-ltb w (r .vertices) b)
 
 module _ (r : Register) (k : Kept r) where
   proper : Proper (r .edges)
@@ -143,5 +140,5 @@ pub demand3 : Demand3
 unfolding Demand3
 demand3 ms =
     subst (λ (s : Stored). AtEnd s (after ms empty) (since ms empty []))
-    (sym (ap (λ (s : Stored). series ms s) start-is ∙ series-is ms empty kept-empty))
-    (facts (after ms empty) (kept-after ms) (since ms empty []) (told ms))
+    (sym (ap (λ (s : Stored). series ms s) start-is ∙ series-is ms empty reachable-empty))
+    (facts (after ms empty) (kept _ (reachable-after ms empty reachable-empty)) (since ms empty []) (told ms))

@@ -9,7 +9,7 @@ use mathlib.Core.List.{List, [], _∷_, _++_}
 use lib.ListN.{length}
 use borrow.Author.Tests.{eqb-true, eqb-false, eq-eqb, ne-eqb}
 use Rattle.model.specs.Graph.{Edge, degree, endsAt, incidentFrom, isRegular, same}
-use Rattle.model.proofs.Walks.Counting.{same-eq, same-ne}
+use Rattle.model.proofs.Basics.Counting.{same-eq, same-ne}
 
 -- one edge more
 pub degree-snoc : (es : List Edge) (p : Edge) (f : ℕ) → degree (es ++ (p ∷ [])) f ≡ degree es f + endsAt f p
@@ -29,6 +29,13 @@ is-two es v e = eqb-true (degree es v) 2 e
 pub two-is : (es : List Edge) (v : ℕ) → degree es v ≡ 2 → isRegular es v ≡ true
 unfolding isRegular
 two-is es v e = eq-eqb (degree es v) 2 e
+
+pub not-regular : (es : List Edge) (v : ℕ) → degree es v ≢ 2 → isRegular es v ≡ false
+unfolding isRegular
+not-regular es v n = ne-eqb (degree es v) 2 n
+
+pub leaf-singular : (es : List Edge) (v : ℕ) → degree es v ≡ 1 → isRegular es v ≡ false
+leaf-singular es v h = not-regular es v (λ e. omega arith)
 
 -- every edge joins two different vertices
 abbrev pub Proper : List Edge → Type 0
@@ -102,3 +109,16 @@ length-incidentFrom at (p ∷ es) f h = go (zero-or-one (endsAt f p) (endsAt-le 
     go : (endsAt f p ≡ 0) ⊎ (endsAt f p ≡ 1) → length (incidentFrom (suc at) es f) ≡ degree es f → length (incidentFrom at (p ∷ es) f) ≡ endsAt f p + degree es f
     go (inl e) i = rw (incidentFrom-skip at p es f e) (omega arith)
     go (inr e) i = rw (incidentFrom-take at p es f e) (omega arith)
+
+-- a vertex that is not an end of the edge
+pub no-end : (p : Edge) (v : ℕ) → p .first ≢ p .second → endsAt v p ≢ 1 → endsAt v p ≡ 0
+no-end p v d n = omega (arith, endsAt-le v p d)
+
+-- .. such as a regular one, where both ends are leaves
+pub regular-no-end : (es : List Edge) (p : Edge) (x y v : ℕ) → p .first ≢ p .second → endsAt x p ≡ 1 → endsAt y p ≡ 1 → x ≢ y → degree es x ≡ 1 → degree es y ≡ 1 → degree es v ≡ 2
+    → endsAt v p ≡ 0
+regular-no-end es p x y v d ox oy xy cx cy c = no-end p v d (λ o. go (two-ends p x y v ox oy xy o))
+  where
+    go : (v ≡ x) ⊎ (v ≡ y) → ⊥
+    go (inl q) = let z : degree es x ≡ 2 = rw q at c in omega arith
+    go (inr q) = let z : degree es y ≡ 2 = rw q at c in omega arith

@@ -8,10 +8,9 @@ use mathlib.Core.List.{List, [], _∷_, _++_}
 use lib.ListN.{length}
 use Rattle.model.specs.Graph.{Edge, degree, endsAt, far, isRegular, turn}
 use Rattle.model.proofs.Walks.Degree.{Proper, degree-snoc, is-two, two-is, proper-snoc}
-use Rattle.model.proofs.Walks.Turn.{At, two-edges}
+use Rattle.model.proofs.Walks.Turn.{At, two-edges, turn-between}
 use Rattle.model.proofs.Walks.NewEdge.{at-new, at-last}
-use Rattle.model.proofs.Walks.Ended.{other-end}
-use Rattle.model.proofs.Walks.RingFree.{turn-between}
+use Rattle.model.proofs.Walks.Joins.{other-end}
 
 pub record NewTurn (es : List Edge) (p : Edge) (v e : ℕ) : Type 0 where
   pub regular : isRegular (es ++ (p ∷ [])) v ≡ true

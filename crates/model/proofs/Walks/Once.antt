@@ -1,17 +1,16 @@
 -- A walk that ends passes no regular vertex twice, and what shares an edge with one of its vertices stands beside it.
 use mathlib.Core.Path.{_≡_, refl, sym, ap, _∙_, subst}
-use mathlib.Core.Logic.{_≢_, _⊎_, inl, inr}
+use mathlib.Core.Logic.{_≢_}
 use Prim.Native.Nat.{ℕ, zero, suc}
 use native.Mathlib.Decide.{ℕ-discrete}
 use mathlib.Core.Bool.{true, false}
 use mathlib.Core.List.{List, _∷_, List·Memᴰ as Mem, List·Memᴰ·head as at-head, List·Memᴰ·tail as in-tail}
 use Rattle.model.specs.Graph.{Edge, Pass, afterOf, far, isRegular, turn}
 use Rattle.model.proofs.Walks.Degree.{Proper, is-two}
-use Rattle.model.proofs.Walks.Turn.{At, TwoEdges, two-edges}
-use Rattle.model.proofs.Walks.Trail.{Trail, done, pass}
-use Rattle.model.proofs.Chains.Lines.{afters}
-use Rattle.model.proofs.Walks.Ended.{Next, next-edge, other-end, fresh}
-use Rattle.model.proofs.Walks.RingFree.{turn-between}
+use Rattle.model.proofs.Walks.Turn.{At, TwoEdges, two-edges, turn-between}
+use Rattle.model.proofs.Walks.Trail.{Trail, done, pass, Next, next-edge, afters, Front, front, first, nothing}
+use Rattle.model.proofs.Walks.Joins.{other-end}
+use Rattle.model.proofs.Walks.Ended.{fresh}
 use Rattle.model.proofs.Labels.Following.{Ith, here, later}
 
 -- ---- a walk that ends passes no regular vertex twice
@@ -83,16 +82,6 @@ pub data Nearby (path : List Pass) (e f z i c w : ℕ) (s : Pass) : Type 0 where
   at-end : w ≡ z → Nearby path e f z i c w s
 
 module _ (es : List Edge) (pr : Proper es) where
-  record FirstOf (path : List Pass) (t f z : ℕ) : Type 0 where
-    first-pass : Pass
-    ith : Ith first-pass 0 path
-    at-is : first-pass .at ≡ f
-    before-is : first-pass .before ≡ t
-
-  first-of : {t f q z : ℕ} {ss : List Pass} → Trail es t f ss q z → FirstOf ss t f z ⊎ (f ≡ z)
-  first-of done = inr refl
-  first-of (pass t c e u) = inl (record { first-pass = _; ith = here; at-is = refl; before-is = refl })
-
   lift : (s₀ : Pass) (ss : List Pass) (e f t f′ z i c w : ℕ) (s : Pass) → s₀ .at ≡ f′ → s₀ .after ≡ t → Nearby ss t f′ z i c w s → Nearby (s₀ ∷ ss) e f z (suc i) c w s
   lift s₀ ss e f t f′ z i c w s a b (itself q) = itself q
   lift s₀ ss e f t f′ z i c w s a b (ahead o j q r k) = ahead o (later j) q r k
@@ -112,9 +101,9 @@ module _ (es : List Edge) (pr : Proper es) where
       now : Pass
       now = record { before = e; at = f; after = t }
 
-      last : FirstOf ss t (far es t f) z ⊎ (far es t f ≡ z) → c ≡ t → w ≡ far es t f → Nearby (now ∷ ss) e (far es e f) z 0 c w now
-      last (inl r) y x = ahead (r .first-pass) (later (r .ith)) (r .at-is ∙ sym x) (r .before-is ∙ sym y) (sym y)
-      last (inr y) k x = at-end (x ∙ y)
+      last : Front es t (far es t f) ss z → c ≡ t → w ≡ far es t f → Nearby (now ∷ ss) e (far es e f) z 0 c w now
+      last (first r rest l b a k) y x = ahead r (rw l (later here)) (a ∙ sym x) (b ∙ sym y) (sym y)
+      last (nothing l y) k x = at-end (x ∙ y)
 
       go : Dec (w ≡ f) → Dec (c ≡ e) → Nearby (now ∷ ss) e (far es e f) z 0 c w now
       go (yes x) y = itself x
@@ -123,7 +112,7 @@ module _ (es : List Edge) (pr : Proper es) where
           let ct : turn es e f ≡ c = turn-between es f e c (two-edges es f pr (is-two es f k)) a b (λ g. y (sym g)) in
           let c-is : c ≡ t = sym ct ∙ tn in
           let d′ : At es w t = rw c-is at d in
-          last (first-of u) c-is (other-end es t f w pr (nx .at) d′ x)
+          last (front u) c-is (other-end es t f w pr (nx .at) d′ x)
   nearby {e} {f} {q} {z} a (pass {ss = ss} t k tn u) (suc i) s (later j) c w b d =
       let nx : Next es e f t = next-edge es e f t pr a k tn in
       let r : Nearby ss t (far es t (far es t f)) z i c w s = nearby (nx .across .at) u i s j c w b d in

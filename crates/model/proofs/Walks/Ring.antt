@@ -1,28 +1,27 @@
--- A ring of regular vertices: where every walk ends there is none, and the edge that the ring test refuses would close one.
+-- A ring of regular vertices: where every walk ends there is none, and the ring test refuses just the edges that would close one.
 use mathlib.Core.Path.{_≡_, refl, sym, ap, _∙_, subst}
 use mathlib.Core.Logic.{_≢_, _⊎_, inl, inr}
 use Prim.Native.Nat.{ℕ, _≤_}
 use native.Mathlib.Omega.{arith}
-use mathlib.Core.Bool.{true, _&&_}
+use mathlib.Core.Bool.{true, _&&_, true≢false, false}
 use mathlib.Core.List.{List, [], _∷_, _++_}
 use lib.ListN.{length, length-append}
 use lib.Dec.{eqb}
-use borrow.Author.Tests.{eqb-true}
-use Rattle.model.specs.Graph.{Edge, Pass, degree, endOnwards, endsAt, far, isLeaf, onlyEdge, onwards, walk}
+use borrow.Author.Tests.{eqb-true, eq-eqb}
+use Rattle.model.specs.Graph.{Edge, Pass, degree, endOnwards, endsAt, far, isLeaf, onlyEdge, onwards, walk, isRegular, endOf}
 use Rattle.model.specs.Cases.{closesRing}
 use Rattle.model.specs.Notions.{Ring, ontoOf}
-use Rattle.model.proofs.Basics.Booleans.{and-true}
-use Rattle.model.proofs.Walks.Degree.{Proper, end-cases, end-first, end-second, endsAt-le, zero-or-one}
-use Rattle.model.proofs.Walks.Turn.{At}
-use Rattle.model.proofs.Walks.Trail.{Trail, done, pass, trail-append, walk-on, walked, across, Across}
-use Rattle.model.proofs.Walks.Snoc.{trail-old, far-old}
+use Rattle.model.proofs.Basics.Booleans.{and-true, and-intro}
+use Rattle.model.proofs.Walks.Degree.{Proper, end-cases, end-first, end-second, leaf-singular, regular-no-end}
+use Rattle.model.proofs.Walks.Turn.{At, OneEdge, one-edge, onlyEdge-is}
+use Rattle.model.proofs.Walks.Joins.{across, Across}
+use Rattle.model.proofs.Walks.Trail.{Trail, done, pass, trail-append, walk-on, walked, trail-at, trail-endOf, backwards, trail-walk, trail-back}
+use Rattle.model.proofs.Walks.Snoc.{trail-old, far-old, trail-clear}
 use Rattle.model.proofs.Walks.NewEdge.{at-last}
-use Rattle.model.proofs.Walks.Ended.{trail-unique}
-use Rattle.model.proofs.Walks.RingFree.{RingFree, OneEdge, one-edge}
-use Rattle.model.proofs.Walks.Rings.{trail-endOf, onlyEdge-is}
-use Rattle.model.proofs.Chains.Lines.{trail-at}
-use Rattle.model.proofs.Labels.Inwards.{Inward, inward-on, trail-clear}
+use Rattle.model.proofs.Walks.Ended.{trail-unique, trail-short}
+use Rattle.model.proofs.Walks.RingFree.{RingFree}
 use Rattle.model.proofs.Walks.NewTurn.{NewTurn, new-turn, far-last}
+use Rattle.model.proofs.Walks.Whole.{Onwards, onwards-ends}
 
 -- ---- a ring is a trail that comes back
 
@@ -38,7 +37,7 @@ trail-steps done = refl
 trail-steps {es} {p} {f} (pass {ss = ss} t c e u) =
     walk-on (length ss) es p f c ∙ rw e (ap (λ (l : List Pass). record { before = p; at = f; after = t } ∷ l) (trail-steps u))
 
-pub ring-of-trail : {es : List Edge} {p f : ℕ} {ss : List Pass} → At es f p → Trail es p f ss p f → 1 ≤ length ss → Ring es
+ring-of-trail : {es : List Edge} {p f : ℕ} {ss : List Pass} → At es f p → Trail es p f ss p f → 1 ≤ length ss → Ring es
 ring-of-trail {es} {p} {f} {ss} a u h =
     record {
       edge = p;
@@ -52,7 +51,7 @@ ring-of-trail {es} {p} {f} {ss} a u h =
       same-vertex = rw (trail-steps u) (trail-endOf u);
     }
 
-pub trail-of-ring : (es : List Edge) (k : Ring es) → Trail es (k .edge) (k .vertex) (walk (k .steps) es (k .edge) (k .vertex)) (k .edge) (k .vertex)
+trail-of-ring : (es : List Edge) (k : Ring es) → Trail es (k .edge) (k .vertex) (walk (k .steps) es (k .edge) (k .vertex)) (k .edge) (k .vertex)
 trail-of-ring es k =
     let w = walked (k .steps) es (k .edge) (k .vertex) in
     let ss = walk (k .steps) es (k .edge) (k .vertex) in
@@ -70,6 +69,36 @@ ring-none es rf k =
     let n : length (ss ++ r .passes) ≡ length (r .passes) =
     ap length (trail-unique (trail-append (trail-of-ring es k) (r .trail)) (r .singular) (r .trail) (r .singular)) in
     omega (arith, n, length-append ss (r .passes), k .all-regular, k .some-steps)
+
+-- ---- an edge that the test lets pass closes none
+
+-- a walk of enough steps along a trail to a singular vertex ends there
+walk-ends : {es : List Edge} {p f q g : ℕ} {ss : List Pass} (n : ℕ) → Trail es p f ss q g → isRegular es g ≡ false → length ss ≤ n → endOf es f (walk n es p f) ≡ g
+walk-ends n u j h = rw (trail-walk n u j h) (trail-endOf u)
+
+module _ (es : List Edge) (pr : Proper es) where
+  -- a walk from one leaf to the other is what the test finds
+  ring-found : (a b e q : ℕ) (ss : List Pass) → degree es a ≡ 1 → degree es b ≡ 1 → At es a e → Trail es e (far es e a) ss q b → closesRing es a b ≡ true
+  unfolding closesRing isLeaf endOnwards onwards
+  ring-found a b e q ss ha hb at u =
+      let x = across es e a pr at in
+      let j = leaf-singular es b hb in
+      and-intro (and-intro (eq-eqb (degree es a) 1 ha) (eq-eqb (degree es b) 1 hb))
+      (rw (onlyEdge-is es a e pr ha at) (eq-eqb _ b (walk-ends _ u j (omega (arith, trail-short es pr (x .at) u j)))))
+
+pub no-ring : (es : List Edge) (n : Edge) → Proper es → closesRing es (n .first) (n .second) ≡ false
+    → (x y e q : ℕ) (ss : List Pass) → endsAt x n ≡ 1 → endsAt y n ≡ 1 → degree es x ≡ 1 → degree es y ≡ 1
+    → At es y e → Trail es e (far es e y) ss q x → x ≢ y → ⊥
+no-ring es n pr t x y e q ss ox oy hx hy a u d = go (end-cases n x ox) (end-cases n y oy)
+  where
+    back : Trail es q (far es q x) (backwards ss) e y
+    back = let c = across es e y pr a in rw (c .again) at (trail-back pr (c .at) u)
+
+    go : (n .first ≡ x) ⊎ (n .second ≡ x) → (n .first ≡ y) ⊎ (n .second ≡ y) → ⊥
+    go (inl i) (inl k) = d (sym i ∙ k)
+    go (inr i) (inr k) = d (sym i ∙ k)
+    go (inr i) (inl k) = true≢false (sym (rw (i, k) (ring-found es pr y x e q ss hy hx a u)) ∙ t)
+    go (inl i) (inr k) = true≢false (sym (rw (i, k) (ring-found es pr x y q e (backwards ss) hx hy (trail-at pr ((across es e y pr a) .at) u) back)) ∙ t)
 
 -- ---- the edge that the test refuses closes one
 
@@ -108,34 +137,26 @@ module _ (es : List Edge) (n : Edge) (pr : Proper es) (rf : RingFree es) (d : n 
       e : ℕ
       e = one .edge
 
-      w : Inward es a e (onwards es e (far es e a))
-      w = inward-on es pr rf a e (one .at)
+      x : Across es e a
+      x = across es e a pr (one .at)
+
+      w : Onwards es e (far es e a)
+      w = onwards-ends es pr rf e (far es e a) (x .at)
 
       ss : List Pass
       ss = onwards es e (far es e a)
 
       to-b : w .to ≡ b
-      to-b = sym (trail-endOf (w .trail)) ∙ rw (onlyEdge-is es a e pr (h .a-leaf) (one .at)) at (h .arrives)
+      to-b = sym (w .ends-at) ∙ rw (onlyEdge-is es a e pr (h .a-leaf) (one .at)) at (h .arrives)
 
       inside : Trail es e (far es e a) ss (w .onto) b
       inside = subst (λ (z : ℕ). Trail es e (far es e a) ss (w .onto) z) to-b (w .trail)
 
-      x : Across es e a
-      x = across es e a pr (one .at)
-
       at-b : At es b (w .onto)
       at-b = trail-at pr (x .at) inside
 
-      no-leaf : (v : ℕ) → degree es v ≡ 2 → (endsAt v n ≡ 0) ⊎ (endsAt v n ≡ 1) → endsAt v n ≡ 0
-      no-leaf v two (inl z) = z
-      no-leaf v two (inr o) = absurd (leaf (end-cases n v o))
-        where
-          leaf : (a ≡ v) ⊎ (b ≡ v) → ⊥
-          leaf (inl q) = let z : degree es v ≡ 1 = rw q at (h .a-leaf) in omega arith
-          leaf (inr q) = let z : degree es v ≡ 1 = rw q at (h .b-leaf) in omega arith
-
       clear : (v : ℕ) → degree es v ≡ 2 → endsAt v n ≡ 0
-      clear v two = no-leaf v two (zero-or-one (endsAt v n) (endsAt-le v n d))
+      clear v two = regular-no-end es n a b v d (end-first n d) (end-second n d) d (h .a-leaf) (h .b-leaf) two
 
       inside-new : Trail new e (far new e a) ss (w .onto) b
       inside-new = rw (far-old es n e a (one .at .inside)) (trail-old n pr (x .at) (trail-clear n clear inside) inside)

@@ -5,11 +5,11 @@ use Prim.Native.Nat.{ℕ, suc, _<_}
 use native.Mathlib.Omega.{arith}
 use mathlib.Core.List.{List, [], _∷_, _++_}
 use lib.ListN.{length, List·getD-append}
-use borrow.Author.Tests.{eqb-true}
 use Rattle.model.specs.Graph.{Edge, Pass, degree, edgeAt, endsAt, far, incident, incidentFrom, isRegular, noEdge, turn}
-use Rattle.model.proofs.Walks.Degree.{Proper, degree-snoc, endsAt-le, zero-or-one, incidentFrom-skip, incidentFrom-take}
-use Rattle.model.proofs.Walks.Turn.{At, turned, Turned, two-edges}
-use Rattle.model.proofs.Walks.Trail.{Trail, done, pass, Across, across}
+use Rattle.model.proofs.Walks.Degree.{Proper, degree-snoc, endsAt-le, zero-or-one, incidentFrom-skip, incidentFrom-take, is-two}
+use Rattle.model.proofs.Walks.Turn.{At}
+use Rattle.model.proofs.Walks.Joins.{across}
+use Rattle.model.proofs.Walks.Trail.{Trail, done, pass, Next, next-edge}
 
 module _ (es : List Edge) (n : Edge) where
   abbrev new : List Edge
@@ -49,13 +49,14 @@ abbrev pub Clear : Edge → List Pass → Type 0
 Clear n [] = Unit {0}
 Clear n (s ∷ ss) = (endsAt (s .at) n ≡ 0) × Clear n ss
 
+pub trail-clear : {es : List Edge} {q f r g : ℕ} {ss : List Pass} (n : Edge) → ((v : ℕ) → degree es v ≡ 2 → endsAt v n ≡ 0) → Trail es q f ss r g → Clear n ss
+trail-clear n off done = tt
+trail-clear {es} n off (pass t c tn u) = (off _ (is-two es _ c), trail-clear n off u)
+
 pub trail-old : {es : List Edge} {p f q g : ℕ} {ss : List Pass} (n : Edge) → Proper es → At es f p → Clear n ss → Trail es p f ss q g
     → Trail (es ++ (n ∷ [])) p f ss q g
-unfolding isRegular
 trail-old n pr a c done = done
 trail-old {es} {p} {f} {q} {g} n pr a c (pass {ss = ss} t k e u) =
-    let tu : Turned es f p = turned es f p (two-edges es f pr (eqb-true _ _ k)) a in
-    let at : At es f t = rw e at (tu .at) in
-    let x : Across es t f = across es t f pr at in
-    let v : Trail (es ++ (n ∷ [])) t (far (es ++ (n ∷ [])) t f) ss q g = rw (far-old es n t f (at .inside)) (trail-old n pr (x .at) (c .1) u) in
+    let nx : Next es p f t = next-edge es p f t pr a k e in
+    let v : Trail (es ++ (n ∷ [])) t (far (es ++ (n ∷ [])) t f) ss q g = rw (far-old es n t f (nx .at .inside)) (trail-old n pr (nx .across .at) (c .1) u) in
     pass t (regular-old es n f (c .0) ∙ k) (turn-old es n f p pr (c .0) ∙ e) v

@@ -1,65 +1,16 @@
--- A walk as data, a trail: trails can be joined and walked back, and a trail that ends is the computed walk.
-use mathlib.Core.Path.{_≡_, refl, sym, ap, _∙_}
+-- A walk as data, a trail: trails can be joined, walked back and cut, and a trail that ends is the computed walk.
+use mathlib.Core.Path.{_≡_, refl, ap, _∙_, sym}
 use mathlib.Core.Logic.{_≢_, _⊎_, inl, inr}
-use Prim.Native.Nat.{ℕ, zero, suc, _+_, _≤_, _<_}
+use Prim.Native.Nat.{ℕ, zero, suc, _≤_}
 use native.Mathlib.Nat.{not-suc-le-zero}
 use native.Mathlib.Omega.{arith}
-use native.Mathlib.Decide.{ℕ-discrete}
 use mathlib.Core.Bool.{Bool, true, false}
-use mathlib.Core.List.{List, [], _∷_, _++_}
+use mathlib.Core.List.{List, [], _∷_, _++_, map, reverse, map-append, List·Memᴰ as Mem, List·Memᴰ·cases-cons as mem-cases, List·Memᴰ·not-nil as mem-nil, reverse-cons}
 use lib.ListN.{length, length-append}
-use borrow.Author.Tests.{eqb-true, eq-eqb, ne-eqb}
-use Rattle.model.specs.Graph.{Edge, Pass, edgeAt, endsAt, far, isRegular, same, turn, walk}
-use Rattle.model.proofs.Walks.Counting.{same-eq, same-ne}
-use Rattle.model.proofs.Walks.Degree.{Proper}
-use Rattle.model.proofs.Walks.Turn.{At, TwoEdges, two-edges, Turned, turned}
-
-pub proper-at : (es : List Edge) (p : ℕ) → Proper es → p < length es → (edgeAt es p) .first ≢ (edgeAt es p) .second
-unfolding edgeAt
-proper-at [] p pr h = absurd (not-suc-le-zero h)
-proper-at (q ∷ es) zero pr h = pr .0
-proper-at (q ∷ es) (suc p) pr h = proper-at es p (pr .1) (omega arith)
-
--- the other end of an edge: it lies there too, and its other end is this one
-pub record Across (es : List Edge) (p f : ℕ) : Type 0 where
-  pub at : At es (far es p f) p
-  pub again : far es p (far es p f) ≡ f
-
-pub far-first : (es : List Edge) (p f : ℕ) → (edgeAt es p) .first ≡ f → far es p f ≡ (edgeAt es p) .second
-unfolding far
-far-first es p f e = rw (eq-eqb ((edgeAt es p) .first) f e)
-
-pub far-second : (es : List Edge) (p f : ℕ) → (edgeAt es p) .first ≢ f → far es p f ≡ (edgeAt es p) .first
-unfolding far
-far-second es p f h = rw (ne-eqb ((edgeAt es p) .first) f h)
-
-pub across : (es : List Edge) (p f : ℕ) → Proper es → At es f p → Across es p f
-unfolding endsAt
-across es p f pr a = go (ℕ-discrete (q .first) f) (ℕ-discrete (q .second) f)
-  where
-    q : Edge
-    q = edgeAt es p
-
-    differ : q .first ≢ q .second
-    differ = proper-at es p pr (a .inside)
-
-    ends : same (q .first) f + same (q .second) f ≡ 1
-    ends = a .meets
-
-    go : Dec (q .first ≡ f) → Dec (q .second ≡ f) → Across es p f
-    go (yes e) d =
-        let h : far es p f ≡ q .second = far-first es p f e in
-        record {
-          at = rw h (record { inside = a .inside; meets = omega (arith, same-ne (q .first) (q .second) differ, same-eq (q .second) (q .second) refl) });
-          again = rw h (far-second es p (q .second) differ ∙ e);
-        }
-    go (no n) (yes e) =
-        let h : far es p f ≡ q .first = far-second es p f n in
-        record {
-          at = rw h (record { inside = a .inside; meets = omega (arith, same-eq (q .first) (q .first) refl, same-ne (q .second) (q .first) (λ x. differ (sym x))) });
-          again = rw h (far-first es p (q .first) refl ∙ e);
-        }
-    go (no n) (no m) = absurd (omega (arith, ends, same-ne (q .first) f n, same-ne (q .second) f m))
+use Rattle.model.specs.Graph.{Edge, Pass, far, isRegular, turn, walk, endOf, afterOf}
+use Rattle.model.proofs.Walks.Degree.{Proper, is-two}
+use Rattle.model.proofs.Walks.Turn.{At, two-edges, Turned, turned}
+use Rattle.model.proofs.Walks.Joins.{Across, across}
 
 -- Coming along edge p to vertex f and passing the regular vertices `ss`, one is on edge q and comes to vertex g.
 pub data Trail (es : List Edge) : ℕ → ℕ → List Pass → ℕ → ℕ → Type 0 where
@@ -70,6 +21,38 @@ pub data Trail (es : List Edge) : ℕ → ℕ → List Pass → ℕ → ℕ → 
 pub trail-append : {es : List Edge} {p f q g r h : ℕ} {ss ts : List Pass} → Trail es p f ss q g → Trail es q g ts r h → Trail es p f (ss ++ ts) r h
 trail-append done v = v
 trail-append (pass t c e u) v = pass t c e (trail-append u v)
+
+-- what a trail begins with
+pub data Front (es : List Edge) (d v : ℕ) (ss : List Pass) (z : ℕ) : Type 0 where
+  nothing : ss ≡ [] → v ≡ z → Front es d v ss z
+  first : (s : Pass) (rest : List Pass) → ss ≡ s ∷ rest → s .before ≡ d → s .at ≡ v → isRegular es v ≡ true → Front es d v ss z
+
+pub front : {es : List Edge} {d v q z : ℕ} {ss : List Pass} → Trail es d v ss q z → Front es d v ss z
+front done = nothing refl refl
+front (pass t c e u) = first _ _ refl refl refl c
+
+-- the next edge of a regular vertex, with its facts
+pub record Next (es : List Edge) (p f t : ℕ) : Type 0 where
+  pub at : At es f t
+  pub other : t ≢ p
+  pub again : turn es t f ≡ p
+  pub across : Across es t f
+
+pub next-edge : (es : List Edge) (p f t : ℕ) → Proper es → At es f p → isRegular es f ≡ true → turn es p f ≡ t → Next es p f t
+next-edge es p f t pr a c e =
+    let tu : Turned es f p = turned es f p (two-edges es f pr (is-two es f c)) a in
+    let at : At es f t = rw e at (tu .at) in
+    record { at = at; other = rw e at (tu .other); again = rw e at (tu .again); across = across es t f pr at }
+
+-- at the end of a trail one is at the end of its last edge
+pub trail-at : {es : List Edge} {p f q g : ℕ} {ss : List Pass} → Proper es → At es f p → Trail es p f ss q g → At es g q
+trail-at pr a done = a
+trail-at {es} {p} {f} pr a (pass t c e u) = trail-at pr ((next-edge es p f t pr a c e) .across .at) u
+
+pub trail-endOf : {es : List Edge} {p f q g : ℕ} {ss : List Pass} → Trail es p f ss q g → endOf es f ss ≡ g
+unfolding endOf
+trail-endOf done = refl
+trail-endOf (pass t c e u) = trail-endOf u
 
 unfoldable pub flip : Pass → Pass
 flip s = record { before = s .after; at = s .at; after = s .before }
@@ -82,15 +65,27 @@ backwards (s ∷ ss) = backwards ss ++ (flip s ∷ [])
 
 pub trail-back : {es : List Edge} {p f q g : ℕ} {ss : List Pass} → Proper es → At es f p → Trail es p f ss q g
     → Trail es q (far es q g) (backwards ss) p (far es p f)
-unfolding backwards flip isRegular
+unfolding backwards flip
 trail-back pr a done = done
 trail-back {es} {p} {f} pr a (pass t c e u) =
-    let two : TwoEdges es f = two-edges es f pr (eqb-true _ _ c) in
-    let tu : Turned es f p = turned es f p two a in
-    let at : At es f t = rw e at (tu .at) in
-    let x : Across es t f = across es t f pr at in
-    let back : turn es t f ≡ p = rw e at (tu .again) in
-    trail-append (trail-back pr (x .at) u) (rw (x .again) (pass p c back done))
+    let nx : Next es p f t = next-edge es p f t pr a c e in
+    trail-append (trail-back pr (nx .across .at) u) (rw (nx .across .again) (pass p c (nx .again) done))
+
+pub length-backwards : (ss : List Pass) → length (backwards ss) ≡ length ss
+unfolding backwards
+length-backwards [] = refl
+length-backwards (s ∷ ss) = simp length-append (omega (arith, length-backwards ss))
+
+-- the edges along which a trail goes on, and those of the way back
+unfoldable pub afters : List Pass → List ℕ
+unfolding afterOf
+afters ss = map afterOf ss
+
+pub afters-back : {es : List Edge} {p f q g : ℕ} {ss : List Pass} → Trail es p f ss q g → q ∷ afters (backwards ss) ≡ reverse (p ∷ afters ss)
+unfolding afters backwards flip afterOf
+afters-back done = refl
+afters-back {p = p} {q = q} (pass {ss = ss} t c e u) =
+    simp map-append (ap (λ (l : List ℕ). l ++ (p ∷ [])) (afters-back u) ∙ sym (reverse-cons p (t ∷ map afterOf ss)))
 
 -- the two cases of a step of `walk`
 pub walk-on : (n : ℕ) (es : List Edge) (p f : ℕ) → isRegular es f ≡ true
@@ -136,7 +131,39 @@ walked (suc n) es p f = go (isRegular es f) refl (walked n es (turn es p f) (far
         up (inl j) = inl j
         up (inr e) = inr (ap suc e)
 
-pub length-backwards : (ss : List Pass) → length (backwards ss) ≡ length ss
-unfolding backwards
-length-backwards [] = refl
-length-backwards (s ∷ ss) = simp length-append (omega (arith, length-backwards ss))
+-- where an edge stands on a trail, the trail can be cut
+pub record Cut (es : List Edge) (p f : ℕ) (ss : List Pass) (q g k : ℕ) : Type 0 where
+  pub to : ℕ
+  pub front : List Pass
+  pub rest : List Pass
+  pub parts : ss ≡ front ++ rest
+  pub before : Trail es p f front k to
+  pub behind : Trail es k to rest q g
+
+cut-here : {es : List Edge} {p f q g : ℕ} {ss : List Pass} (k : ℕ) → k ≡ p → Trail es p f ss q g → Cut es p f ss q g k
+cut-here {f = f} {ss = ss} k e u = rw e (record { to = f; front = []; rest = ss; parts = refl; before = done; behind = u })
+
+cut-on : {es : List Edge} {p f q g : ℕ} {ss : List Pass} (k t : ℕ) → isRegular es f ≡ true → turn es p f ≡ t
+    → Cut es t (far es t f) ss q g k → Cut es p f (record { before = p; at = f; after = t } ∷ ss) q g k
+cut-on {p = p} {f = f} k t c e r = record {
+  to = r .to;
+  front = record { before = p; at = f; after = t } ∷ r .front;
+  rest = r .rest;
+  parts = ap (λ (l : List Pass). record { before = p; at = f; after = t } ∷ l) (r .parts);
+  before = pass t c e (r .before);
+  behind = r .behind;
+}
+
+pub cut : {es : List Edge} {p f q g : ℕ} {ss : List Pass} (k : ℕ) → Trail es p f ss q g → Mem k (p ∷ afters ss) → Cut es p f ss q g k
+unfolding afters
+cut {es} {p} {f} k done m = go (mem-cases m)
+  where
+    go : (k ≡ p) ⊎ Mem k [] → Cut es p f [] p f k
+    go (inl e) = cut-here k e done
+    go (inr n) = absurd (mem-nil n)
+cut {es} {p} {f} {q} {g} k (pass {ss = ss} t c e u) m = go (λ n. cut k u n) (mem-cases m)
+  where
+    go : (Mem k (t ∷ afters ss) → Cut es t (far es t f) ss q g k) → (k ≡ p) ⊎ Mem k (t ∷ afters ss)
+        → Cut es p f (record { before = p; at = f; after = t } ∷ ss) q g k
+    go below (inl h) = cut-here k h (pass t c e u)
+    go below (inr n) = cut-on k t c e (below n)

@@ -1,4 +1,4 @@
--- In a list without rings what `onwards` gives is a trail to a singular vertex, of fewer steps than there are edges.
+-- Where every walk ends, what `onwards` gives is a trail to a singular vertex, of fewer steps than there are edges.
 use mathlib.Core.Path.{_≡_, sym, _∙_, subst}
 use Prim.Native.Nat.{ℕ, _≤_, _<_}
 use native.Mathlib.Omega.{arith}
@@ -8,10 +8,9 @@ use lib.ListN.{length}
 use Rattle.model.specs.Graph.{Edge, Pass, endOnwards, isRegular, onwards, walk}
 use Rattle.model.proofs.Walks.Degree.{Proper}
 use Rattle.model.proofs.Walks.Turn.{At}
-use Rattle.model.proofs.Walks.Trail.{Trail, trail-walk}
+use Rattle.model.proofs.Walks.Trail.{Trail, trail-walk, trail-endOf}
 use Rattle.model.proofs.Walks.Ended.{trail-short}
 use Rattle.model.proofs.Walks.RingFree.{Ended, RingFree}
-use Rattle.model.proofs.Walks.Rings.{trail-endOf}
 
 pub record Onwards (es : List Edge) (d v : ℕ) : Type 0 where
   pub onto : ℕ

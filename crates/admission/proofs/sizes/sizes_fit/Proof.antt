@@ -1,21 +1,28 @@
-use Rattle.admission.proofs.SizeLaws.{fits-degrees, fits-sides, fits-ends, fits-lengths, fits-labels}
+use mathlib.Core.Path.{_∙_}
+use Rattle.model.specs.Tables.{fits, rightSizes, sizes}
+use Rattle.admission.proofs.SizeLaws.{list-differs, list-on, list-last}
 use Rattle.admission.proofs.sizes.sizes_fit.Statement.{statement}
 use Rattle.admission.proofs.sizes.sizes_fit.Tie as tie
 
 returns : tie.Need-returns
-returns c = fits-degrees _ (c .if1 .taken)
+unfolding fits sizes rightSizes
+returns c = list-differs _ _ _ _ (c .if1 .taken)
 
 returns-2 : tie.Need-returns-2
-returns-2 c = fits-sides _ (c .before .if1 .left) (c .if2 .taken)
+unfolding fits sizes rightSizes
+returns-2 c = list-differs _ _ _ _ (c .if2 .taken) ∙ list-on _ _ _ _ (c .before .if1 .left)
 
 returns-3 : tie.Need-returns-3
-returns-3 c = fits-ends _ (c .before .before .if1 .left) (c .before .if2 .left) (c .if3 .taken)
+unfolding fits sizes rightSizes
+returns-3 c = list-differs _ _ _ _ (c .if3 .taken) ∙ list-on _ _ _ _ (c .before .if2 .left) ∙ list-on _ _ _ _ (c .before .before .if1 .left)
 
 returns-4 : tie.Need-returns-4
-returns-4 c = fits-lengths _ (c .before .before .before .if1 .left) (c .before .before .if2 .left) (c .before .if3 .left) (c .if4 .taken)
+unfolding fits sizes rightSizes
+returns-4 c = list-differs _ _ _ _ (c .if4 .taken) ∙ list-on _ _ _ _ (c .before .if3 .left) ∙ list-on _ _ _ _ (c .before .before .if2 .left) ∙ list-on _ _ _ _ (c .before .before .before .if1 .left)
 
 returns-5 : tie.Need-returns-5
-returns-5 c = fits-labels _ (c .before .before .before .if1 .left) (c .before .before .if2 .left) (c .before .if3 .left) (c .if4 .left)
+unfolding fits sizes rightSizes
+returns-5 c = list-last _ _ ∙ list-on _ _ _ _ (c .if4 .left) ∙ list-on _ _ _ _ (c .before .if3 .left) ∙ list-on _ _ _ _ (c .before .before .if2 .left) ∙ list-on _ _ _ _ (c .before .before .before .if1 .left)
 
 pub sizes-fit-spec : {M : Type 1} → statement M
 sizes-fit-spec = tie.close (tie.spec returns returns-2 returns-3 returns-4 returns-5)

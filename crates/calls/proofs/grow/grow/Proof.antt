@@ -1,9 +1,9 @@
--- `grow` meets its contract: its MIR is walked in Lent.antt, for any callee. Here the callee is `grow_with`, and what that ensures is what `grow` ensures.
+-- `grow` meets its contract: its MIR is walked in LentCounts.antt, for any callee. Here the callee is `grow_with`, and what that ensures is what `grow` ensures.
 use base.Logic.{id⊢}
 use contract.Running.{givenOf, tables, tablesOf}
 use denote.Triple.Spec.{tripleOf}
 use denote.Triple.Table.{entered, cited}
-use Rattle.calls.proofs.Lent.{lent-meets}
+use Rattle.calls.proofs.LentCounts.{lent-meets}
 use Rattle.calls.proofs.grow.grow_with as callee
 use Rattle.calls.proofs.grow.grow_with.Symbol as callee-def
 use Rattle.calls.proofs.grow.grow_with.Symbol.{name as #callee}

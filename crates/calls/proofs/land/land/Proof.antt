@@ -1,9 +1,9 @@
--- `land` meets its contract: its MIR is walked in Lent.antt, for any callee. Here the callee is `land_with`, and what that ensures is what `land` ensures.
+-- `land` meets its contract: its MIR is walked in LentCounts.antt, for any callee. Here the callee is `land_with`, and what that ensures is what `land` ensures.
 use base.Logic.{id⊢}
 use contract.Running.{givenOf, tables, tablesOf}
 use denote.Triple.Spec.{tripleOf}
 use denote.Triple.Table.{entered, cited}
-use Rattle.calls.proofs.Lent.{lent-meets}
+use Rattle.calls.proofs.LentCounts.{lent-meets}
 use Rattle.calls.proofs.land.land_with as callee
 use Rattle.calls.proofs.land.land_with.Symbol as callee-def
 use Rattle.calls.proofs.land.land_with.Symbol.{name as #callee}

@@ -1,5 +1,5 @@
 use Rattle.holding.proofs.ReplayLaws.{replay-end, replay-on, replay-refused}
-use Rattle.agreement.proofs.Same.{Same, same-refl}
+use Rattle.agreement.proofs.Same.{Same, same-refl, same-on}
 use Rattle.holding.specs.Replay.{replayIn}
 use Rattle.insertion.specs.Meaning.{answerIn}
 use Rattle.tables.specs.Steps.{tables}
@@ -10,10 +10,8 @@ use mathlib.Core.Path.{_≡_, refl, ap, sym, _∙_}
 use borrow.Author.Needs.{needs}
 use Rattle.holding.proofs.replay.replay.Statement.{statement}
 use Rattle.holding.proofs.replay.replay.Tie as tie
-use Rattle.insertion.proofs.landing.land_edge.Reads as land-edge-reads
-use Rattle.tables.proofs.access.at16.Reads as at16-reads
-use Rattle.tables.proofs.access.of32.Reads as of32-reads
 
+-- the edges left leave what all leave; i is twice the edge's number; the tables keep their lengths
 abbrev Inv-loop : tie.InvT-loop
 Inv-loop ownends ownlengths number degrees₀ sides₀ ends₀ lengths₀ labels₀ counts₀ i₀ edge₀ left₀ degrees sides ends lengths labels counts i edge left =
     ((edge + left ≤ 65535) × (i ≡ 2 * edge)) × (Same degrees₀ sides₀ ends₀ lengths₀ labels₀ degrees sides ends lengths labels
@@ -26,28 +24,10 @@ abbrev μ-loop : tie.MeasureT-loop
 loop-holds : tie.Need-loop-holds Inv-loop μ-loop
 loop-holds c = ((omega arith, omega arith), (same-refl _ _ _ _ _, refl))
 
-at16-requires : tie.Need-at16-requires Inv-loop μ-loop
-at16-requires c κs = search needs
-
 add-at16 : tie.Need-add-at16 Inv-loop μ-loop
 add-at16 c =
     let at-loop = c .before .before .before .before .before .before .before in
     omega (arith, at-loop .loop .inv .0 .0, at-loop .loop .inv .0 .1)
-
-at16-requires-2 : tie.Need-at16-requires-2 Inv-loop μ-loop
-at16-requires-2 c κs = search needs
-
-of32-requires : tie.Need-of32-requires Inv-loop μ-loop
-of32-requires c κs = search needs
-
-land-edge-requires : tie.Need-land-edge-requires Inv-loop μ-loop
-land-edge-requires c κs = search needs
-
-enum-known-inserted : tie.Need-enum-known-inserted Inv-loop μ-loop
-enum-known-inserted c = search needs
-
-enum-known-inserted-2 : tie.Need-enum-known-inserted-2 Inv-loop μ-loop
-enum-known-inserted-2 c = search needs
 
 same-length : tie.Need-same-length Inv-loop μ-loop
 same-length c =
@@ -119,12 +99,10 @@ loop-again c =
     let at-at162 = at-of32 .before in
     let at-at16 = at-at162 .before in
     let at-loop-test = at-at16 .before .before .before .before .before .before in
-    let at-loop = at-loop-test .before in
-    let k = at-land-edge .land-edge .kept in
-    let same = at-loop .loop .inv .1 .0 in (
+    let at-loop = at-loop-test .before in (
       (omega (arith, at-loop .loop .inv .0 .0, at-loop-test .loop-test .taken), omega (arith, at-loop .loop .inv .0 .1)),
       (
-        record { degrees = k .0 ∙ same .degrees; sides = k .1 .0 ∙ same .sides; ends = k .1 .1 .0 ∙ same .ends; lengths = k .1 .1 .1 .0 ∙ same .lengths; labels = k .1 .1 .1 .1 .0 ∙ same .labels },
+        same-on (at-land-edge .land-edge .kept) (at-loop .loop .inv .1 .0),
         sym (replay-on _ _ _ _ _ _ _ _ _ _ _ (at-loop-test .loop-test .taken) (at-loop .loop .inv .0 .1) (at-at16 .at16 .ensures) (at-at162 .at162 .ensures) (at-of32 .of32 .ensures) _ _
             (ap answerIn (c .before .inserted .given .1)) (at-land-edge .land-edge .ensures)) ∙ at-loop .loop .inv .1 .1,
       ),
@@ -148,6 +126,7 @@ same-length-10 c = c .before .loop .inv .1 .0 .labels
 returns-2 : tie.Need-returns-2 Inv-loop μ-loop
 returns-2 c = replay-end _ _ _ _ _ _ (c .loop-test .left) ∙ c .before .loop .inv .1 .1
 
+-- the needs in the order of the code
 pub replay-spec : {M : Type 1} → statement M
 replay-spec =
     tie.close
@@ -155,13 +134,13 @@ replay-spec =
     Inv-loop
     μ-loop
     loop-holds
-    at16-requires
+    (λ c κs. search needs)
     add-at16
-    at16-requires-2
-    of32-requires
-    land-edge-requires
-    enum-known-inserted
-    enum-known-inserted-2
+    (λ c κs. search needs)
+    (λ c κs. search needs)
+    (λ c κs. search needs)
+    (λ c. search needs)
+    (λ c. search needs)
     same-length
     same-length-2
     same-length-3

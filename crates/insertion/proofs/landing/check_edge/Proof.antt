@@ -6,13 +6,13 @@ use Rattle.insertion.proofs.landing.check_edge.Statement.{statement}
 use Rattle.insertion.proofs.landing.check_edge.Tie as tie
 
 returns : tie.Need-returns
-returns c = λ t. check-first t _ _ _ _ (c .if1 .taken)
+returns c = check-first _ _ _ _ (c .if1 .taken)
 
 returns-2 : tie.Need-returns-2
-returns-2 c = λ t. check-second t _ _ _ _ (c .before .before .if1 .left) (c .if2 .taken)
+returns-2 c = check-second _ _ _ _ (c .before .before .if1 .left) (c .if2 .taken)
 
 returns-3 : tie.Need-returns-3
-returns-3 c = λ t. check-same t _ _ _ _ (c .before .before .before .if1 .left) (c .before .if2 .left) (c .if3 .taken)
+returns-3 c = check-same _ _ _ _ (c .before .before .before .if1 .left) (c .before .if2 .left) (c .if3 .taken)
 
 new-requires : tie.Need-new-requires
 new-requires c κs = search needs
@@ -27,7 +27,7 @@ returns-4 : tie.Need-returns-4
 returns-4 c =
     let at-if2 = c .before .before .before .before in
     let at-if1 = at-if2 .before .before in
-    λ t. check-length t _ _ _ _ (at-if1 .if1 .left) (at-if2 .if2 .left) (c .before .before .before .if3 .left)
+    check-length _ _ _ _ (at-if1 .if1 .left) (at-if2 .if2 .left) (c .before .before .before .if3 .left)
     (ap millimetresIn (sym (c .enum-told .given .1)) ∙ c .before .before .new .ensures)
 
 returns-5 : tie.Need-returns-5
@@ -36,7 +36,7 @@ returns-5 c =
     let at-if3 = at-new .before in
     let at-if2 = at-if3 .before in
     let at-if1 = at-if2 .before .before in
-    λ t. check-edges t _ _ _ _ _ (at-if1 .if1 .left) (at-if2 .if2 .left) (at-if3 .if3 .left)
+    check-edges _ _ _ _ _ (at-if1 .if1 .left) (at-if2 .if2 .left) (at-if3 .if3 .left)
     (ap millimetresIn (sym (c .before .before .before .millimetres .given .1)) ∙ at-new .new .ensures) (c .if4 .taken)
 
 returns-6 : tie.Need-returns-6
@@ -45,7 +45,7 @@ returns-6 c =
     let at-if3 = at-new .before in
     let at-if2 = at-if3 .before in
     let at-if1 = at-if2 .before .before in
-    λ t. check-passed t _ _ _ _ _ (at-if1 .if1 .left) (at-if2 .if2 .left) (at-if3 .if3 .left)
+    check-passed _ _ _ _ _ (at-if1 .if1 .left) (at-if2 .if2 .left) (at-if3 .if3 .left)
     (ap millimetresIn (sym (c .before .before .before .millimetres .given .1)) ∙ at-new .new .ensures) (c .if4 .left)
 
 pub check-edge-spec : {M : Type 1} → statement M

@@ -1,90 +1,70 @@
-use Rattle.insertion.specs.Insertion.{placeIn}
+use Rattle.insertion.specs.Placing.{placementFor}
 use borrow.Author.Needs.{needs}
 use Rattle.insertion.proofs.placing.placement_of.Statement.{statement}
 use Rattle.insertion.proofs.placing.placement_of.Tie as tie
-use Rattle.insertion.proofs.placing.placement_of.Reads as reads
-use Rattle.insertion.proofs.placing.placement_of.Lts as lts
 
--- src/placing.rt:36:38
 enum-told : tie.Need-enum-told
 enum-told c = search needs
 
--- src/placing.rt:37:46
 enum-told-2 : tie.Need-enum-told-2
 enum-told-2 c = search needs
 
--- src/placing.rt:38:47
 enum-told-3 : tie.Need-enum-told-3
 enum-told-3 c = search needs
 
--- src/placing.rt:39:24
 enum-told-4 : tie.Need-enum-told-4
 enum-told-4 c = search needs
 
--- src/placing.rt:40:51
 enum-told-5 : tie.Need-enum-told-5
 enum-told-5 c = search needs
 
--- src/placing.rt:41:52
 enum-told-6 : tie.Need-enum-told-6
 enum-told-6 c = search needs
 
--- src/placing.rt:42:45
 enum-told-7 : tie.Need-enum-told-7
 enum-told-7 c = search needs
 
--- src/placing.rt:43:46
 enum-told-8 : tie.Need-enum-told-8
 enum-told-8 c = search needs
 
--- src/placing.rt:44:44
 enum-told-9 : tie.Need-enum-told-9
 enum-told-9 c = search needs
 
--- src/placing.rt:31:1
 returns : tie.Need-returns
-unfolding placeIn
-returns c = λ degrees ends sides labels blocks e n. rw (c .enum-told .given .1)
+unfolding placementFor
+returns c = rw (c .enum-told .given .1)
 
--- src/placing.rt:31:1
 returns-2 : tie.Need-returns-2
-unfolding placeIn
-returns-2 c = λ degrees ends sides labels blocks e n. rw (c .enum-told2 .given .1)
+unfolding placementFor
+returns-2 c = rw (c .enum-told2 .given .1)
 
--- src/placing.rt:31:1
 returns-3 : tie.Need-returns-3
-unfolding placeIn
-returns-3 c = λ degrees ends sides labels blocks e n. rw (c .enum-told3 .given .1)
+unfolding placementFor
+returns-3 c = rw (c .enum-told3 .given .1)
 
--- src/placing.rt:31:1
 returns-4 : tie.Need-returns-4
-unfolding placeIn
-returns-4 c = λ degrees ends sides labels blocks e n. rw (c .enum-told4 .given .1)
+unfolding placementFor
+returns-4 c = rw (c .enum-told4 .given .1)
 
--- src/placing.rt:31:1
 returns-5 : tie.Need-returns-5
-unfolding placeIn
-returns-5 c = λ degrees ends sides labels blocks e n. rw (c .enum-told5 .given .1)
+unfolding placementFor
+returns-5 c = rw (c .enum-told5 .given .1)
 
--- src/placing.rt:31:1
 returns-6 : tie.Need-returns-6
-unfolding placeIn
-returns-6 c = λ degrees ends sides labels blocks e n. rw (c .enum-told6 .given .1)
+unfolding placementFor
+returns-6 c = rw (c .enum-told6 .given .1)
 
--- src/placing.rt:31:1
 returns-7 : tie.Need-returns-7
-unfolding placeIn
-returns-7 c = λ degrees ends sides labels blocks e n. rw (c .enum-told7 .given .1)
+unfolding placementFor
+returns-7 c = rw (c .enum-told7 .given .1)
 
--- src/placing.rt:31:1
 returns-8 : tie.Need-returns-8
-unfolding placeIn
-returns-8 c = λ degrees ends sides labels blocks e n. rw (c .enum-told8 .given .1)
+unfolding placementFor
+returns-8 c = rw (c .enum-told8 .given .1)
 
--- src/placing.rt:31:1
 returns-9 : tie.Need-returns-9
-unfolding placeIn
-returns-9 c = λ degrees ends sides labels blocks e n. rw (c .enum-told9 .given .1)
+unfolding placementFor
+returns-9 c = rw (c .enum-told9 .given .1)
 
 pub placement-of-spec : {M : Type 1} → statement M
 placement-of-spec =

@@ -12,8 +12,8 @@ put32-requires c κs = search needs
 orient-sides-requires : tie.Need-orient-sides-requires
 orient-sides-requires c κs = search needs
 
-relabelled-requires : tie.Need-relabelled-requires
-relabelled-requires c κs = search needs
+is-relabelled-requires : tie.Need-is-relabelled-requires
+is-relabelled-requires c κs = search needs
 
 same-length : tie.Need-same-length
 same-length c = search needs
@@ -27,7 +27,7 @@ returns c =
     let at-put32 = at-orient-sides .before .before .before .before in
     let at-at32 = at-put32 .before .before in
     label-law _ _ _ _ _ _ _ _ _ _ _ _ (at-at32 .at32 .ensures) (at-put32 .put32 .ensures) (at-orient-sides .orient-sides .ensures)
-    (c .before .relabelled .ensures) (rw (c .if1 .taken))
+    (c .before .is-relabelled .ensures) (rw (c .if1 .taken))
 
 same-length-3 : tie.Need-same-length-3
 same-length-3 c = search needs
@@ -41,7 +41,7 @@ returns-2 c =
     let at-put32 = at-orient-sides .before .before .before .before in
     let at-at32 = at-put32 .before .before in
     label-law _ _ _ _ _ _ _ _ _ _ _ _ (at-at32 .at32 .ensures) (at-put32 .put32 .ensures) (at-orient-sides .orient-sides .ensures)
-    (c .before .relabelled .ensures) (rw (c .if1 .left))
+    (c .before .is-relabelled .ensures) (rw (c .if1 .left))
 
 pub label-vertex-spec : {M : Type 1} → statement M
 label-vertex-spec =
@@ -50,7 +50,7 @@ label-vertex-spec =
     at32-requires
     put32-requires
     orient-sides-requires
-    relabelled-requires
+    is-relabelled-requires
     same-length
     same-length-2
     returns

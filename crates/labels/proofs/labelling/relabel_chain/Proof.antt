@@ -3,23 +3,23 @@ use Prim.Native.Nat.{_+_, _≤_}
 use native.Mathlib.Omega.{arith}
 use borrow.Author.Needs.{needs}
 use lib.ListN.{length}
-use Rattle.labels.specs.Labelling.{relabelIn, after}
-use Rattle.labels.proofs.Labels.{relabel-none, relabel-stop, relabel-step, label-le, after-none}
+use Rattle.labels.specs.Labelling.{relabelIn, countAhead}
+use Rattle.labels.proofs.Labels.{relabel-none, relabel-end, loop-end, loop-step, label-le, ahead-none}
 use Rattle.labels.proofs.labelling.relabel_chain.Statement.{statement}
 use Rattle.labels.proofs.labelling.relabel_chain.Tie as tie
 
 -- what is left to relabel, with the count so far in front, is the whole; the tables keep their lengths
 abbrev Inv-loop : tie.InvT-loop
-Inv-loop degrees ends sides₀ labels₀ label up fuel w₀ next₀ count₀ left₀ sides labels w next count left =
-    (count + left ≤ fuel) × ((length sides ≡ length sides₀) × ((length labels ≡ length labels₀) × (after count
+Inv-loop degrees sides₀ ends labels₀ label up fuel w₀ next₀ count₀ left₀ sides labels w next count left =
+    (count + left ≤ fuel) × ((length sides ≡ length sides₀) × ((length labels ≡ length labels₀) × (countAhead count
     (relabelIn degrees ends up left sides labels (w .edge) (w .at) next) ≡ relabelIn degrees ends up fuel sides₀ labels₀ (w₀ .edge)
     (w₀ .at) label)))
 
 abbrev μ-loop : tie.MeasureT-loop
-μ-loop degrees ends sides₀ labels₀ label up fuel w₀ next₀ count₀ left₀ sides labels w next count left = left
+μ-loop degrees sides₀ ends labels₀ label up fuel w₀ next₀ count₀ left₀ sides labels w next count left = left
 
 loop-holds : tie.Need-loop-holds Inv-loop μ-loop
-loop-holds c = (omega arith, (refl, (refl, sym (after-none _))))
+loop-holds c = (omega arith, (refl, (refl, sym (ahead-none _))))
 
 of16-requires : tie.Need-of16-requires Inv-loop μ-loop
 of16-requires c κs = search needs
@@ -65,7 +65,7 @@ loop-again c =
         omega arith,
         (
           omega arith,
-          sym (relabel-step _ _ _ _ _ _ _ _ _ _ _ _ _ _ _ _ l h
+          sym (loop-step _ _ _ _ _ _ _ _ _ _ _ _ _ _ _ _ l h
               (at-step-over .step-over .ensures .0) (at-step-over .step-over .ensures .1) (c .next-label .ensures) g) ∙ inv .1 .1 .1,
         ),
       ),
@@ -78,7 +78,7 @@ same-length-2 : tie.Need-same-length-2 Inv-loop μ-loop
 same-length-2 c = c .before .loop .inv .1 .1 .0
 
 returns : tie.Need-returns Inv-loop μ-loop
-returns c = relabel-none _ _ _ _ _ _ _ _ _ _ (c .loop-test .left) ∙ c .before .loop .inv .1 .1 .1
+returns c = loop-end _ _ _ _ (relabel-none _ _ _ _ _ _ _ _ _ (c .loop-test .left)) ∙ c .before .loop .inv .1 .1 .1
 
 same-length-3 : tie.Need-same-length-3 Inv-loop μ-loop
 same-length-3 c = c .before .before .before .loop .inv .1 .0
@@ -88,8 +88,8 @@ same-length-4 c = c .before .before .before .loop .inv .1 .1 .0
 
 returns-2 : tie.Need-returns-2 Inv-loop μ-loop
 returns-2 c =
-    relabel-stop _ _ _ _ _ _ _ _ _ _ (λ e. c .if1 .taken (c .before .of16 .ensures ∙ e)) ∙ c .before .before .before .loop .inv .1
-    .1 .1
+    loop-end _ _ _ _ (relabel-end _ _ _ _ _ _ _ _ _ (λ e. c .if1 .taken (c .before .of16 .ensures ∙ e)))
+    ∙ c .before .before .before .loop .inv .1 .1 .1
 
 pub relabel-chain-spec : {M : Type 1} → statement M
 relabel-chain-spec =

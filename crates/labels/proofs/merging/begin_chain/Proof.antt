@@ -1,7 +1,7 @@
 use native.Mathlib.Omega.{arith}
 use borrow.Author.Needs.{needs}
 use Rattle.model.specs.Labels.{base}
-use Rattle.labels.proofs.Joins.{begin-law}
+use Rattle.labels.proofs.Merges.{begin-law}
 use Rattle.labels.proofs.merging.begin_chain.Statement.{statement}
 use Rattle.labels.proofs.merging.begin_chain.Tie as tie
 

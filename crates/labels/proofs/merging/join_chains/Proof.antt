@@ -1,6 +1,6 @@
 use native.Mathlib.Omega.{arith}
 use borrow.Author.Needs.{needs}
-use Rattle.labels.proofs.Joins.{join-law}
+use Rattle.labels.proofs.Merges.{join-law}
 use Rattle.labels.proofs.Labels.{label-le, relabel-le}
 use Rattle.labels.proofs.merging.join_chains.Statement.{statement}
 use Rattle.labels.proofs.merging.join_chains.Tie as tie

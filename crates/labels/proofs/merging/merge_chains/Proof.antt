@@ -1,88 +1,61 @@
-use Rattle.labels.proofs.Merges.{merge-met, merge-ring, merge-joined, merge-begun}
+use Rattle.labels.proofs.Merges.{merge-ring, merge-kept, answer-joined, answer-begun}
 use mathlib.Core.Path.{_∙_}
 use borrow.Author.Needs.{needs}
 use Rattle.labels.proofs.merging.merge_chains.Statement.{statement}
 use Rattle.labels.proofs.merging.merge_chains.Tie as tie
-use Rattle.labels.proofs.merging.merge_chains.Reads as reads
-use Rattle.labels.proofs.merging.merge_chains.Lts as lts
-use Rattle.labels.proofs.merging.Merging.done.Reads as done-reads
-use Rattle.labels.proofs.merging.Merging.ring.Reads as ring-reads
-use Rattle.labels.proofs.merging.begin_chain.Reads as begin-chain-reads
-use Rattle.labels.proofs.merging.join_chains.Reads as join-chains-reads
-use Rattle.labels.proofs.merging.keeper_of.Reads as keeper-of-reads
-use Rattle.tables.proofs.access.one_more16.Reads as one-more16-reads
-use Rattle.tables.proofs.walks.leave_leaf.Reads as leave-leaf-reads
-use Rattle.tables.proofs.walks.walk_lockstep.Reads as walk-lockstep-reads
 
--- src/merging.rt:138:9
 leave-leaf-requires : tie.Need-leave-leaf-requires
 leave-leaf-requires c κs = search needs
 
--- src/merging.rt:139:9
 leave-leaf-requires-2 : tie.Need-leave-leaf-requires-2
 leave-leaf-requires-2 c κs = search needs
 
--- src/merging.rt:140:9
 walk-lockstep-requires : tie.Need-walk-lockstep-requires
 walk-lockstep-requires c κs = search needs
 
--- src/merging.rt:142:9
 ring-requires : tie.Need-ring-requires
 ring-requires c κs = search needs
 
--- src/merging.rt:142:9
 same-length : tie.Need-same-length
 same-length c = search needs
 
--- src/merging.rt:142:9
 returns : tie.Need-returns
 returns c =
     let at-leave-leaf2 = c .before .before .before .before .before in
     let at-leave-leaf = at-leave-leaf2 .before .before in
-    merge-ring _ _ _ _ _ _ _ _ _ _ _ _ _ _ _ _ _ (c .before .if1 .taken) (c .ring .ensures)
-    ∙ merge-met _ _ _ _ _ _ _ _ _ _ _ _ _ _ _ _ (at-leave-leaf .leave-leaf .ensures) (at-leave-leaf2 .leave-leaf2 .ensures) (c .before .before .before .walk-lockstep .ensures)
+    merge-ring _ _ _ _ _ _ _ _ _ _ _ _ _ _ (at-leave-leaf .leave-leaf .ensures) (at-leave-leaf2 .leave-leaf2 .ensures)
+    (c .before .before .before .walk-lockstep .ensures) _ _ _ (c .before .if1 .taken) (c .ring .ensures)
 
--- src/merging.rt:144:9
 keeper-of-requires : tie.Need-keeper-of-requires
 keeper-of-requires c κs = search needs
 
--- src/merging.rt:147:17
 enum-told : tie.Need-enum-told
 enum-told c = search needs
 
--- src/merging.rt:147:17
 one-more16-requires : tie.Need-one-more16-requires
 one-more16-requires c κs = search needs
 
--- src/merging.rt:148:13
 begin-chain-requires : tie.Need-begin-chain-requires
 begin-chain-requires c κs = search needs
 
--- src/merging.rt:149:13
 done-requires : tie.Need-done-requires
 done-requires c κs = search needs
 
--- src/merging.rt:151:23
 enum-known-keeper : tie.Need-enum-known-keeper
 enum-known-keeper c = search needs
 
--- src/merging.rt:152:17
 join-chains-requires : tie.Need-join-chains-requires
 join-chains-requires c κs = search needs
 
--- src/merging.rt:153:13
 done-requires-2 : tie.Need-done-requires-2
 done-requires-2 c κs = search needs
 
--- src/merging.rt:124:1
 same-length-2 : tie.Need-same-length-2
 same-length-2 c = search needs
 
--- src/merging.rt:124:1
 same-length-3 : tie.Need-same-length-3
 same-length-3 c = search needs
 
--- src/merging.rt:124:1
 returns-2 : tie.Need-returns-2
 returns-2 c =
     let at-begin-chain = c .before .before .before .before .before in
@@ -93,19 +66,17 @@ returns-2 c =
     let at-walk-lockstep = at-if1 .before .before in
     let at-leave-leaf2 = at-walk-lockstep .before .before in
     let at-leave-leaf = at-leave-leaf2 .before .before in
-    merge-begun _ _ _ _ _ _ _ _ _ _ _ _ _ _ _ _ _ _ _ _ _ (at-keeper-of .keeper-of .ensures _ _ _ _ _ _ _ _ (at-if1 .if1 .left)) _ (at-enum-told .enum-told .given .1)
+    answer-begun _ _ _ _ _ _ _ _ _ _ _ _ _ _ _ _ _ _ _ (at-enum-told .enum-told .given .1)
     (at-one-more16 .one-more16 .ensures) (at-begin-chain .begin-chain .ensures) (c .done .ensures)
-    ∙ merge-met _ _ _ _ _ _ _ _ _ _ _ _ _ _ _ _ (at-leave-leaf .leave-leaf .ensures) (at-leave-leaf2 .leave-leaf2 .ensures) (at-walk-lockstep .walk-lockstep .ensures)
+    ∙ merge-kept _ _ _ _ _ _ _ _ _ _ _ _ _ _ (at-leave-leaf .leave-leaf .ensures) (at-leave-leaf2 .leave-leaf2 .ensures)
+    (at-walk-lockstep .walk-lockstep .ensures) _ (at-if1 .if1 .left) (at-keeper-of .keeper-of .ensures)
 
--- src/merging.rt:124:1
 same-length-4 : tie.Need-same-length-4
 same-length-4 c = search needs
 
--- src/merging.rt:124:1
 same-length-5 : tie.Need-same-length-5
 same-length-5 c = search needs
 
--- src/merging.rt:124:1
 returns-3 : tie.Need-returns-3
 returns-3 c =
     let at-join-chains = c .before .before .before .before .before in
@@ -115,9 +86,10 @@ returns-3 c =
     let at-walk-lockstep = at-if1 .before .before in
     let at-leave-leaf2 = at-walk-lockstep .before .before in
     let at-leave-leaf = at-leave-leaf2 .before .before in
-    merge-joined _ _ _ _ _ _ _ _ _ _ _ _ _ _ _ _ _ _ _ _ _ (at-keeper-of .keeper-of .ensures _ _ _ _ _ _ _ _ (at-if1 .if1 .left)) _ _ (at-keeper .keeper .given .1)
+    answer-joined _ _ _ _ _ _ _ _ _ _ _ _ _ _ _ _ _ _ _ _ (at-keeper .keeper .given .1)
     (at-join-chains .join-chains .ensures) (c .done2 .ensures)
-    ∙ merge-met _ _ _ _ _ _ _ _ _ _ _ _ _ _ _ _ (at-leave-leaf .leave-leaf .ensures) (at-leave-leaf2 .leave-leaf2 .ensures) (at-walk-lockstep .walk-lockstep .ensures)
+    ∙ merge-kept _ _ _ _ _ _ _ _ _ _ _ _ _ _ (at-leave-leaf .leave-leaf .ensures) (at-leave-leaf2 .leave-leaf2 .ensures)
+    (at-walk-lockstep .walk-lockstep .ensures) _ (at-if1 .if1 .left) (at-keeper-of .keeper-of .ensures)
 
 pub merge-chains-spec : {M : Type 1} → statement M
 merge-chains-spec =

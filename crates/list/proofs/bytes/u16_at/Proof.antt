@@ -3,7 +3,6 @@ use native.Mathlib.Omega.{arith}
 use borrow.Author.Needs.{needs}
 use Rattle.list.proofs.bytes.u16_at.Statement.{statement}
 use Rattle.list.proofs.bytes.u16_at.Tie as tie
-use Rattle.list.proofs.bytes.wide16.Reads as wide16-reads
 
 shared-slice-read-wide16 : tie.Need-shared-slice-read-wide16
 shared-slice-read-wide16 c = search needs

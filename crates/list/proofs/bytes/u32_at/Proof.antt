@@ -3,7 +3,6 @@ use native.Mathlib.Omega.{arith}
 use borrow.Author.Needs.{needs}
 use Rattle.list.proofs.bytes.u32_at.Statement.{statement}
 use Rattle.list.proofs.bytes.u32_at.Tie as tie
-use Rattle.list.proofs.bytes.u16_at.Reads as u16-at-reads
 
 u16-at-requires : tie.Need-u16-at-requires
 u16-at-requires c κs = search needs

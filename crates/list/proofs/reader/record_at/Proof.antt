@@ -123,7 +123,7 @@ module _ {M : Type 1} (𝓤 : URA M) (H : Heap 𝓤) (A : Atoms 𝓤) (W : Given
     walk p k =
         qed W (raw Toks ∷ ‵ (owns (typesAt (own.signature .params) κs) (s, (c, tt)) vals) ∷ []) ∵ enter ! C Λ code.function (v ∷ cursor-val ∷ []) _ $
         alloc1 ! (λ l₀. alloc1 ! (λ l₁. alloc1 ! (λ l₂. alloc1 ! (λ l₃. alloc0 ! $ params1 ! $ pass1 ! (init ! 4 refl (shr-slice-lawful 𝓤 H A W (named 0) (κs .0) u8 .typed s (v ∷ []) p .0)) $ pass1 ! (init ! 2 refl (LL.lawful K.the-type K′.the-laws 𝓤 H A W .typed c _ k .0)) $ pass0 ! $
-        -- `new`.  [what the list owns; the locals _3 to _0, each with its …; the token]
+        -- `new`.  [what the list owns; the locals _3 to _0, each with the right to free it; the token]
         move ! (9 ∷ []) $ fsplit ! $ move ! (1 ∷ []) $ drop ! $ move ! (9 ∷ 0 ∷ []) $ use2 W (raw (New 𝓤 H A mem run .pre to-new)) goes-new $
         calls-at ! fm (New 𝓤 H A mem run) known-new to-new (and-then ! (load ! (from ! (stop !)) (look ! 5 refl)) (and-then ! (load ! (from ! (fld ! refl (stop !))) (look-in ! 3 (sub ! 0 refl (whole !)))) (no-more !))) (λ u₀.
         use1 W (later (some (λ (r : Reader). (raw Toks ⊛ ‵ (B κs .own r (u₀ ∷ []))) ⊛ raw (ensured 𝓤 H A new.ended (new.clauses 𝓤 H A mem run) κs (s, (c .at, tt)) tt r)))) (id⊢ 𝓤 _) $ await ! tt $ pick ! (λ r₀.

@@ -1,11 +1,8 @@
 use Rattle.list.proofs.RecordLaws.{record-end, record-vertex, record-kind, record-cut, record-edge}
 use native.Mathlib.Omega.{arith}
-use mathlib.Core.Path.{sym, _∙_}
 use borrow.Author.Needs.{needs}
 use Rattle.list.proofs.records.next_record.Statement.{statement}
 use Rattle.list.proofs.records.next_record.Tie as tie
-use Rattle.list.proofs.bytes.u16_at.Reads as u16-at-reads
-use Rattle.list.proofs.bytes.u32_at.Reads as u32-at-reads
 
 returns : tie.Need-returns
 returns c = record-end _ _ (c .if1 .taken)

@@ -5,8 +5,6 @@ use mathlib.Core.Path.{sym, _∙_}
 use borrow.Author.Needs.{needs}
 use Rattle.list.proofs.records.read_header.Statement.{statement}
 use Rattle.list.proofs.records.read_header.Tie as tie
-use Rattle.list.proofs.bytes.u16_at.Reads as u16-at-reads
-use Rattle.list.proofs.records.has_mark.Reads as has-mark-reads
 
 has-mark-requires : tie.Need-has-mark-requires
 has-mark-requires c κs = search needs

@@ -2,65 +2,17 @@ use mathlib.Core.Path.{refl, sym, ap, _∙_}
 use Rattle.model.specs.Calls.{sheets, registerFor, lentSlice}
 use Rattle.admission.specs.Gate.{gateRefusal}
 use Rattle.lookups.proofs.AnswerLaws.{sheet-answers}
-use Rattle.lookups.proofs.QueryLaws.{query-refused, query-answered}
+use Rattle.admission.proofs.QueryLaws.{query-refused, query-answered}
 use borrow.Author.Needs.{needs}
 use Rattle.lookups.proofs.sheet.sheet.Statement.{statement}
 use Rattle.lookups.proofs.sheet.sheet.Tie as tie
-use Rattle.admission.proofs.gate.pass_gate.Reads as pass-gate-reads
-use Rattle.lookups.proofs.sheet.sheet_in.Reads as sheet-in-reads
-
-pass-gate-requires : tie.Need-pass-gate-requires
-pass-gate-requires c κs = search needs
-
-enum-told : tie.Need-enum-told
-enum-told c = search needs
-
-sheet-in-requires : tie.Need-sheet-in-requires
-sheet-in-requires c κs = search needs
-
-enum-known-passed : tie.Need-enum-known-passed
-enum-known-passed c = search needs
-
-same-length : tie.Need-same-length
-same-length c = search needs
-
-same-length-2 : tie.Need-same-length-2
-same-length-2 c = search needs
-
-same-length-3 : tie.Need-same-length-3
-same-length-3 c = search needs
-
-same-length-4 : tie.Need-same-length-4
-same-length-4 c = search needs
-
-same-length-5 : tie.Need-same-length-5
-same-length-5 c = search needs
-
-same-length-6 : tie.Need-same-length-6
-same-length-6 c = search needs
 
 returns : tie.Need-returns
-unfolding registerFor
 returns c =
     let at-enum-told = c .before .before .before .before in
     let at-pass-gate = at-enum-told .before .before .before .before .before .before .before .before .before .before .before .before in
-    query-answered (sheets _) _ refl _ _ _ (ap gateRefusal (sym (at-enum-told .enum-told .given .1)) ∙ at-pass-gate .pass-gate .ensures .0) (at-pass-gate .pass-gate .ensures .1)
+    query-answered (sheets _) _ _ _ _ (ap gateRefusal (sym (at-enum-told .enum-told .given .1)) ∙ at-pass-gate .pass-gate .ensures .0) (at-pass-gate .pass-gate .ensures .1)
     (sheet-answers _ _ _ _ _ (c .before .before .sheet-in .ensures _))
-
-same-length-7 : tie.Need-same-length-7
-same-length-7 c = search needs
-
-same-length-8 : tie.Need-same-length-8
-same-length-8 c = search needs
-
-same-length-9 : tie.Need-same-length-9
-same-length-9 c = search needs
-
-same-length-10 : tie.Need-same-length-10
-same-length-10 c = search needs
-
-same-length-11 : tie.Need-same-length-11
-same-length-11 c = search needs
 
 returns-2 : tie.Need-returns-2
 unfolding registerFor lentSlice
@@ -68,24 +20,25 @@ returns-2 c =
     let at-pass-gate = c .before .before .before .before .before .before .before .before .before .before .before .before .before in
     query-refused (sheets _) _ refl _ _ (ap gateRefusal (sym (c .before .passed .given .1)) ∙ at-pass-gate .pass-gate .ensures .0) (at-pass-gate .pass-gate .ensures .1)
 
+-- the needs in the order of the code
 pub sheet-spec : {M : Type 1} → statement M
 sheet-spec =
     tie.close
     (tie.spec
-    pass-gate-requires
-    enum-told
-    sheet-in-requires
-    enum-known-passed
-    same-length
-    same-length-2
-    same-length-3
-    same-length-4
-    same-length-5
-    same-length-6
+    (λ c κs. search needs)
+    (λ c. search needs)
+    (λ c κs. search needs)
+    (λ c. search needs)
+    (λ c. search needs)
+    (λ c. search needs)
+    (λ c. search needs)
+    (λ c. search needs)
+    (λ c. search needs)
+    (λ c. search needs)
     returns
-    same-length-7
-    same-length-8
-    same-length-9
-    same-length-10
-    same-length-11
+    (λ c. search needs)
+    (λ c. search needs)
+    (λ c. search needs)
+    (λ c. search needs)
+    (λ c. search needs)
     returns-2)

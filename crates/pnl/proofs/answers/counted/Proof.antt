@@ -1,4 +1,4 @@
-use Rattle.pnl.proofs.Values.{count-is}
+use Rattle.pnl.proofs.Returns.{count-is}
 use borrow.Author.Needs.{needs}
 use Rattle.pnl.proofs.answers.counted.Statement.{statement}
 use Rattle.pnl.proofs.answers.counted.Tie as tie

@@ -1,8 +1,7 @@
-use Rattle.pnl.proofs.Values.{number-fits, negation-fits, negation-is}
+use Rattle.pnl.proofs.Returns.{number-fits, negation-fits, negation-is}
 use borrow.Author.Needs.{needs}
 use Rattle.pnl.proofs.answers.refused.Statement.{statement}
 use Rattle.pnl.proofs.answers.refused.Tie as tie
-use Rattle.counters.proofs.refusals.Refusal.number.Reads as number-reads
 
 number-requires : tie.Need-number-requires
 number-requires c κs = search needs

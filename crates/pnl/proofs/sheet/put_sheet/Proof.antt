@@ -1,78 +1,37 @@
-use Rattle.text.proofs.Pieces.{pieces-on, pieces-end}
 use borrow.Author.Needs.{needs}
-use mathlib.Core.Path.{_≡_, refl, sym, _∙_}
-use mathlib.Core.List.{List}
-use Prim.Native.Nat.{ℕ, _+_}
-use lib.ListN.{length}
 use native.Mathlib.Omega.{arith}
-use Rattle.model.specs.Basics.{countFrom, upTo}
 use Rattle.model.specs.Queries.{concat}
 use Rattle.model.specs.FromC.{bytesOf}
-use Rattle.tables.specs.Steps.{tables}
+use Rattle.text.specs.Pages.{page}
+use Rattle.text.proofs.Pieces.{Comes, comes-start, comes-on, comes-end}
 use Rattle.queries.specs.Chains.{rowsIn}
-use Rattle.text.specs.Pages.{page, write}
-use Rattle.pnl.proofs.Rows.{rowBytes, row-bytes}
+use Rattle.queries.proofs.SheetLaws.{rows-pieces}
+use Rattle.pnl.proofs.Rows.{row-bytes}
 use Rattle.pnl.proofs.sheet.put_sheet.Statement.{statement}
 use Rattle.pnl.proofs.sheet.put_sheet.Tie as tie
-use Rattle.pnl.proofs.sheet.put_chain.Reads as put-chain-reads
 
+-- the edges left end the page as all do
 abbrev Inv-loop : tie.InvT-loop
 Inv-loop out₀ degrees sides ends lengths edges next₀ edge₀ left₀ out next edge left =
-    ((length out ≡ length out₀) × (edge + left ≡ edges))
-    × ((labels : List ℕ) → write (bytesOf (concat (rowsIn (tables degrees sides ends lengths labels) edges (countFrom edge left)))) (page out next)
-    ≡ write (bytesOf (concat (rowsIn (tables degrees sides ends lengths labels) edges (countFrom edge₀ left₀)))) (page out₀ next₀))
+    Comes (λ cs. bytesOf (concat (rowsIn degrees sides ends lengths edges cs))) edges (page out₀ 0) edge left (page out next)
 
-abbrev μ-loop : tie.MeasureT-loop
-μ-loop out₀ degrees sides ends lengths edges next₀ edge₀ left₀ out next edge left = left
-
-loop-holds : tie.Need-loop-holds Inv-loop μ-loop
-loop-holds c = ((refl, omega arith), λ labels. refl)
-
-put-chain-requires : tie.Need-put-chain-requires Inv-loop μ-loop
-put-chain-requires c κs = search needs
-
-add-edge : tie.Need-add-edge Inv-loop μ-loop
-add-edge c =
-    let at-loop-test = c .before .before .before .before in
-    let at-loop = at-loop-test .before in
-    omega (arith, at-loop .loop .inv .0 .1, at-loop-test .loop-test .taken)
-
-sub-left : tie.Need-sub-left Inv-loop μ-loop
-sub-left c =
-    let at-loop-test = c .before .before .before .before in
-    omega (arith, at-loop-test .loop-test .taken)
-
-loop-less : tie.Need-loop-less Inv-loop μ-loop
-loop-less c =
-    let at-loop-test = c .before .before .before .before in
-    omega (arith, at-loop-test .loop-test .taken)
-
-loop-again : tie.Need-loop-again Inv-loop μ-loop
+loop-again : tie.Need-loop-again Inv-loop (λ _ _ _ _ _ _ _ _ _ _ _ _ left. left)
 loop-again c =
     let at-loop-test = c .before .before .before .before in
-    let at-loop = at-loop-test .before in (
-      (omega (arith, at-loop .loop .inv .0 .0), omega (arith, at-loop .loop .inv .0 .1, at-loop-test .loop-test .taken)),
-      λ labels. sym (pieces-on (rowBytes _ _) (row-bytes _ _) _ _ _ _ (at-loop-test .loop-test .taken) (c .before .before .put-chain .ensures labels)) ∙ at-loop .loop .inv .1 labels,
-    )
+    comes-on _ (rows-pieces _ _ _ _ _ _ _ row-bytes) _ _ _ _ _ _ (at-loop-test .loop-test .taken) (at-loop-test .before .loop .inv) (c .before .before .put-chain .ensures) (c .before .before .put-chain .kept .0)
 
-same-length : tie.Need-same-length Inv-loop μ-loop
-same-length c = c .before .loop .inv .0 .0
-
-returns : tie.Need-returns Inv-loop μ-loop
-unfolding upTo
-returns c = λ labels. pieces-end (rowBytes _ _) (row-bytes _ _) _ _ _ (c .loop-test .left) ∙ c .before .loop .inv .1 labels
-
+-- the invariant, what falls at each turn, and the needs in the order of the code
 pub put-sheet-spec : {M : Type 1} → statement M
 put-sheet-spec =
     tie.close
     (tie.spec
     Inv-loop
-    μ-loop
-    loop-holds
-    put-chain-requires
-    add-edge
-    sub-left
-    loop-less
+    (λ _ _ _ _ _ _ _ _ _ _ _ _ left. left)
+    (λ c. comes-start _ (rows-pieces _ _ _ _ _ _ _ row-bytes) _ _)
+    (λ c κs. search needs)
+    (λ c. omega (arith, c .before .before .before .before .before .loop .inv .counted, c .before .before .before .before .loop-test .taken))
+    (λ c. omega (arith, c .before .before .before .before .loop-test .taken))
+    (λ c. omega (arith, c .before .before .before .before .loop-test .taken))
     loop-again
-    same-length
-    returns)
+    (λ c. c .before .loop .inv .as-long)
+    (λ c. comes-end _ (rows-pieces _ _ _ _ _ _ _ row-bytes) _ _ _ _ _ (c .loop-test .left) (c .before .loop .inv)))

@@ -3,7 +3,6 @@ use borrow.Author.Tests.{eq-eqb, ne-eqb}
 use borrow.Author.Needs.{needs}
 use Rattle.queries.proofs.names.both_singular.Statement.{statement}
 use Rattle.queries.proofs.names.both_singular.Tie as tie
-use Rattle.tables.proofs.access.of16.Reads as of16-reads
 
 of16-requires : tie.Need-of16-requires
 of16-requires c κs = search needs

@@ -3,8 +3,6 @@ use borrow.Author.Tests.{eq-eqb, ne-eqb}
 use borrow.Author.Needs.{needs}
 use Rattle.queries.proofs.names.go_on.Statement.{statement}
 use Rattle.queries.proofs.names.go_on.Tie as tie
-use Rattle.tables.proofs.access.of16.Reads as of16-reads
-use Rattle.tables.proofs.walks.step_over.Reads as step-over-reads
 
 of16-requires : tie.Need-of16-requires
 of16-requires c κs = search needs

@@ -1,51 +1,37 @@
-use Rattle.queries.proofs.RowLaws.{rows-none, rows-end, count-more, count-few}
-use Rattle.queries.specs.Chains.{rowsIn}
-use Rattle.tables.specs.Steps.{tables}
+use Rattle.queries.proofs.RowLaws.{names-none, count-end, count-more, count-few}
+use Rattle.queries.specs.Chains.{namesIn}
 use Rattle.model.specs.Basics.{upTo}
 use lib.ListN.{length}
 use native.Mathlib.Omega.{arith}
-use Prim.Native.Nat.{ℕ, _-_, _≤_}
-use mathlib.Core.List.{List, []}
-use mathlib.Core.Path.{_≡_, ap, sym, _∙_}
+use Prim.Native.Nat.{_-_, _≤_}
+use mathlib.Core.Path.{_≡_, ap, sym}
 use borrow.Author.Needs.{needs}
 use Rattle.queries.proofs.rows.count_rows.Statement.{statement}
 use Rattle.queries.proofs.rows.count_rows.Tie as tie
-use Rattle.queries.proofs.names.is_name.Reads as is-name-reads
-use Rattle.queries.proofs.numbers.one_if.Reads as one-if-reads
 
+-- count is the number of names among the edges below d
 abbrev Inv-loop : tie.InvT-loop
-Inv-loop degrees sides ends edges count₀ d₀ count d = (d ≤ edges) × ((lengths labels : List ℕ) → count ≡ length (rowsIn (tables degrees sides ends lengths labels) edges (upTo d)))
+Inv-loop degrees sides ends edges count₀ d₀ count d = (d ≤ edges) × (count ≡ length (namesIn degrees sides ends edges (upTo d)))
 
 abbrev μ-loop : tie.MeasureT-loop
 μ-loop degrees sides ends edges count₀ d₀ count d = edges - d
 
 loop-holds : tie.Need-loop-holds Inv-loop μ-loop
-loop-holds c = (omega arith, λ lengths labels. ap length (sym (rows-none _ _)))
-
-is-name-requires : tie.Need-is-name-requires Inv-loop μ-loop
-is-name-requires c κs = search needs
-
-one-if-requires : tie.Need-one-if-requires Inv-loop μ-loop
-one-if-requires c κs = search needs
+loop-holds c = (omega arith, ap length (sym (names-none _ _ _ _)))
 
 add-count : tie.Need-add-count Inv-loop μ-loop
 add-count c =
     let at-fits = c .before .before .before .before .before .before .before in
-    let few = count-few (tables _ _ _ [] []) _ _ _ _ _ (c .before .before .before .loop .inv .1 [] []) (c .before .is-name .ensures [] []) (c .one-if .ensures) in
+    let few = count-few _ _ _ _ _ _ _ _ (c .before .before .before .loop .inv .1) (c .before .is-name .ensures) (c .one-if .ensures) in
     omega (arith, few, at-fits .fits .edges .fits)
 
-add-d : tie.Need-add-d Inv-loop μ-loop
-add-d c = omega arith
-
-loop-less : tie.Need-loop-less Inv-loop μ-loop
-loop-less c = omega arith
-
 loop-again : tie.Need-loop-again Inv-loop μ-loop
-loop-again c = (omega arith, λ lengths labels. count-more (tables _ _ _ lengths labels) _ _ _ _ _ (c .before .before .before .loop .inv .1 lengths labels) (c .before .is-name .ensures lengths labels) (c .one-if .ensures))
+loop-again c = (omega arith, count-more _ _ _ _ _ _ _ _ (c .before .before .before .loop .inv .1) (c .before .is-name .ensures) (c .one-if .ensures))
 
 returns : tie.Need-returns Inv-loop μ-loop
-returns c = λ lengths labels. c .before .loop .inv .1 lengths labels ∙ ap length (rows-end _ _ _ (c .before .loop .inv .0) (c .loop-test .left))
+returns c = count-end _ _ _ _ _ _ (c .before .loop .inv .0) (c .loop-test .left) (c .before .loop .inv .1)
 
+-- the needs in the order of the code
 pub count-rows-spec : {M : Type 1} → statement M
 count-rows-spec =
     tie.close
@@ -53,10 +39,10 @@ count-rows-spec =
     Inv-loop
     μ-loop
     loop-holds
-    is-name-requires
-    one-if-requires
+    (λ c κs. search needs)
+    (λ c κs. search needs)
     add-count
-    add-d
-    loop-less
+    (λ c. omega arith)
+    (λ c. omega arith)
     loop-again
     returns)

@@ -1,46 +1,28 @@
-use Rattle.queries.proofs.SheetLaws.{put-none, put-named}
-use Rattle.tables.specs.Steps.{tables}
+use mathlib.Core.Path.{sym, _∙_}
 use borrow.Author.Needs.{needs}
+use borrow.Author.Tests.{not-true, not-false}
+use Rattle.queries.proofs.SheetLaws.{numbers, piece-none, piece-row}
 use Rattle.queries.proofs.rows.put_chain.Statement.{statement}
 use Rattle.queries.proofs.rows.put_chain.Tie as tie
-use Rattle.queries.proofs.names.is_name.Reads as is-name-reads
-use Rattle.queries.proofs.rows.put_row.Reads as put-row-reads
-use Rattle.queries.proofs.rows.row_at.Reads as row-at-reads
-use Rattle.tables.proofs.access.one_more16.Reads as one-more16-reads
-
-is-name-requires : tie.Need-is-name-requires
-is-name-requires c κs = search needs
 
 returns : tie.Need-returns
-returns c = λ labels. put-none (tables _ _ _ _ labels) _ _ _ _ _ (c .before .is-name .ensures _ labels) (c .if1 .taken)
-
-row-at-requires : tie.Need-row-at-requires
-row-at-requires c κs = search needs
-
-put-row-requires : tie.Need-put-row-requires
-put-row-requires c κs = search needs
-
-one-more16-requires : tie.Need-one-more16-requires
-one-more16-requires c κs = search needs
-
-same-length : tie.Need-same-length
-same-length c = search needs
+returns c = piece-none _ _ _ _ _ _ _ numbers _ _ (sym (c .before .is-name .ensures) ∙ not-true _ (c .if1 .taken))
 
 returns-2 : tie.Need-returns-2
 returns-2 c =
-    let at-row-at = c .before .before .before .before .before in
+    let at-row-at = c .before .before .before .before in
     let at-if1 = at-row-at .before in
     let at-is-name = at-if1 .before in
-    λ labels. put-named (tables _ _ _ _ labels) _ _ _ _ _ _ _ _ (at-is-name .is-name .ensures _ labels) (at-if1 .if1 .left) (at-row-at .row-at .ensures labels) (c .before .before .before .put-row .ensures) (c .one-more16 .ensures)
+    piece-row _ _ _ _ _ _ _ numbers _ _ _ _ (sym (at-is-name .is-name .ensures) ∙ not-false _ (at-if1 .if1 .left)) (at-row-at .row-at .ensures) (c .before .before .put-row .ensures)
 
+-- the needs in the order of the code
 pub put-chain-spec : {M : Type 1} → statement M
 put-chain-spec =
     tie.close
     (tie.spec
-    is-name-requires
+    (λ c κs. search needs)
     returns
-    row-at-requires
-    put-row-requires
-    one-more16-requires
-    same-length
+    (λ c κs. search needs)
+    (λ c κs. search needs)
+    (λ c. search needs)
     returns-2)

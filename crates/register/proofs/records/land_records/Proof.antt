@@ -1,7 +1,7 @@
-use Rattle.register.proofs.ListingLaws.{records-none, records-end, records-stop, records-on}
-use Rattle.agreement.proofs.Same.{Same, same-refl}
+use Rattle.register.proofs.RecordLaws.{records-none, records-end, records-stop, records-on}
+use Rattle.agreement.proofs.Same.{Same, same-refl, same-on}
 use Rattle.register.specs.Meaning.{stepMeans}
-use Rattle.register.specs.Listing.{steppedIn, landRecordsIn}
+use Rattle.register.specs.Records.{steppedIn, landRecordsIn}
 use Rattle.tables.specs.Steps.{tables}
 use Rattle.counters.specs.Answers.{countsIn}
 use native.Mathlib.Omega.{arith}
@@ -10,8 +10,8 @@ use mathlib.Core.Path.{_≡_, refl, ap, sym, _∙_}
 use borrow.Author.Needs.{needs}
 use Rattle.register.proofs.records.land_records.Statement.{statement}
 use Rattle.register.proofs.records.land_records.Tie as tie
-use Rattle.register.proofs.records.land_record.Reads as land-record-reads
 
+-- what is left to land is the whole; the tables keep their lengths; the number fits 64 bits
 abbrev Inv-loop : tie.InvT-loop
 Inv-loop degrees₀ sides₀ ends₀ lengths₀ labels₀ list sofar₀ at₀ number₀ left₀ degrees sides ends lengths labels sofar at number left =
     (number + left < 18446744073709551616) × (Same degrees₀ sides₀ ends₀ lengths₀ labels₀ degrees sides ends lengths labels
@@ -23,12 +23,6 @@ abbrev μ-loop : tie.MeasureT-loop
 
 loop-holds : tie.Need-loop-holds Inv-loop μ-loop
 loop-holds c = (omega arith, (same-refl _ _ _ _ _, refl))
-
-land-record-requires : tie.Need-land-record-requires Inv-loop μ-loop
-land-record-requires c κs = search needs
-
-enum-told : tie.Need-enum-told Inv-loop μ-loop
-enum-told c = search needs
 
 same-length : tie.Need-same-length Inv-loop μ-loop
 same-length c =
@@ -66,12 +60,6 @@ returns c =
     let at-loop-test = at-land-record .before .before .before .before .before .before in
     let at-loop = at-loop-test .before in
     records-end _ _ _ _ _ _ _ (at-loop-test .loop-test .taken) (ap (steppedIn _) (ap stepMeans (sym (c .enum-told .given .1))) ∙ at-land-record .land-record .ensures) ∙ at-loop .loop .inv .1 .1
-
-enum-known-step : tie.Need-enum-known-step Inv-loop μ-loop
-enum-known-step c = search needs
-
-enum-known-step-2 : tie.Need-enum-known-step-2 Inv-loop μ-loop
-enum-known-step-2 c = search needs
 
 same-length-6 : tie.Need-same-length-6 Inv-loop μ-loop
 same-length-6 c =
@@ -130,12 +118,10 @@ loop-again : tie.Need-loop-again Inv-loop μ-loop
 loop-again c =
     let at-land-record = c .before .before .before .before .before .before .before .before .before .before .before .before .before in
     let at-loop-test = at-land-record .before .before .before .before .before .before in
-    let at-loop = at-loop-test .before in
-    let k = at-land-record .land-record .kept in
-    let same = at-loop .loop .inv .1 .0 in (
+    let at-loop = at-loop-test .before in (
       omega (arith, at-loop .loop .inv .0, at-loop-test .loop-test .taken),
       (
-        record { degrees = k .0 ∙ same .degrees; sides = k .1 .0 ∙ same .sides; ends = k .1 .1 .0 ∙ same .ends; lengths = k .1 .1 .1 .0 ∙ same .lengths; labels = k .1 .1 .1 .1 .0 ∙ same .labels },
+        same-on (at-land-record .land-record .kept) (at-loop .loop .inv .1 .0),
         sym (records-on _ _ _ _ _ _ _ _ _ (at-loop-test .loop-test .taken) (ap (steppedIn _) (ap stepMeans (sym (c .before .step .given .1))) ∙ at-land-record .land-record .ensures)) ∙ at-loop .loop .inv .1 .1,
       ),
     )
@@ -158,6 +144,7 @@ same-length-15 c = c .before .loop .inv .1 .0 .labels
 returns-3 : tie.Need-returns-3 Inv-loop μ-loop
 returns-3 c = records-none _ _ _ _ _ _ (c .loop-test .left) ∙ c .before .loop .inv .1 .1
 
+-- the needs in the order of the code
 pub land-records-spec : {M : Type 1} → statement M
 land-records-spec =
     tie.close
@@ -165,16 +152,16 @@ land-records-spec =
     Inv-loop
     μ-loop
     loop-holds
-    land-record-requires
-    enum-told
+    (λ c κs. search needs)
+    (λ c. search needs)
     same-length
     same-length-2
     same-length-3
     same-length-4
     same-length-5
     returns
-    enum-known-step
-    enum-known-step-2
+    (λ c. search needs)
+    (λ c. search needs)
     same-length-6
     same-length-7
     same-length-8

@@ -1,110 +1,93 @@
-use Rattle.search.proofs.Relaxing.{near-room, far-room, far-grounded}
+use Rattle.search.proofs.Relaxing.{keeps-same, end-vertex, end-room, far-keeps}
 use Rattle.search.specs.Search.{unreached}
-use Rattle.model.specs.Basics.{maxVertices}
 use native.Mathlib.Omega.{arith}
-use Prim.Native.Nat.{_≤_, _<_, _-_, _/_}
-use mathlib.Core.Path.{_≡_, refl}
+use Prim.Native.Nat.{_≤_, _*_, _-_, _/_}
+use mathlib.Core.Path.{refl}
 use borrow.Author.Needs.{needs}
 use Rattle.search.proofs.chains.relax_end.Statement.{statement}
 use Rattle.search.proofs.chains.relax_end.Tie as tie
-use Rattle.search.proofs.access.get16.Reads as get16-reads
-use Rattle.search.proofs.access.get32.Reads as get32-reads
-use Rattle.search.proofs.access.set32.Reads as set32-reads
 
 returns : tie.Need-returns
-returns c = search needs
+returns c = search keeps-same
 
 returns-2 : tie.Need-returns-2
-returns-2 c = search needs
+returns-2 c = search keeps-same
 
-sub-get16 : tie.Need-sub-get16
-sub-get16 c = search needs
+sub-at16-within : tie.Need-sub-at16-within
+sub-at16-within c = search needs
 
-get16-requires : tie.Need-get16-requires
-get16-requires c κs = search needs
+at16-within-requires : tie.Need-at16-within-requires
+at16-within-requires c κs = search needs
 
-get32-requires : tie.Need-get32-requires
-get32-requires c κs =
-    let at-args = c .before .before .before .before .before .before .before in
-    let n : c .before .get16 .result < maxVertices = rw (c .before .get16 .ensures) (near-room _ _ _ _ (at-args .pre .0) _ (at-args .args .j) _ (at-args .pre .1) refl (omega (arith, c .before .before .before .if1 .left)) (c .before .before .if2 .left)) in
-    omega (arith, n, at-args .pre .1 .room)
+of32-within-requires : tie.Need-of32-within-requires
+of32-within-requires c κs =
+    let at-pre = c .before .before .before .before .before .before .before in
+    end-room (at-pre .pre) (at-pre .args .j - 2) _ (omega arith) (c .before .at16-within .ensures)
 
-sub-get32 : tie.Need-sub-get32
-sub-get32 c = search needs
+sub-of32-within : tie.Need-sub-of32-within
+sub-of32-within c = search needs
 
-get32-requires-2 : tie.Need-get32-requires-2
-get32-requires-2 c κs = search needs
+of32-within-requires-2 : tie.Need-of32-within-requires-2
+of32-within-requires-2 c κs = search needs
 
 add-sum : tie.Need-add-sum
 add-sum c =
-    let at-if2 = c .before .before .before .before in
-    let at-if1 = at-if2 .before in
-    let at-args = at-if1 .before .before .before .before in
-    let n : c .before .before .before .get16 .result < maxVertices = rw (c .before .before .before .get16 .ensures) (near-room _ _ _ _ (at-args .pre .0) _ (at-args .args .j) _ (at-args .pre .1) refl (omega (arith, at-if1 .if1 .left)) (at-if2 .if2 .left)) in
-    let t : c .before .get32 .result ≤ unreached = rw (c .before .get32 .ensures) (at-args .pre .1 .top _ n) in
-    let u = at-args .pre .0 .short (at-args .args .j / 2 - 1) (omega (arith, at-if1 .if1 .left, at-if2 .if2 .left)) in
-    omega (arith, t, u, c .get322 .ensures)
+    let at-pre = c .before .before .before .before .before .before .before .before .before in
+    let n = end-vertex (at-pre .pre .searchable) (at-pre .args .j - 2) (omega arith) in
+    let t : c .before .of32-within .result ≤ unreached = rw (c .before .of32-within .ensures, c .before .before .before .at16-within .ensures) (at-pre .pre .top _ n) in
+    let u = at-pre .pre .searchable .short (at-pre .args .j / 2 - 1) (omega arith) in
+    omega (arith, t, u, c .of32-within2 .ensures)
 
 same-length : tie.Need-same-length
 same-length c = search needs
 
 returns-3 : tie.Need-returns-3
-returns-3 c = search needs
+returns-3 c = search keeps-same
 
-cast-get16 : tie.Need-cast-get16
-cast-get16 c = search needs
+cast-at16-within : tie.Need-cast-at16-within
+cast-at16-within c = search needs
 
-mul-get16 : tie.Need-mul-get16
-mul-get16 c = search needs
+mul-at16-within : tie.Need-mul-at16-within
+mul-at16-within c = search needs
 
-sub-get16-2 : tie.Need-sub-get16-2
-sub-get16-2 c = search needs
+sub-at16-within-2 : tie.Need-sub-at16-within-2
+sub-at16-within-2 c = search needs
 
-sub-get16-3 : tie.Need-sub-get16-3
-sub-get16-3 c = search needs
+sub-at16-within-3 : tie.Need-sub-at16-within-3
+sub-at16-within-3 c = search needs
 
-get16-requires-2 : tie.Need-get16-requires-2
-get16-requires-2 c κs = search needs
+at16-within-requires-2 : tie.Need-at16-within-requires-2
+at16-within-requires-2 c κs = search needs
 
-get32-requires-3 : tie.Need-get32-requires-3
-get32-requires-3 c κs =
-    let at-if2 = c .before .before .before .before .before .before .before in
-    let at-if1 = at-if2 .before in
-    let at-args = at-if1 .before .before .before .before in
-    let n : c .before .get162 .result < maxVertices = rw (c .before .get162 .ensures) (far-room _ _ _ _ (at-args .pre .0) _ (at-args .args .j) _ (at-args .pre .1) refl (omega (arith, at-if1 .if1 .left)) (at-if2 .if2 .left)) in
-    omega (arith, n, at-args .pre .1 .room)
+of32-within-requires-3 : tie.Need-of32-within-requires-3
+of32-within-requires-3 c κs =
+    let at-pre = c .before .before .before .before .before .before .before .before .before .before .before .before in
+    end-room (at-pre .pre) (4 * (at-pre .args .j / 2) - 1 - at-pre .args .j) _ (omega arith) (c .before .at16-within2 .ensures)
 
 same-length-2 : tie.Need-same-length-2
 same-length-2 c = search needs
 
 returns-4 : tie.Need-returns-4
-returns-4 c = search needs
+returns-4 c = search keeps-same
 
-set32-requires : tie.Need-set32-requires
-set32-requires c κs =
-    let at-get162 = c .before .before .before .before in
-    let at-if2 = at-get162 .before .before .before .before .before .before in
-    let at-if1 = at-if2 .before in
-    let at-args = at-if1 .before .before .before .before in
-    let n : at-get162 .get162 .result < maxVertices = rw (at-get162 .get162 .ensures) (far-room _ _ _ _ (at-args .pre .0) _ (at-args .args .j) _ (at-args .pre .1) refl (omega (arith, at-if1 .if1 .left)) (at-if2 .if2 .left)) in
-    omega (arith, n, at-args .pre .1 .room)
+put32-within-requires : tie.Need-put32-within-requires
+put32-within-requires c κs =
+    let at-pre = c .before .before .before .before .before .before .before .before .before .before .before .before .before .before .before in
+    end-room (at-pre .pre) (4 * (at-pre .args .j / 2) - 1 - at-pre .args .j) _ (omega arith) (c .before .before .before .before .at16-within2 .ensures)
 
 same-length-3 : tie.Need-same-length-3
 same-length-3 c = search needs
 
 returns-5 : tie.Need-returns-5
 returns-5 c =
-    let at-if4 = c .before .before .before .before in
-    let at-get323 = at-if4 .before in
-    let at-get162 = at-get323 .before .before in
-    let at-get322 = at-get162 .before .before in
-    let at-get32 = at-get322 .before in
-    let at-get16 = at-get32 .before .before in
-    let at-if2 = at-get16 .before in
-    let at-if1 = at-if2 .before in
-    let at-pre = at-if1 .before .before .before .before in
-    far-grounded _ _ _ _ (at-pre .pre .0) _ _ (at-pre .args .j) _ _ _ _ _ _ _ (at-pre .pre .1) refl (omega (arith, at-if1 .if1 .left)) (at-if2 .if2 .left)
-    (at-get16 .get16 .ensures) (at-get162 .get162 .ensures) (at-get32 .get32 .ensures) (at-get323 .get323 .ensures) (at-get322 .get322 .ensures) refl (at-if4 .if4 .left) (c .before .before .set32 .ensures)
+    let at-far-distance = c .before .before .before .before .before in
+    let at-far = at-far-distance .before .before in
+    let at-length = at-far .before .before in
+    let at-distance = at-length .before in
+    let at-near = at-distance .before .before in
+    let at-pre = at-near .before .before .before .before .before .before in
+    far-keeps _ _ _ _ (at-pre .pre) _ (at-pre .args .j) _ _ _ _ _ _ _ refl (omega arith) (at-near .before .if2 .left)
+    (at-near .at16-within .ensures) (at-far .at16-within2 .ensures) (at-distance .of32-within .ensures) (at-far-distance .of32-within3 .ensures) (at-length .of32-within2 .ensures) refl (c .before .before .before .before .if4 .left) (c .before .before .put32-within .ensures)
 
 pub relax-end-spec : {M : Type 1} → statement M
 relax-end-spec =
@@ -112,22 +95,22 @@ relax-end-spec =
     (tie.spec
     returns
     returns-2
-    sub-get16
-    get16-requires
-    get32-requires
-    sub-get32
-    get32-requires-2
+    sub-at16-within
+    at16-within-requires
+    of32-within-requires
+    sub-of32-within
+    of32-within-requires-2
     add-sum
     same-length
     returns-3
-    cast-get16
-    mul-get16
-    sub-get16-2
-    sub-get16-3
-    get16-requires-2
-    get32-requires-3
+    cast-at16-within
+    mul-at16-within
+    sub-at16-within-2
+    sub-at16-within-3
+    at16-within-requires-2
+    of32-within-requires-3
     same-length-2
     returns-4
-    set32-requires
+    put32-within-requires
     same-length-3
     returns-5)

@@ -1,29 +1,23 @@
 use borrow.Author.Needs.{needs}
 use native.Mathlib.Omega.{arith}
-use Rattle.search.proofs.Relaxing.{end-vertex}
+use Rattle.search.proofs.Relaxing.{keeps-same, end-vertex}
 use Rattle.search.proofs.dijkstra.dijkstra.Statement.{statement}
 use Rattle.search.proofs.dijkstra.dijkstra.Tie as tie
-use Rattle.search.proofs.incidence.link_all.Reads as link-all-reads
-use Rattle.search.proofs.dijkstra.scan_all.Reads as scan-all-reads
-use Rattle.search.proofs.heap.push.Reads as push-reads
 
 returns : tie.Need-returns
-returns c =
-    let at-pre = c .before .before .before .before .before .before .before .before in
-    at-pre .pre .1
+returns c = search keeps-same
 
 link-all-requires : tie.Need-link-all-requires
 link-all-requires c κs =
-    let at-args = c .before .before .before .before .before .before .before .before .before .before in
-    (at-args .pre .0 .few, (at-args .pre .0 .ends-room, λ k l. omega (arith, end-vertex _ _ _ (at-args .args .goal) (at-args .pre .0) k l, c .before .before .if1 .left)))
+    let at-pre = c .before .before .before .before .before .before .before .before .before .before in
+    let h = at-pre .pre .searchable in
+    (h .few, (h .ends-room, λ k l. omega (arith, end-vertex h k l, c .before .before .if1 .left)))
 
 push-requires : tie.Need-push-requires
 push-requires c κs = search needs
 
 scan-all-requires : tie.Need-scan-all-requires
-scan-all-requires c κs =
-    let at-pre = c .before .before .before .before .before .before .before .before .before .before .before .before .before .before .before .before .before .before .before .before .before .before .before .before .before .before .before in
-    (at-pre .pre .0, at-pre .pre .1)
+scan-all-requires c κs = search needs
 
 same-length : tie.Need-same-length
 same-length c = search needs
@@ -41,9 +35,7 @@ same-length-5 : tie.Need-same-length-5
 same-length-5 c = search needs
 
 returns-2 : tie.Need-returns-2
-returns-2 c =
-    let at-scan-all = c .before .before .before .before .before .before in
-    at-scan-all .scan-all .ensures
+returns-2 c = search needs
 
 pub dijkstra-spec : {M : Type 1} → statement M
 dijkstra-spec =

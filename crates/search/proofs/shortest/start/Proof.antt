@@ -3,13 +3,13 @@ use Rattle.search.proofs.Answers.{filled-more, filled-but}
 use Rattle.search.specs.Search.{unreached}
 use native.Mathlib.Omega.{arith}
 use lib.ListN.{length, getD, length-set}
-use mathlib.Core.Path.{_≡_, refl, _∙_}
+use mathlib.Core.Path.{_≡_, refl}
 use Prim.Native.Nat.{ℕ, _≤_, _<_, _-_}
 use borrow.Author.Needs.{needs}
 use Rattle.search.proofs.shortest.start.Statement.{statement}
 use Rattle.search.proofs.shortest.start.Tie as tie
-use Rattle.tables.proofs.access.put32.Reads as put32-reads
 
+-- the first i distances are unreached
 abbrev Inv-loop : tie.InvT-loop
 Inv-loop distances₀ goal i₀ distances i = (i ≤ length distances₀) × ((length distances ≡ length distances₀) × ((k : ℕ) → k < i → getD distances k 0 ≡ unreached))
 
@@ -23,10 +23,10 @@ mul-distances : tie.Need-mul-distances Inv-loop μ-loop
 mul-distances c = search needs
 
 slice-write-distances : tie.Need-slice-write-distances Inv-loop μ-loop
-slice-write-distances c = omega arith
+slice-write-distances c = search needs
 
 add-i : tie.Need-add-i Inv-loop μ-loop
-add-i c = omega arith
+add-i c = search needs
 
 loop-less : tie.Need-loop-less Inv-loop μ-loop
 loop-less c = omega arith
@@ -34,22 +34,18 @@ loop-less c = omega arith
 loop-again : tie.Need-loop-again Inv-loop μ-loop
 loop-again c =
     let inv = c .before .loop .inv in
-    (omega arith, (rw length-set (inv .1 .0), filled-more (c .before .loop .distances) _ _ _ (omega arith) refl (inv .1 .1)))
+    (omega arith, (simp length-set (inv .1 .0), filled-more (c .before .loop .distances) _ _ _ (omega arith) refl (inv .1 .1)))
 
 put32-requires : tie.Need-put32-requires Inv-loop μ-loop
 put32-requires c κs = search needs
 
 same-length : tie.Need-same-length Inv-loop μ-loop
-same-length c =
-    let at-loop = c .before .before .before .before .before in
-    c .before .before .put32 .kept .0 ∙ at-loop .loop .inv .1 .0
+same-length c = search needs
 
 returns : tie.Need-returns Inv-loop μ-loop
 returns c =
     let at-loop = c .before .before .before .before .before in
-    let at-pre = at-loop .before .before in
-    let l : at-pre .args .goal < length (at-loop .loop .distances) = omega (arith, at-loop .loop .inv .1 .0, at-pre .pre) in
-    filled-but (at-loop .loop .distances) _ _ _ l (c .before .before .put32 .ensures) (omega arith) (at-loop .loop .inv .1 .1)
+    filled-but (at-loop .loop .distances) _ _ _ (omega arith) (c .before .before .put32 .ensures) (omega arith) (at-loop .loop .inv .1 .1)
 
 pub start-spec : {M : Type 1} → statement M
 start-spec =

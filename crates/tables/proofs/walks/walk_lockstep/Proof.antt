@@ -2,15 +2,15 @@ use mathlib.Core.Path.{_≡_, sym, _∙_}
 use Prim.Native.Nat.{_+_, _≤_}
 use native.Mathlib.Omega.{arith}
 use borrow.Author.Needs.{needs}
-use Rattle.tables.specs.Walks.{lockstepIn, ahead}
-use Rattle.tables.proofs.Lockstep.{lockstep-none, lockstep-first, lockstep-second, lockstep-step, ahead-none}
+use Rattle.tables.specs.Walks.{lockstepIn, stepsAhead}
+use Rattle.tables.proofs.Lockstep.{lockstep-none, lockstep-first, lockstep-second, loop-end, loop-step, ahead-none}
 use Rattle.tables.proofs.walks.walk_lockstep.Statement.{statement}
 use Rattle.tables.proofs.walks.walk_lockstep.Tie as tie
 
 -- the walks from here on, with the steps so far in front, are the whole walks
 abbrev Inv-loop : tie.InvT-loop
 Inv-loop degrees sides ends fuel v₀ w₀ steps₀ left₀ v w steps left =
-    (steps + left ≤ fuel) × (ahead steps (lockstepIn degrees sides ends left (v .edge) (v .at) (w .edge) (w .at)) ≡ lockstepIn
+    (steps + left ≤ fuel) × (stepsAhead steps (lockstepIn degrees sides ends left (v .edge) (v .at) (w .edge) (w .at)) ≡ lockstepIn
     degrees sides ends fuel (v₀ .edge) (v₀ .at) (w₀ .edge) (w₀ .at))
 
 abbrev μ-loop : tie.MeasureT-loop
@@ -49,23 +49,23 @@ loop-again c =
     let h = sym (at-of16 .of16 .ensures) ∙ at-if1 .if1 .left in
     let g = sym (c .before .before .before .of162 .ensures) ∙ c .before .before .if2 .left in (
       omega arith,
-      sym (lockstep-step _ _ _ _ _ _ _ _ _ _ _ _ _ (at-loop-test .loop-test .taken) h g
+      sym (loop-step _ _ _ _ _ _ _ _ _ _ _ _ _ (at-loop-test .loop-test .taken) h g
           (c .before .step-over .ensures .0) (c .before .step-over .ensures .1) (c .step-over2 .ensures .0) (c .step-over2 .ensures .1))
           ∙ at-loop .loop .inv .1,
     )
 
 returns : tie.Need-returns Inv-loop μ-loop
-returns c = lockstep-none _ _ _ _ _ _ _ _ _ (c .loop-test .left) ∙ c .before .loop .inv .1
+returns c = loop-end _ _ _ _ (lockstep-none _ _ _ _ _ _ _ _ (c .loop-test .left)) ∙ c .before .loop .inv .1
 
 returns-2 : tie.Need-returns-2 Inv-loop μ-loop
 returns-2 c =
-    lockstep-first _ _ _ _ _ _ _ _ _ (λ e. c .if1 .taken (c .before .of16 .ensures ∙ e)) ∙ c .before .before .before .loop .inv .1
+    loop-end _ _ _ _ (lockstep-first _ _ _ _ _ _ _ _ (λ e. c .if1 .taken (c .before .of16 .ensures ∙ e))) ∙ c .before .before .before .loop .inv .1
 
 returns-3 : tie.Need-returns-3 Inv-loop μ-loop
 returns-3 c =
     let at-loop = c .before .before .before .before .before in
-    lockstep-second _ _ _ _ _ _ _ _ _ (sym (c .before .before .before .of16 .ensures) ∙ c .before .before .if1 .left)
-    (λ e. c .if2 .taken (c .before .of162 .ensures ∙ e)) ∙ at-loop .loop .inv .1
+    loop-end _ _ _ _ (lockstep-second _ _ _ _ _ _ _ _ (sym (c .before .before .before .of16 .ensures) ∙ c .before .before .if1 .left)
+    (λ e. c .if2 .taken (c .before .of162 .ensures ∙ e))) ∙ at-loop .loop .inv .1
 
 pub walk-lockstep-spec : {M : Type 1} → statement M
 walk-lockstep-spec =

@@ -1,6 +1,6 @@
+use Rattle.model.proofs.Series.Equality.{tables-parts}
 use borrow.Author.Needs.{needs}
 use Rattle.tables.specs.Steps.{zeroed}
-use Rattle.tables.proofs.Lists.{tables-same}
 use Rattle.tables.proofs.whole.clear_tables.Statement.{statement}
 use Rattle.tables.proofs.whole.clear_tables.Tie as tie
 
@@ -41,7 +41,7 @@ returns c =
     let at-clear163 = at-clear32 .before .before .before .before in
     let at-clear162 = at-clear163 .before .before .before .before in
     let at-clear16 = at-clear162 .before .before .before .before in
-    tables-same (at-clear16 .clear16 .ensures) (at-clear162 .clear162 .ensures) (at-clear163 .clear163 .ensures)
+    tables-parts (at-clear16 .clear16 .ensures) (at-clear162 .clear162 .ensures) (at-clear163 .clear163 .ensures)
     (at-clear32 .clear32 .ensures) (c .before .before .clear322 .ensures)
 
 pub clear-tables-spec : {M : Type 1} → statement M

@@ -1,8 +1,9 @@
+use Rattle.model.proofs.Series.Equality.{tables-parts}
 use mathlib.Core.Path.{ap, refl}
 use borrow.Author.Tests.{not-false}
 use borrow.Author.Needs.{needs}
 use Rattle.model.specs.Tables.{Tables}
-use Rattle.tables.proofs.Lists.{tables-same, not-same, differ}
+use Rattle.tables.proofs.Lists.{not-same, differ}
 use Rattle.tables.proofs.whole.same_tables.Statement.{statement}
 use Rattle.tables.proofs.whole.same_tables.Tie as tie
 
@@ -44,7 +45,7 @@ returns-6 c =
     let at-same162 = at-if2 .before in
     let at-if1 = at-same162 .before in
     let at-same16 = at-if1 .before in (
-      λ _. tables-same (at-same16 .same16 .ensures .0 (not-false _ (at-if1 .if1 .left)))
+      λ _. tables-parts (at-same16 .same16 .ensures .0 (not-false _ (at-if1 .if1 .left)))
           (at-same162 .same162 .ensures .0 (not-false _ (at-if2 .if2 .left)))
           (at-same163 .same163 .ensures .0 (not-false _ (at-if3 .if3 .left)))
           (c .before .before .before .same32 .ensures .0 (not-false _ (c .before .before .if4 .left)))

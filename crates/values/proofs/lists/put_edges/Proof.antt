@@ -5,8 +5,8 @@ use Prim.Native.Nat.{_+_, _≤_}
 use mathlib.Core.Path.{_≡_, refl}
 use Rattle.values.proofs.lists.put_edges.Statement.{statement}
 use Rattle.values.proofs.lists.put_edges.Tie as tie
-use Rattle.values.proofs.lists.put_edge.Reads as put-edge-reads
 
+-- v rises as left falls, so it fits 16 bits
 abbrev Inv-loop : tie.InvT-loop
 Inv-loop out₀ at n next₀ v₀ left₀ out next v left = (length out ≡ length out₀) × (v + left ≤ 65535)
 
@@ -18,9 +18,6 @@ loop-holds c = (refl, omega arith)
 
 add-put-edge : tie.Need-add-put-edge Inv-loop μ-loop
 add-put-edge c = omega (arith, c .before .before .loop .inv .1)
-
-put-edge-requires : tie.Need-put-edge-requires Inv-loop μ-loop
-put-edge-requires c κs = search needs
 
 add-v : tie.Need-add-v Inv-loop μ-loop
 add-v c =
@@ -41,9 +38,7 @@ loop-again c =
 same-length : tie.Need-same-length Inv-loop μ-loop
 same-length c = c .before .loop .inv .0
 
-returns : tie.Need-returns Inv-loop μ-loop
-returns c = search needs
-
+-- the needs in the order of the code
 pub put-edges-spec : {M : Type 1} → statement M
 put-edges-spec =
     tie.close
@@ -52,10 +47,10 @@ put-edges-spec =
     μ-loop
     loop-holds
     add-put-edge
-    put-edge-requires
+    (λ c κs. search needs)
     add-v
     sub-left
     loop-less
     loop-again
     same-length
-    returns)
+    (λ c. search needs))

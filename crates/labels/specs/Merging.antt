@@ -1,0 +1,75 @@
+-- Two chains become one, as functions of lists that mirror the code.
+use Prim.Native.Nat.{ℕ, _+_, _*_}
+use mathlib.Core.Bool.{Bool, true, false}
+use mathlib.Core.List.{List}
+use lib.ListN.{getD}
+use lib.Dec.{eqb}
+use Rattle.model.specs.Basics.{if_then_else_}
+use Rattle.model.specs.Labels.{base}
+use Rattle.tables.specs.Steps.{farIn, more16, nextIn}
+use Rattle.tables.specs.Walks.{Met, lockstepIn}
+use Rattle.labels.specs.Labelling.{MarksIn, countAhead, risesIn, labelVertexIn, relabelIn}
+use Rattle.labels.specs.declared.merging.Keeper.{Keeper}
+use Rattle.labels.specs.declared.merging.Keeper.the-variants.{Neither, Chain}
+
+-- the chains of the leaves x and y joined by edge e: x's keeps its labels, y's gets those that follow
+unfoldable pub joinIn : List ℕ → List ℕ → List ℕ → List ℕ → ℕ → ℕ → ℕ → ℕ → MarksIn
+joinIn degrees sides ends labels x y e n =
+    let dx = getD sides (2 * x) 0 in
+    let dy = getD sides (2 * y) 0 in
+    let u = farIn ends dx x in
+    let up = risesIn sides dx u in
+    let lx = nextIn up (getD labels u 0) in
+    let ly = nextIn up lx in
+    let h = labelVertexIn sides labels x lx dx e up in
+    let g = labelVertexIn (h .sides) (h .labels) y ly e dy up in
+    countAhead (h .count) (countAhead (g .count)
+    (relabelIn degrees ends up n (g .sides) (g .labels) dy (farIn ends dy y) (nextIn up ly)))
+
+-- two chains without regular vertices become one with two, a and b, in block k
+unfoldable pub beginIn : List ℕ → List ℕ → ℕ → ℕ → ℕ → ℕ → ℕ → ℕ → MarksIn
+beginIn sides labels a da b db e k =
+    let h = labelVertexIn sides labels a (base k) da e true in
+    labelVertexIn (h .sides) (h .labels) b (base k + 1) e db true
+
+-- what becomes of the chains: a ring is refused
+pub record Merged : Type 0 where
+  pub ring : Bool
+  pub sides : List ℕ
+  pub labels : List ℕ
+  pub blocks : ℕ
+  pub relabellings : ℕ
+
+abbrev pub merged : Bool → List ℕ → List ℕ → ℕ → ℕ → Merged
+merged ring sides labels blocks relabellings =
+    record { ring = ring; sides = sides; labels = labels; blocks = blocks; relabellings = relabellings }
+
+-- which chain keeps its labels, a's or b's, by where the walks in lockstep met
+unfoldable pub keeperFor : List ℕ → ℕ → ℕ → Met → Keeper
+keeperFor degrees a b m =
+    if eqb (getD degrees (m .second) 0) 2 then Chain b a
+    else if eqb (getD degrees (m .first) 0) 2 then Chain a b
+    else if eqb (m .steps) 0 then Neither
+    else Chain a b
+
+-- the chains merged, by which of them keeps its labels
+abbrev pub keeperIn : Keeper → List ℕ → List ℕ → List ℕ → List ℕ → ℕ → ℕ → ℕ → ℕ → ℕ → ℕ → ℕ → Merged
+keeperIn Neither degrees sides ends labels blocks a b e n da db =
+    let g = beginIn sides labels a da b db e (more16 blocks) in
+    merged false (g .sides) (g .labels) (more16 blocks) 0
+keeperIn (Chain x y) degrees sides ends labels blocks a b e n da db =
+    let j = joinIn degrees sides ends labels x y e n in
+    merged false (j .sides) (j .labels) blocks (j .count)
+
+unfoldable pub mergeAt : List ℕ → List ℕ → List ℕ → List ℕ → ℕ → ℕ → ℕ → ℕ → ℕ → ℕ → ℕ → Met → Merged
+mergeAt degrees sides ends labels blocks a b e n da db m =
+    if eqb (m .first) b then merged true sides labels blocks 0
+    else keeperIn (keeperFor degrees a b m) degrees sides ends labels blocks a b e n da db
+
+-- the chains of the leaves a and b are merged over edge e
+unfoldable pub mergeIn : List ℕ → List ℕ → List ℕ → List ℕ → ℕ → ℕ → ℕ → ℕ → ℕ → Merged
+mergeIn degrees sides ends labels blocks a b e n =
+    let da = getD sides (2 * a) 0 in
+    let db = getD sides (2 * b) 0 in
+    mergeAt degrees sides ends labels blocks a b e n da db
+    (lockstepIn degrees sides ends n da (farIn ends da a) db (farIn ends db b))
