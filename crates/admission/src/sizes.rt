@@ -1,12 +1,12 @@
 // Refusal 25: the sizes of lent tables.
-use counters::numbers::MAX_VERTICES;
+use counters::numbers::Vertex;
 use insertion::landing::MAX_EDGES;
 ghost use mathlib.Core.Path.{_≡_};
 ghost use Rattle.model.specs.Tables.{fits};
 ghost use Rattle.tables.specs.Steps.{tables};
 
 // One number for each vertex, or two; one for each edge, or two.
-const VERTICES: usize = MAX_VERTICES as usize;
+const VERTICES: usize = Vertex::COUNT as usize;
 
 const SIDES: usize = 2 * VERTICES;
 

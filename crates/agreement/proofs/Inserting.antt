@@ -1,4 +1,5 @@
--- One edge into the tables of a grown register, in every case: the degrees, sides, labels and counts that the definitions leave.
+-- One edge into the tables of a register that landing leaves, in every case: the degrees, sides, labels and counts that the definitions
+-- leave.
 use mathlib.Core.Path.{_≡_, refl, sym, ap, ap₂, _∙_}
 use mathlib.Core.Logic.{_≢_, _⊎_, inl, inr}
 use Prim.Native.Nat.{ℕ, _≤_, _<_}

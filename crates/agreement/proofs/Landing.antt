@@ -1,4 +1,4 @@
--- Landing an edge on the tables of a grown register: the tables, counts and refusals of the definition.
+-- Landing an edge on the tables of a register that landing leaves: the tables, counts and refusals of the definition.
 use mathlib.Core.Path.{_≡_, refl, sym, ap, ap₂, _∙_}
 use mathlib.Core.Logic.{_≢_}
 use Prim.Native.Nat.{ℕ, _+_, _≤_, _<_}

@@ -1,4 +1,5 @@
--- The ways out of grow, and of land behind the gate: from what the functions have computed to what the calls are defined to leave and answer.
+-- The ways out of grow, and of land behind the gate: from what the functions have computed to what the calls are defined to leave and
+-- answer.
 use mathlib.Core.Path.{_≡_, refl, sym, _∙_}
 use Prim.Native.Nat.{ℕ}
 use mathlib.Core.Bool.{Bool, true, false, _&&_}

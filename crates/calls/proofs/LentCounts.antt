@@ -1,4 +1,5 @@
--- `grow` and `land` differ in their callee's name alone, so their MIR is walked once, for any callee whose contract gives the function's own.
+-- `grow` and `land` differ in their callee's name alone, so their MIR is walked once, for any callee whose contract gives the function's
+-- own.
 -- The counts' borrow is opened, the counts go by value with the slices, and it is closed at what comes back.
 -- At exit there is just what the callee says of the slices' last lists (list's Passed.antt).
 use mathlib.Core.Path.{_≡_, refl, ap}

@@ -5,9 +5,6 @@ ghost use Prim.Native.Nat.{_-_, _^_};
 ghost use Rattle.counters.specs.Numbers.{within, vertexIn, labelIn, millimetresIn};
 ghost use Rattle.model.specs.Basics.{maxVertices, maxLength};
 
-// "At most 4,096 of each": a 4,097th is refused.
-pub const MAX_VERTICES: u16 = 4096;
-
 // Document 01's fitting number, from 0.
 pub struct Vertex(pub u16);
 
@@ -18,6 +15,9 @@ pub enum CheckedVertex {
 
 impl Vertex {
     pub const MAX: u16 = 4095;
+
+    // "At most 4,096 of each": a 4,097th is refused.
+    pub const COUNT: u16 = Vertex::MAX + 1;
 
     pub fn new(n: u32) -> CheckedVertex
         ensures { λ r. ⌜ vertexIn r ≡ within 0 (maxVertices - 1) n ⌝ }

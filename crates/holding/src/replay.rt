@@ -1,6 +1,6 @@
 // Refusal 21: the register's own edges are landed again, from empty, in scratch, and what that leaves is compared with the register.
 use counters::counts::Counts;
-use counters::numbers::MAX_VERTICES;
+use counters::numbers::Vertex;
 use counters::refusals::Refusal;
 use insertion::landing::Inserted;
 use insertion::landing::land_edge;
@@ -9,9 +9,8 @@ use tables::access::of32;
 use tables::whole::clear_tables;
 use tables::whole::same_tables;
 ghost use mathlib.Core.Path.{_≡_};
-ghost use mathlib.Core.Bool.{true};
 ghost use Rattle.counters.specs.Answers.{countsIn};
-ghost use Rattle.tables.specs.Steps.{tables, zeroed};
+ghost use Rattle.tables.specs.Steps.{tables, zeroed, Tells};
 ghost use Rattle.insertion.specs.Insertion.{landingIn};
 ghost use Rattle.insertion.specs.Meaning.{answerIn};
 ghost use Rattle.holding.specs.Replay.{replayIn, regrowIn, Regrows};
@@ -78,7 +77,7 @@ fn regrow(
         ≡ regrowIn (now (ownends .entry)) (now (ownlengths .entry)) (countsIn own)
         (tables (now (degrees .entry)) (now (sides .entry)) (now (ends .entry)) (now (lengths .entry)) (now (labels .entry))) ⌝ }
 {
-    if MAX_VERTICES < own.vertices {
+    if Vertex::COUNT < own.vertices {
         return Inserted::Refused(Refusal::TooManyVertices);
     }
     let from = Counts {
@@ -101,7 +100,7 @@ fn regrow(
 }
 
 fn same_counts(a: Counts, b: Counts) -> bool
-    ensures { λ r. ⌜ (r ≡ true → countsIn a ≡ countsIn b) × (countsIn a ≡ countsIn b → r ≡ true) ⌝ }
+    ensures { λ r. ⌜ Tells r (countsIn a) (countsIn b) ⌝ }
 {
     if a.vertices != b.vertices {
         return false;

@@ -51,6 +51,7 @@ pub record Landing : Type 0 where
   pub before : List ℕ
   pub after : List ℕ
 
+-- edge e lands on r, and r′ is left
 abbrev pub landingOf : Register → Edge → Register → Landing
 landingOf r e r′ = record { edge = e; before = r .labels; after = r′ .labels }
 

@@ -1,6 +1,6 @@
 // The vertex that has a label, and the name of an edge's chain.
 use crate::numbers::lesser;
-use counters::numbers::MAX_VERTICES;
+use counters::numbers::Vertex;
 use tables::access::at16;
 use tables::access::of16;
 use tables::access::of32;
@@ -22,7 +22,7 @@ pub fn find_label(labels: &[u32], label: u32) -> Found
     ensures { λ r. ⌜ foundIn r ≡ firstAt label (take maxVertices (now (labels .entry))) ⌝ }
 {
     let mut v: u16 = 0;
-    while v < MAX_VERTICES {
+    while v < Vertex::COUNT {
         if labels.len() <= (v as usize) {
             break;
         }

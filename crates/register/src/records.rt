@@ -1,6 +1,6 @@
 // A list landed on the tables, record by record.
 use counters::counts::Counts;
-use counters::numbers::MAX_VERTICES;
+use counters::numbers::Vertex;
 use counters::refusals::Refusal;
 use insertion::landing::Inserted;
 use insertion::landing::land_edge;
@@ -42,7 +42,7 @@ pub struct Reading {
 pub fn land_vertex(counts: Counts) -> Inserted
     ensures { λ r. ⌜ answerIn r ≡ landVertexIn (countsIn counts) ⌝ }
 {
-    if MAX_VERTICES <= counts.vertices {
+    if Vertex::COUNT <= counts.vertices {
         return Inserted::Refused(Refusal::TooManyVertices);
     }
     Inserted::Done(Counts {

@@ -1,4 +1,4 @@
--- The labels of every grown register: the bound of the relabellings, and no label twice.
+-- The labels of every register that landing leaves: the bound of the relabellings, and no label twice.
 use mathlib.Core.Path.{_≡_, refl, sym, _∙_}
 use mathlib.Core.Logic.{_≢_, _⊎_, inl, inr}
 use Prim.Native.Nat.{ℕ, zero, suc, _+_, _*_, _≤_, _<_}

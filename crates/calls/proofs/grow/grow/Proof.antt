@@ -1,4 +1,5 @@
--- `grow` meets its contract: its MIR is walked in LentCounts.antt, for any callee. Here the callee is `grow_with`, and what that ensures is what `grow` ensures.
+-- `grow` meets its contract: its MIR is walked in LentCounts.antt, for any callee. Here the callee is `grow_with`, and what that ensures is
+-- what `grow` ensures.
 use base.Logic.{id⊢}
 use contract.Running.{givenOf, tables, tablesOf}
 use denote.Triple.Spec.{tripleOf}

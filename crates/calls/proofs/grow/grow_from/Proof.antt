@@ -1,4 +1,6 @@
--- `grow_from` meets its contract: a walk of its MIR, by hand. The counts lie in a local, which is lent by `&mut` to `grow` for a lifetime that is made for the call, and comes back at the counts that `grow` says. All that the proof knows of `grow` is that it meets its contract.
+-- `grow_from` meets its contract: a walk of its MIR, by hand. The counts lie in a local, which is lent by `&mut` to `grow` for a lifetime
+-- that is made for the call, and comes back at the counts that `grow` says. All that the proof knows of `grow` is that it meets its
+-- contract.
 -- The slices go on to the callee, all together, and at exit there is just what the callee says of their last lists (list's Passed.antt).
 use mathlib.Core.Path.{refl, ap, subst}
 use Prim.Native.Nat.{ℕ, _+_, _*_, _-_}

@@ -1,4 +1,5 @@
--- `land` meets its contract: its MIR is walked in LentCounts.antt, for any callee. Here the callee is `land_with`, and what that ensures is what `land` ensures.
+-- `land` meets its contract: its MIR is walked in LentCounts.antt, for any callee. Here the callee is `land_with`, and what that ensures is
+-- what `land` ensures.
 use base.Logic.{id⊢}
 use contract.Running.{givenOf, tables, tablesOf}
 use denote.Triple.Spec.{tripleOf}

@@ -1,4 +1,5 @@
--- `record_at` meets its contract: a walk of its MIR, by hand. Its parameters are plain, and the reader lives in a local: `Reader::new` and `Reader::next` are called in turn, and all that the proof knows of each is that it meets its contract.
+-- `record_at` meets its contract: a walk of its MIR, by hand. Its parameters are plain, and the reader lives in a local: `Reader::new` and
+-- `Reader::next` are called in turn, and all that the proof knows of each is that it meets its contract.
 -- Nothing is kept of the list for the exit (Passed.antt), so what it owns goes from call to call.
 use mathlib.Core.Path.{refl}
 use Prim.Native.Nat.{ℕ, _<_, _^_}

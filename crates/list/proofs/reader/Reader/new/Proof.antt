@@ -1,4 +1,5 @@
--- `Reader::new` meets its contract: a walk of its MIR, by hand. A reader is made of the list and the index that are passed, in the result's local.
+-- `Reader::new` meets its contract: a walk of its MIR, by hand. A reader is made of the list and the index that are passed, in the result's
+-- local.
 -- What the list owns goes into the result, beside the facts of the index, and nothing is kept of it for the exit (Passed.antt).
 use mathlib.Core.Path.{refl}
 use Prim.Native.Nat.{ℕ, _<_, _^_}

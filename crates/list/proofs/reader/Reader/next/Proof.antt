@@ -1,4 +1,5 @@
--- `Reader::next` meets its contract: a walk of its MIR, by hand. The reader is taken apart, and `next_record` is called on the list and a cursor at the index. All that the proof knows of `next_record` is that it meets its contract.
+-- `Reader::next` meets its contract: a walk of its MIR, by hand. The reader is taken apart, and `next_record` is called on the list and a
+-- cursor at the index. All that the proof knows of `next_record` is that it meets its contract.
 -- What the list owns goes to the callee, and nothing is kept of it for the exit (Passed.antt).
 use mathlib.Core.Path.{_≡_, refl}
 use Prim.Native.Nat.{_<_, _^_}
