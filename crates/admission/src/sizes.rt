@@ -1,18 +1,11 @@
 // Refusal 25: the sizes of lent tables.
-use counters::numbers::Vertex;
-use insertion::landing::MAX_EDGES;
+use counters::sizes::EDGES;
+use counters::sizes::ENDS;
+use counters::sizes::SIDES;
+use counters::sizes::VERTICES;
 ghost use mathlib.Core.Path.{_≡_};
 ghost use Rattle.model.specs.Tables.{fits};
 ghost use Rattle.tables.specs.Steps.{tables};
-
-// One number for each vertex, or two; one for each edge, or two.
-const VERTICES: usize = Vertex::COUNT as usize;
-
-const SIDES: usize = 2 * VERTICES;
-
-const EDGES: usize = MAX_EDGES as usize;
-
-const ENDS: usize = 2 * EDGES;
 
 pub fn sizes_fit(
     degrees: &[u16],

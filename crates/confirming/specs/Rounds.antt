@@ -5,7 +5,8 @@ use mathlib.Core.List.{List}
 use lib.ListN.{getD}
 use Rattle.search.specs.Search.{Grounded, Round, Settled}
 
--- the distances that the search left, and the round over all edges that made distances of them with so many changes
+-- distances that were grounded before the round over all edges, and what the round made of them with so many changes; which grounded
+-- distances the search leaves is not settled, since it is a hint
 pub record FirstRound (ends lengths : List ℕ) (m goal from : ℕ) (distances : List ℕ) (changes : ℕ) : Type 0 where
   pub searched : List ℕ
   pub grounded : Grounded ends lengths m goal searched

@@ -1,6 +1,7 @@
 // The numbers of document 01 as types of their own, its refusals, and the head of a register.
-// numbers: fitting, tag and length; refusals: their names and numbers; answers: what a list is answered with; counts: the head.
+// numbers: fitting, tag and length; refusals: their names and numbers; answers: what a list is answered with; counts: the head; sizes: of its tables.
 pub mod answers;
 pub mod counts;
 pub mod numbers;
 pub mod refusals;
+pub mod sizes;

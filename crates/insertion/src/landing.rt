@@ -7,6 +7,7 @@ use counters::numbers::CheckedMillimetres;
 use counters::numbers::Millimetres;
 use counters::numbers::Vertex;
 use counters::refusals::Refusal;
+use counters::sizes::MAX_EDGES;
 use tables::access::add32;
 use tables::access::of16;
 use tables::access::one_more16;
@@ -18,9 +19,6 @@ ghost use Rattle.counters.specs.Answers.{countsIn};
 ghost use Rattle.tables.specs.Steps.{tables, setPair};
 ghost use Rattle.insertion.specs.Insertion.{landingIn, insertIn, checkIn, landIn};
 ghost use Rattle.insertion.specs.Meaning.{answerIn, checkedIn};
-
-// "At most 4,096 of each": a 4,097th is refused.
-pub const MAX_EDGES: u16 = 4096;
 
 // The counts after the edge (document 01: the head), or its refusal.
 pub enum Inserted {

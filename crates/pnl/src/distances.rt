@@ -1,6 +1,9 @@
 // The distance between two vertices of a register.
 use counters::counts::Counts;
 use counters::numbers::Vertex;
+use counters::sizes::ENDS;
+use counters::sizes::SIDES;
+use counters::sizes::VERTICES;
 use distance::measure::Distance;
 use distance::measure::measure;
 ghost use mathlib.Core.Path.{_≡_};
@@ -23,11 +26,11 @@ pub fn distance_in(
     ensures { λ r. ⌜ ((degrees sides labels : List ℕ) → distanceReply r
         ≡ measureIn (tables degrees sides (now (ends .entry)) (now (lengths .entry)) labels) (countsIn counts) (from .0) (to .0)) ⌝ }
 {
-    let mut heads = [0u16; 4096];
-    let mut heap = [0u16; 8192];
-    let mut next = [0u16; 8192];
-    let mut distances = [0u32; 4096];
-    let mut keys = [0u32; 4096];
+    let mut heads = [0u16; VERTICES];
+    let mut heap = [0u16; SIDES];
+    let mut next = [0u16; ENDS];
+    let mut distances = [0u32; VERTICES];
+    let mut keys = [0u32; VERTICES];
     measure(
         ends,
         lengths,

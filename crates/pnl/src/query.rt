@@ -8,6 +8,10 @@ use crate::checked::reach_checked;
 use crate::sheet::answer_sheet;
 use counters::counts::Counts;
 use counters::numbers::Label;
+use counters::sizes::EDGES;
+use counters::sizes::ENDS;
+use counters::sizes::SIDES;
+use counters::sizes::VERTICES;
 use lookups::find::find_in;
 use register::records::Stop;
 use register::records::grow_list;
@@ -65,11 +69,11 @@ fn answer_query(
 pub fn answer_call(list: &[u8], query: Query, answer: &mut [u8]) -> i32
     ensures { λ r. ⌜ returned (now (answer .exit)) r ≡ fromC (queryMeans query) (now (list .entry)) (now (answer .entry)) ⌝ }
 {
-    let mut degrees = [0u16; 4096];
-    let mut sides = [0u16; 8192];
-    let mut ends = [0u16; 8192];
-    let mut lengths = [0u32; 4096];
-    let mut labels = [0u32; 4096];
+    let mut degrees = [0u16; VERTICES];
+    let mut sides = [0u16; SIDES];
+    let mut ends = [0u16; ENDS];
+    let mut lengths = [0u32; EDGES];
+    let mut labels = [0u32; VERTICES];
     let reading = grow_list(
         &mut degrees,
         &mut sides,

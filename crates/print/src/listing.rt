@@ -1,5 +1,9 @@
 // The bytes that the printing program prints, built in a lent slice.
 use counters::counts::Counts;
+use counters::sizes::EDGES;
+use counters::sizes::ENDS;
+use counters::sizes::SIDES;
+use counters::sizes::VERTICES;
 use queries::names::is_name;
 use queries::rows::count_rows;
 use queries::rows::row_at;
@@ -138,11 +142,11 @@ pub fn print_list(list: &[u8], out: &mut [u8]) -> usize
     if 65536 < list.len() {
         return put_text(out, 0, b"too long\n");
     }
-    let mut degrees = [0u16; 4096];
-    let mut sides = [0u16; 8192];
-    let mut ends = [0u16; 8192];
-    let mut lengths = [0u32; 4096];
-    let mut labels = [0u32; 4096];
+    let mut degrees = [0u16; VERTICES];
+    let mut sides = [0u16; SIDES];
+    let mut ends = [0u16; ENDS];
+    let mut lengths = [0u32; EDGES];
+    let mut labels = [0u32; VERTICES];
     let reading = grow_list(
         &mut degrees,
         &mut sides,

@@ -4,7 +4,7 @@ use crate::access::of32_within;
 use crate::access::put32_within;
 use crate::heap::offer;
 use crate::relax::NO_VERTEX;
-use crate::relax::VERTICES;
+use counters::numbers::Vertex;
 use tables::access::of16;
 use tables::access::of32;
 ghost use Prim.Native.Nat.{_<_};
@@ -128,7 +128,7 @@ pub fn follow_both(
     let mut two = second;
     let mut size = queued;
     // No chain is longer, since it passes a vertex once.
-    let mut left = VERTICES;
+    let mut left = Vertex::COUNT;
     while 0 < left {
         let s = advance(ends, lengths, edges, heads, next, distances, from, one);
         let t = advance(ends, lengths, edges, heads, next, distances, from, two);

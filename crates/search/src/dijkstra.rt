@@ -4,13 +4,15 @@ use crate::chains::follow_both;
 use crate::heap::pop;
 use crate::heap::push;
 use crate::incidence::link_all;
-use crate::relax::VERTICES;
+use counters::numbers::Vertex;
+use counters::sizes::MAX_EDGES;
+use counters::sizes::VERTICES;
 use tables::access::of16;
 use tables::access::of32;
 ghost use Rattle.search.specs.Search.{Bounded, Keeps};
 
-// The incidence lists, one for each vertex.
-const LISTS: usize = VERTICES as usize;
+// Each edge has two ends.
+const MAX_ENDS: u16 = 2 * MAX_EDGES;
 
 // Follows the chains from vertex v, two at a time. The answer is the heap's size.
 fn scan(
@@ -31,8 +33,8 @@ fn scan(
 {
     let mut size = queued;
     let mut j = of16(heads, v);
-    // The list of a vertex has at most 8,192 ends.
-    let mut left: u16 = 8192;
+    // No list of ends is longer.
+    let mut left = MAX_ENDS;
     while 0 < left {
         if j == 0 {
             break;
@@ -76,7 +78,7 @@ fn scan_all(
 {
     let mut size = queued;
     // In this order a vertex is scanned once.
-    let mut left = VERTICES;
+    let mut left = Vertex::COUNT;
     while 0 < left {
         if size == 0 {
             break;
@@ -119,7 +121,7 @@ pub fn dijkstra(
     requires { ⌜ Bounded (now ends) (now lengths) edges (now distances) ⌝ }
     ensures { λ _. ⌜ Keeps (now (ends .entry)) (now (lengths .entry)) edges (now (distances .entry)) (now (distances .exit)) ⌝ }
 {
-    if heads.len() < LISTS {
+    if heads.len() < VERTICES {
         return;
     }
     link_all(ends, heads, next, edges);

@@ -7,9 +7,6 @@ ghost use mathlib.Core.Path.{_≡_};
 ghost use Prim.Native.Nat.{_<_, min, max};
 ghost use Rattle.search.specs.Search.{Bounded, Within, Relaxed, Round, Settled, Counted};
 
-// Vertices are numbered below this.
-pub const VERTICES: u16 = 4096;
-
 // The answer of a step that lowered nothing.
 pub const NO_VERTEX: u16 = 65535;
 

@@ -5,6 +5,10 @@ mod lists;
 use calls::grow::grow_from;
 use counters::answers::ListAnswer;
 use counters::counts::Counts;
+use counters::sizes::EDGES;
+use counters::sizes::ENDS;
+use counters::sizes::SIDES;
+use counters::sizes::VERTICES;
 use lists::put_edge;
 use lists::put_edges;
 use lists::put_start;
@@ -32,16 +36,16 @@ fn put_result(out: &mut [u8], at: usize, bytes: &[u8], n: usize) -> usize {
     if bytes.len() < n {
         return at;
     }
-    let mut degrees = [0u16; 4096];
-    let mut sides = [0u16; 8192];
-    let mut ends = [0u16; 8192];
-    let mut lengths = [0u32; 4096];
-    let mut labels = [0u32; 4096];
-    let mut sdegrees = [0u16; 4096];
-    let mut ssides = [0u16; 8192];
-    let mut sends = [0u16; 8192];
-    let mut slengths = [0u32; 4096];
-    let mut slabels = [0u32; 4096];
+    let mut degrees = [0u16; VERTICES];
+    let mut sides = [0u16; SIDES];
+    let mut ends = [0u16; ENDS];
+    let mut lengths = [0u32; EDGES];
+    let mut labels = [0u32; VERTICES];
+    let mut sdegrees = [0u16; VERTICES];
+    let mut ssides = [0u16; SIDES];
+    let mut sends = [0u16; ENDS];
+    let mut slengths = [0u32; EDGES];
+    let mut slabels = [0u32; VERTICES];
     let landing = grow_from(
         Counts::none(),
         &mut degrees,
