@@ -11,16 +11,17 @@ use lib.ListN.{length, getD, length-map, List·getD-eq-default}
 use Rattle.model.specs.Basics.{maxEdges, maxLength, sum}
 use Rattle.model.specs.Graph.{Edge, Pass, afterOf, edgeAt, endOf, endOnwards, far, isRegular, lengthAt, lengthsOf, noEdge, onwards, turn, walk}
 use Rattle.model.specs.Register.{Register}
-use Rattle.model.specs.Tables.{Tables, edgeIn, tablesOf}
+use Rattle.model.specs.Tables.{Tables, tablesOf}
 use Rattle.model.specs.Notions.{Reachable}
-use Rattle.tables.specs.Steps.{farIn, sum32, turnIn}
-use Rattle.queries.specs.Chains.{WalkEnd, walkEnd, walkIn}
+use Rattle.tables.specs.Steps.{farIn, turnIn}
+use Rattle.tables.proofs.Sums.{sum32-is}
+use Rattle.queries.specs.Chains.{WalkEnd, walkEnd, walkAhead, walkIn}
 use Rattle.queries.proofs.WalkLaws.{walkIn-on, walkIn-stop}
 use Rattle.model.proofs.Walks.Degree.{end-first, end-second}
 use Rattle.model.proofs.Walks.Turn.{At}
 use Rattle.model.proofs.Walks.Joins.{proper-at}
 use Rattle.model.proofs.Walks.Trail.{walk-on, walk-stop, Next, next-edge}
-use Rattle.model.proofs.Series.ReadBack.{edge-read}
+use Rattle.model.proofs.Series.ReadBack.{length-read}
 use Rattle.agreement.proofs.Lockstep.{Shows, shows-regular, shows-singular, shows-turn}
 use Rattle.agreement.proofs.Tables.{far-is, shows}
 use Rattle.agreement.proofs.Reached.{lawful, proper, room}
@@ -28,8 +29,8 @@ use Rattle.agreement.proofs.Reached.{lawful, proper, room}
 -- ---- what the tables say of an edge
 
 pub length-is : (r : Register) (d : ℕ) → d < length (r .edges) → getD ((tablesOf r) .lengths) d 0 ≡ lengthAt (r .edges) d
-unfolding edgeIn lengthAt
-length-is r d h = ap (λ (e : Edge). e .len) (edge-read r d h)
+unfolding lengthAt
+length-is r d h = length-read r d h
 
 module _ (r : Register) (g : Reachable r) where
   -- an edge lies at its two ends
@@ -82,10 +83,6 @@ module _ (r : Register) (g : Reachable r) (d v : ℕ) (a : At (r .edges) v d) wh
 
 -- ---- the sum of lengths
 
-pub sum32-is : (m n : ℕ) → m + n ≤ 4294967295 → sum32 m n ≡ m + n
-unfolding sum32
-sum32-is m n h = omega arith
-
 walk-most : (n : ℕ) (es : List Edge) (d v : ℕ) → length (walk n es d v) ≤ n
 unfolding walk
 walk-most zero es d v = omega arith
@@ -118,7 +115,7 @@ walkedBy es v ss = walkEnd (endOf es v ss) (length ss) (sum (lengthsOf es (map a
 
 module _ (r : Register) (g : Reachable r) where
   walks : (n d v : ℕ) → n ≤ maxEdges → At (r .edges) v d → walkOver (tablesOf r) n d v ≡ walkedBy (r .edges) v (walk n (r .edges) d v)
-  unfolding walkIn walk endOf sum lengthsOf afterOf
+  unfolding walkIn walkAhead walk endOf sum lengthsOf afterOf
   walks zero d v m a = refl
   walks (suc n) d v m a = go (isRegular es v) refl (λ c at. walks n c (far es c v) (omega arith) at)
     where
@@ -137,6 +134,7 @@ module _ (r : Register) (g : Reachable r) where
       go true q ih =
           let c : ℕ = turn es d v in
           let x : Step r d v = steps r g d v a q in
+          let k : 1 + length (walk n es c (far es c v)) ≡ suc (length (walk n es c (far es c v))) = omega arith in
           rw (
             walk-on n es d v q,
             walkIn-on (t .degrees) (t .sides) (t .ends) (t .lengths) n d v c (far es c v) (x .regular) (x .turns) (x .arrives),
@@ -144,6 +142,7 @@ module _ (r : Register) (g : Reachable r) where
             length-is r c (x .inside),
             sum32-is (lengthAt es c) (sum (lengthsOf es (map afterOf (walk n es c (far es c v)))))
                 (omega (arith, length-few r g c, walk-sum r g n c (far es c v))),
+            k,
           )
 
   pub walk-agrees : (d v : ℕ) → At (r .edges) v d

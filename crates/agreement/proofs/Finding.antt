@@ -18,6 +18,7 @@ use Rattle.model.specs.Register.{Register, lowEdgeOf}
 use Rattle.model.specs.Queries.{chainAt, find, lengthTo, reach, reached, refuses}
 use Rattle.model.specs.Tables.{Tables, countsOf, tablesOf}
 use Rattle.model.specs.Notions.{Reachable}
+use Rattle.tables.proofs.Sums.{sum32-is}
 use Rattle.queries.specs.Chains.{firstAt, firstFrom}
 use Rattle.queries.specs.Finding.{findIn, lengthToIn, reachIn}
 use Rattle.model.proofs.Walks.Degree.{is-two, two-is}
@@ -29,7 +30,7 @@ use Rattle.model.proofs.Series.Small.{reaches-small}
 use Rattle.agreement.proofs.Lists.{PairAt}
 use Rattle.agreement.proofs.Tables.{degrees-read, far-is, sides-linked}
 use Rattle.agreement.proofs.Reached.{few, labelled, labels-long, low-at, no-label, proper}
-use Rattle.agreement.proofs.Chaining.{length-is, sum32-is, walk-agrees}
+use Rattle.agreement.proofs.Chaining.{length-is, walk-agrees}
 use Rattle.agreement.proofs.Lowest.{nameOver, name-agrees, one-name}
 
 -- the sides of a regular vertex

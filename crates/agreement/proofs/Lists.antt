@@ -70,11 +70,6 @@ by-pairs n xs ys e k h = ext-getD 0 xs ys (omega arith) (λ i l. go i l (even-or
     go i l (j, inl q) = rw q ((h j (omega arith)) .0)
     go i l (j, inr q) = rw q ((h j (omega arith)) .1)
 
-length-sidesFrom : (r : Register) (at n : ℕ) → length (sidesOf r (countFrom at n)) ≡ 2 * n
-unfolding sidesOf countFrom
-length-sidesFrom r at zero = refl
-length-sidesFrom r at (suc n) = omega (arith, length-sidesFrom r (suc at) n)
-
 sidesFrom-read : (r : Register) (at n i : ℕ) → i < n → PairAt (sidesOf r (countFrom at n)) i (lowSide r (at + i)) (highSide r (at + i))
 unfolding sidesOf countFrom
 sidesFrom-read r at zero i h = absurd (not-suc-le-zero h)
@@ -87,10 +82,6 @@ sidesFrom-read r at (suc n) (suc i) h =
     let z : at + suc i ≡ suc at + i = omega arith in
     let ih = sidesFrom-read r (suc at) n i (omega arith) in
     (rw (even, z) (ih .0), rw (odd, z) (ih .1))
-
-pub length-sidesOf : (r : Register) (n : ℕ) → length (sidesOf r (upTo n)) ≡ 2 * n
-unfolding upTo
-length-sidesOf r n = length-sidesFrom r 0 n
 
 pub sidesOf-read : (r : Register) (n v : ℕ) → v < n → PairAt (sidesOf r (upTo n)) v (lowSide r v) (highSide r v)
 unfolding upTo

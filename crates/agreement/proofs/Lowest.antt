@@ -19,7 +19,7 @@ use Rattle.model.proofs.Walks.RingFree.{RingFree}
 use Rattle.model.proofs.Chains.Partition.{chain-has, chain-name}
 use Rattle.model.proofs.Chains.Own.{chain-inner, inner-chain}
 use Rattle.agreement.proofs.Reached.{proper, rings}
-use Rattle.agreement.proofs.Tables.{ends-are}
+use Rattle.model.proofs.Series.ReadBack.{first-read, second-read}
 use Rattle.agreement.proofs.Chaining.{Step, at-first, at-second, steps, stops}
 
 -- ---- the least of x and the numbers of a list, x compared first
@@ -102,8 +102,8 @@ name-agrees r g d h =
     let a : ℕ = (edgeAt es d) .first in
     let b : ℕ = (edgeAt es d) .second in
     rw (
-      (ends-are r d h) .0,
-      (ends-are r d h) .1,
+      first-read r d h,
+      second-read r d h,
       lowest-agrees r g (length es) d d b (at-second r g d h),
       lowest-agrees r g (length es) (lower (map afterOf (walk (length es) es d b)) d) d a (at-first r g d h),
     )

@@ -17,7 +17,7 @@ use Rattle.tables.specs.Steps.{farIn, turnIn}
 use Rattle.queries.specs.Chains.{isNameIn, noLowerIn}
 use Rattle.model.proofs.Walks.Turn.{At}
 use Rattle.model.proofs.Walks.Trail.{walk-on, walk-stop}
-use Rattle.agreement.proofs.Tables.{ends-are}
+use Rattle.model.proofs.Series.ReadBack.{first-read, second-read}
 use Rattle.agreement.proofs.Chaining.{Step, at-first, at-second, steps, stops}
 use Rattle.agreement.proofs.Lowest.{lower, lower-min, lower-most, name-is}
 
@@ -115,5 +115,5 @@ pub is-name-agrees : (r : Register) → Reachable r → (d : ℕ) → d < length
 unfolding isNameIn onwards
 is-name-agrees r g d h =
     let es : List Edge = r .edges in
-    rw ((ends-are r d h) .0, (ends-are r d h) .1, name-is es d)
+    rw (first-read r d h, second-read r d h, name-is es d)
     (no-lower r g d (length es) d ((edgeAt es d) .first) d ((edgeAt es d) .second) (at-first r g d h) (at-second r g d h))

@@ -12,11 +12,11 @@ use Rattle.model.specs.Register.{Register}
 use Rattle.model.specs.Queries.{row, rowsOf, sheet}
 use Rattle.model.specs.Tables.{Tables, countsOf, tablesOf}
 use Rattle.model.specs.Notions.{Reachable}
-use Rattle.tables.specs.Steps.{sum32}
+use Rattle.tables.proofs.Sums.{sum32-is}
 use Rattle.queries.specs.Chains.{namesIn, rowIn, rowsIn, sheetIn}
 use Rattle.model.proofs.Basics.Lists.{sum-around}
+use Rattle.model.proofs.Series.ReadBack.{first-read, second-read}
 use Rattle.model.proofs.Series.Small.{chains-small}
-use Rattle.agreement.proofs.Tables.{ends-are}
 use Rattle.agreement.proofs.Chaining.{at-first, at-second, length-is, walk-agrees}
 use Rattle.agreement.proofs.Naming.{is-name-agrees}
 
@@ -49,10 +49,6 @@ row-is es d =
     let on : List Pass = onwards es d ((edgeAt es d) .second) in
     rw (inner-is back on, length-by es d)
 
-sums-are : (k l m : ℕ) → k + (l + m) ≤ 4294967295 → sum32 k (sum32 l m) ≡ k + (l + m)
-unfolding sum32
-sums-are k l m h = omega arith
-
 abbrev rowOver : Tables → ℕ → ℕ → List ℕ
 rowOver t = rowIn (t .degrees) (t .sides) (t .ends) (t .lengths)
 
@@ -63,12 +59,13 @@ row-agrees r g d h =
     let a : ℕ = (edgeAt es d) .first in
     let b : ℕ = (edgeAt es d) .second in
     rw (
-      (ends-are r d h) .0,
-      (ends-are r d h) .1,
+      first-read r d h,
+      second-read r d h,
       walk-agrees r g d a (at-first r g d h),
       walk-agrees r g d b (at-second r g d h),
       length-is r d h,
-      sums-are (along es d a) (lengthAt es d) (along es d b) (omega (arith, length-by es d, chains-small r g d h)),
+      sum32-is (lengthAt es d) (along es d b) (omega (arith, length-by es d, chains-small r g d h)),
+      sum32-is (along es d a) (lengthAt es d + along es d b) (omega (arith, length-by es d, chains-small r g d h)),
     )
     (sym (row-is es d))
 

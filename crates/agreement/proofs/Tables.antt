@@ -1,5 +1,5 @@
 -- What the tables of a register show, and which tables are those of a register.
-use mathlib.Core.Path.{_≡_, refl, sym, ap, _∙_}
+use mathlib.Core.Path.{_≡_, refl, sym, _∙_}
 use mathlib.Core.Logic.{_≢_}
 use Prim.Native.Nat.{ℕ, _+_, _*_, _≤_, _<_, min}
 use native.Mathlib.Omega.{arith}
@@ -8,19 +8,20 @@ use mathlib.Core.List.{List, [], _∷_, _++_}
 use lib.ListN.{length, getD, length-set}
 use lib.Seq.{getD-set-other, getD-set-same}
 use borrow.Author.Tests.{eq-eqb, ne-eqb}
-use Rattle.model.specs.Basics.{maxEdges, maxVertices}
-use Rattle.model.specs.Graph.{Edge, degree, edgeAt, endsAt, far, isLeaf, isRegular, onlyEdge, same, turn}
+use Rattle.model.specs.Basics.{maxEdges, maxVertices, upTo}
+use Rattle.model.specs.Graph.{Edge, degree, endsAt, far, isLeaf, isRegular, onlyEdge, same, turn}
 use Rattle.model.specs.Register.{Register, lowEdgeOf}
-use Rattle.model.specs.Tables.{edgeIn, highSide, lowSide, tablesOf}
+use Rattle.model.specs.Tables.{highSide, lowSide, tablesOf}
 use Rattle.model.specs.Notions.{Reachable}
 use Rattle.tables.specs.Steps.{farIn, more16, most16, raiseBothIn, raiseIn}
 use Rattle.model.proofs.Walks.Degree.{Proper, degree-snoc, endsAt-le}
-use Rattle.agreement.proofs.Lists.{PairAt, by-pairs, getD-upTo, is-map, length-mapped, length-sidesOf, sidesOf-read}
+use Rattle.agreement.proofs.Lists.{PairAt, by-pairs, getD-upTo, is-map, length-mapped, sidesOf-read}
 use Rattle.agreement.proofs.Linked.{Linked, far-agrees}
 use Rattle.agreement.proofs.Lockstep.{Shows}
 use Rattle.agreement.proofs.Reached.{landed-below, low-at}
 use Rattle.model.proofs.Basics.Counting.{same-eq, same-most, same-ne}
-use Rattle.model.proofs.Series.ReadBack.{edge-read}
+use Rattle.model.proofs.Basics.Lists.{length-upTo}
+use Rattle.model.proofs.Series.ReadBack.{first-read, length-sides, second-read}
 
 -- ---- the two sides of a vertex, by its degree
 
@@ -48,7 +49,7 @@ sides-read r v h = sidesOf-read r maxVertices v h
 
 pub sides-long : (r : Register) → length ((tablesOf r) .sides) ≡ 2 * maxVertices
 unfolding tablesOf
-sides-long r = length-sidesOf r maxVertices
+sides-long r = omega (arith, length-sides r (upTo maxVertices), length-upTo maxVertices)
 
 -- it is linked
 pub sides-linked : (r : Register) → Reachable r → (v : ℕ) → v < maxVertices → Linked (r .edges) ((tablesOf r) .sides) (r .lows) v
@@ -132,12 +133,8 @@ raised es n degrees pr room long la lb h v l =
 
 -- ---- ends
 
-pub ends-are : (r : Register) (d : ℕ) → d < length (r .edges) → PairAt ((tablesOf r) .ends) d ((edgeAt (r .edges) d) .first) ((edgeAt (r .edges) d) .second)
-unfolding edgeIn
-ends-are r d h = (ap (λ (e : Edge). e .first) (edge-read r d h), ap (λ (e : Edge). e .second) (edge-read r d h))
-
 pub far-is : (r : Register) (d v : ℕ) → d < length (r .edges) → farIn ((tablesOf r) .ends) d v ≡ far (r .edges) d v
-far-is r d v h = far-agrees (r .edges) ((tablesOf r) .ends) d v (ends-are r d h)
+far-is r d v h = far-agrees (r .edges) ((tablesOf r) .ends) d v (first-read r d h, second-read r d h)
 
 pub shows : (r : Register) → Reachable r
     → Shows (r .edges) ((tablesOf r) .degrees) ((tablesOf r) .sides) ((tablesOf r) .ends) (r .lows)

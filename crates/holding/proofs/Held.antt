@@ -33,7 +33,7 @@ Agrees (refused x) l = l .answer ≡ refusedIn x
 
 module _ (own : Tables) where
   own-is : (e : ℕ) → edgeOf (own .ends) (own .lengths) e ≡ edgeIn own e
-  unfolding edgeOf edgeIn
+  unfolding edgeIn
   own-is e = refl
 
   -- n edges from number e on

@@ -42,7 +42,7 @@ answer-of e = ap (λ (l : LandingIn). l .answer) e
 -- the edge that the code reads
 own-edge : (es ls : List ℕ) (e i a b l : ℕ) → i ≡ 2 * e → a ≡ getD es i 0 → b ≡ getD es (i + 1) 0 → l ≡ getD ls e 0
     → record { first = a; second = b; len = l } ≡ edgeOf es ls e
-unfolding edgeOf edgeIn
+unfolding edgeIn
 own-edge es ls e i a b l p q r s = rw (q, r, s, p)
 
 replay-step-on : (es ls : List ℕ) (n e : ℕ) (t t′ : Tables) (c c′ : Counts) → 0 < n → landingIn t′ (done c′) ≡ landIn t c (edgeOf es ls e)
@@ -116,5 +116,5 @@ unfolding zeroed
 zeroed-again k = rw (k .degrees, k .sides, k .ends, k .lengths, k .labels)
 
 -- the same answer, and the same tables to land on
-pub regrows-on : (r r′ : Bool) (own : Tables) (c : Counts) (t t′ : Tables) → r′ ≡ r → t ≡ t′ → Regrows r own c t → Regrows r′ own c t′
-regrows-on r r′ own c t t′ q e h = subst (λ (u : Tables). Regrows r′ own c u) e (subst (λ (b : Bool). Regrows b own c t) (sym q) h)
+pub regrows-on : (r : Bool) (own : Tables) (c : Counts) (t t′ : Tables) → t ≡ t′ → Regrows r own c t → Regrows r own c t′
+regrows-on r own c t t′ e h = subst (λ (u : Tables). Regrows r own c u) e h

@@ -163,22 +163,6 @@ fn leaves_same(
     }
 }
 
-// The answer stands; the tables that it was found with are cleared.
-fn clear_behind(
-    answer: bool,
-    degrees: &mut [u16],
-    sides: &mut [u16],
-    ends: &mut [u16],
-    lengths: &mut [u32],
-    labels: &mut [u32],
-) -> bool
-    ensures { λ r. ⌜ (r ≡ answer) × (tables (now (degrees .exit)) (now (sides .exit)) (now (ends .exit)) (now (lengths .exit)) (now (labels .exit))
-        ≡ zeroed (tables (now (degrees .entry)) (now (sides .entry)) (now (ends .entry)) (now (lengths .entry)) (now (labels .entry)))) ⌝ }
-{
-    clear_tables(degrees, sides, ends, lengths, labels);
-    answer
-}
-
 // Whether the register is one that growing its own vertices and edges from empty leaves. Scratch ends all zero.
 pub fn is_held(
     degrees: &[u16],
@@ -212,5 +196,6 @@ pub fn is_held(
         slengths,
         slabels,
     );
-    clear_behind(same, sdegrees, ssides, sends, slengths, slabels)
+    clear_tables(sdegrees, ssides, sends, slengths, slabels);
+    same
 }

@@ -3,7 +3,7 @@ ghost use mathlib.Core.Path.{_≡_};
 ghost use Rattle.model.specs.Cases.{isolated, leaf, regular, classOf, caseOf};
 ghost use Rattle.insertion.specs.Meaning.{classIn, leafless, caseIn};
 
-// Degrees 0, 1, 2, 3 and up. Document 01 calls a leaf free, a regular vertex a coupling, and every other one a junction.
+// Degrees 0, 1, 2, 3 and up. Document 01 calls a regular vertex a coupling, every other one a junction, and a leaf free.
 pub enum Class {
     Isolated,
     Leaf,

@@ -25,9 +25,9 @@ join-law degrees s ends l s₁ l₁ s₂ l₂ s₃ l₃ x y e n dx dy ux uy old 
 
 pub begin-law : (s l s₁ l₁ s₂ l₂ : List ℕ) (a da b db e k low m₁ m₂ : ℕ) → low ≡ base k
     → marksIn s₁ l₁ m₁ ≡ labelVertexIn s l a low da e true → marksIn s₂ l₂ m₂ ≡ labelVertexIn s₁ l₁ b (low + 1) e db true
-    → marksIn s₂ l₂ m₂ ≡ beginIn s l a da b db e k
+    → marksIn s₂ l₂ 0 ≡ beginIn s l a da b db e k
 unfolding beginIn
-begin-law s l s₁ l₁ s₂ l₂ a da b db e k low m₁ m₂ h i j = rw (← h, ← i) j
+begin-law s l s₁ l₁ s₂ l₂ a da b db e k low m₁ m₂ h i j = rw (← h, ← i, ← j)
 
 -- which chain keeps its labels, the walks having met at m
 module _ (degrees : List ℕ) (a b : ℕ) (m : Met) where
@@ -61,13 +61,13 @@ module _ (degrees s ends l : List ℕ) (blocks a b e n da ua db ub : ℕ) (m : M
   merge-kept keeper o k = rw (← h .0, ← h .1, ← i .0, ← i .1, ← is, ne-eqb _ _ o, ← k)
 
 -- what the code answers, by the chain that keeps its labels
-module _ (degrees s ends l s′ l′ : List ℕ) (blocks a b e n da db m blocks′ m′ : ℕ) (ring : Bool) (keeper : Keeper) where
-  pub answer-joined : (x y : ℕ) → keeper ≡ Chain x y → marksIn s′ l′ m ≡ joinIn degrees s ends l x y e n
+module _ (degrees s ends l s′ l′ : List ℕ) (blocks a b e n da db blocks′ m′ : ℕ) (ring : Bool) (keeper : Keeper) where
+  pub answer-joined : (x y m : ℕ) → keeper ≡ Chain x y → marksIn s′ l′ m ≡ joinIn degrees s ends l x y e n
       → (ring ≡ false) × ((blocks′ ≡ blocks) × (m′ ≡ m))
       → merged ring s′ l′ blocks′ m′ ≡ keeperIn keeper degrees s ends l blocks a b e n da db
-  answer-joined x y o j z = rw (o, z .0, z .1 .0, z .1 .1, ← j)
+  answer-joined x y m o j z = rw (o, z .0, z .1 .0, z .1 .1, ← j)
 
-  pub answer-begun : (k : ℕ) → keeper ≡ Neither → k ≡ more16 blocks → marksIn s′ l′ m ≡ beginIn s l a da b db e k
+  pub answer-begun : (k : ℕ) → keeper ≡ Neither → k ≡ more16 blocks → marksIn s′ l′ 0 ≡ beginIn s l a da b db e k
       → (ring ≡ false) × ((blocks′ ≡ k) × (m′ ≡ 0))
       → merged ring s′ l′ blocks′ m′ ≡ keeperIn keeper degrees s ends l blocks a b e n da db
   answer-begun k o r j z = rw (o, z .0, z .1 .0, z .1 .1, ← r, ← j)

@@ -8,7 +8,7 @@ use Rattle.model.specs.Basics.{if_then_else_}
 use Rattle.model.specs.Labels.{base}
 use Rattle.tables.specs.Steps.{farIn, more16, nextIn}
 use Rattle.tables.specs.Walks.{Met, lockstepIn}
-use Rattle.labels.specs.Labelling.{MarksIn, countAhead, risesIn, labelVertexIn, relabelIn}
+use Rattle.labels.specs.Labelling.{MarksIn, marksIn, countAhead, risesIn, labelVertexIn, relabelIn}
 use Rattle.labels.specs.declared.merging.Keeper.{Keeper}
 use Rattle.labels.specs.declared.merging.Keeper.the-variants.{Neither, Chain}
 
@@ -30,7 +30,8 @@ joinIn degrees sides ends labels x y e n =
 unfoldable pub beginIn : List ℕ → List ℕ → ℕ → ℕ → ℕ → ℕ → ℕ → ℕ → MarksIn
 beginIn sides labels a da b db e k =
     let h = labelVertexIn sides labels a (base k) da e true in
-    labelVertexIn (h .sides) (h .labels) b (base k + 1) e db true
+    let g = labelVertexIn (h .sides) (h .labels) b (base k + 1) e db true in
+    marksIn (g .sides) (g .labels) 0
 
 -- what becomes of the chains: a ring is refused
 pub record Merged : Type 0 where

@@ -73,8 +73,7 @@ pub fn join_chains(
     n + (m + rest)
 }
 
-// Two chains without regular vertices become one with two, a and b, in block k. The answer, whether b is relabelled, is not used: a leaf
-// has no label.
+// Two chains without regular vertices become one with two, a and b, in block k. Neither is relabelled, since a leaf has no label.
 pub fn begin_chain(
     sides: &mut [u16],
     labels: &mut [u32],
@@ -84,13 +83,13 @@ pub fn begin_chain(
     db: u16,
     e: u16,
     k: u16,
-) -> u32
-    ensures { λ r. ⌜ marksIn (now (sides .exit)) (now (labels .exit)) r
+)
+    ensures { λ _. ⌜ marksIn (now (sides .exit)) (now (labels .exit)) 0
         ≡ beginIn (now (sides .entry)) (now (labels .entry)) a da b db e k ⌝ }
 {
     let low = base(k);
     label_vertex(sides, labels, a, low, da, e, true);
-    label_vertex(sides, labels, b, low + 1, e, db, true)
+    label_vertex(sides, labels, b, low + 1, e, db, true);
 }
 
 // The leaf whose chain keeps its labels, then the other; or neither, where no chain has a regular vertex.

@@ -11,10 +11,14 @@ const VERTEX_KIND: u8 = 0x46;
 
 const EDGE_KIND: u8 = 0x50;
 
-// In bytes; a vertex record is its kind alone.
-const HEADER_LENGTH: usize = 5;
+const VERSION: u16 = 1;
 
-const EDGE_LENGTH: usize = 9;
+// In bytes; a vertex record is its kind alone.
+const MARK_SIZE: usize = 3;
+
+const HEADER_SIZE: usize = 5;
+
+const EDGE_SIZE: usize = 9;
 
 // The index of the next byte.
 pub struct Cursor {
@@ -38,7 +42,7 @@ pub enum Record {
 fn has_mark(list: &[u8]) -> bool
     ensures { λ r. ⌜ r ≡ hasMark (now (list .entry)) ⌝ }
 {
-    if list.len() < 3 {
+    if list.len() < MARK_SIZE {
         return false;
     }
     if list[0] != b'P' {
@@ -56,13 +60,13 @@ pub fn read_header(list: &[u8]) -> Header
     if !has_mark(list) {
         return Header::Refused(Refusal::NoMark);
     }
-    if list.len() < HEADER_LENGTH {
+    if list.len() < HEADER_SIZE {
         return Header::Refused(Refusal::Cut);
     }
-    if u16_at(list, 3) != 1 {
+    if u16_at(list, MARK_SIZE) != VERSION {
         return Header::Refused(Refusal::Version);
     }
-    Header::Good(Cursor { at: HEADER_LENGTH })
+    Header::Good(Cursor { at: HEADER_SIZE })
 }
 
 // The kind comes before the cut: a last byte of no kind is refused as such.
@@ -80,7 +84,7 @@ pub fn next_record(list: &[u8], c: Cursor) -> Record
     if kind != EDGE_KIND {
         return Record::Refused(Refusal::UnknownKind);
     }
-    if list.len() - at < EDGE_LENGTH {
+    if list.len() - at < EDGE_SIZE {
         return Record::Refused(Refusal::Cut);
     }
     let first = u16_at(list, at + 1);
@@ -91,7 +95,7 @@ pub fn next_record(list: &[u8], c: Cursor) -> Record
         second,
         length,
         Cursor {
-            at: at + EDGE_LENGTH,
+            at: at + EDGE_SIZE,
         },
     )
 }

@@ -26,6 +26,9 @@ ghost use Rattle.io.specs.Counts.{Counts as Counted};
 ghost use Rattle.text.specs.Pages.{page, write};
 ghost use Rattle.print.specs.Listing.{listingIn, headBytes, rowBytes, stopBytes, roomBytes};
 
+// "At most 65,536 bytes": a longer list is not read as one.
+pub const MAX_LIST: usize = 65536;
+
 // Room for any listing.
 pub const ROOM: usize = 262144;
 
@@ -139,7 +142,7 @@ pub fn print_list(list: &[u8], out: &mut [u8]) -> usize
     requires { ⌜ roomBytes ≤ length (now out) ⌝ }
     ensures { λ r. ⌜ Counted r (now (out .exit)) × (take r (now (out .exit)) ≡ printed (now (list .entry))) ⌝ }
 {
-    if 65536 < list.len() {
+    if MAX_LIST < list.len() {
         return put_text(out, 0, b"too long\n");
     }
     let mut degrees = [0u16; VERTICES];

@@ -35,13 +35,12 @@ module _ (ds ss es ls : List ℕ) where
   walkIn-stop (suc n) d v h = rw (ne-eqb _ _ h)
 
   pub walkIn-on : (n d v c w : ℕ) → getD ds v 0 ≡ 2 → turnIn ss d v ≡ c → farIn es c v ≡ w
-      → let rest = walkIn ds ss es ls n c w in
-      walkIn ds ss es ls (suc n) d v ≡ walkEnd (rest .at) (suc (rest .inner)) (sum32 (getD ls c 0) (rest .length))
+      → walkIn ds ss es ls (suc n) d v ≡ walkAhead 1 (getD ls c 0) (walkIn ds ss es ls n c w)
   unfolding walkIn
   walkIn-on n d v c w h i j = rw (eq-eqb _ _ h, i, j)
 
   walk-most : (n d v : ℕ) → walkIn ds ss es ls n d v .length ≤ 4294967295
-  unfolding walkIn
+  unfolding walkIn walkAhead
   walk-most zero d v = omega arith
   walk-most (suc n) d v = go (eqb (getD ds v 0) 2) refl
     where
@@ -68,5 +67,5 @@ module _ (ds ss es ls : List ℕ) where
   walk-step zero d v c w k l x m h g a b e f = absurd (not-suc-le-zero h)
   walk-step (suc n) d v c w k l x m h g a b e f =
       let r : WalkEnd = walkIn ds ss es ls n c w in
-      let p : k + suc (r .inner) ≡ k + 1 + r .inner = omega arith in
+      let p : k + (1 + r .inner) ≡ k + 1 + r .inner = omega arith in
       rw (eq-eqb _ _ g, sub-one, ← a, ← b, ← e, f) (λ i. walkEnd (r .at) (p i) (sum32-assoc l x (r .length) i))

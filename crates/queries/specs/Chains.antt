@@ -19,17 +19,17 @@ pub record WalkEnd : Type 0 where
 abbrev pub walkEnd : ℕ → ℕ → ℕ → WalkEnd
 walkEnd v k l = record { at = v; inner = k; length = l }
 
+-- k regular vertices and a length l before those of w
+unfoldable pub walkAhead : ℕ → ℕ → WalkEnd → WalkEnd
+walkAhead k l w = walkEnd (w .at) (k + w .inner) (sum32 l (w .length))
+
 unfoldable pub walkIn : List ℕ → List ℕ → List ℕ → List ℕ → ℕ → ℕ → ℕ → WalkEnd
 walkIn degrees sides ends lengths zero d v = walkEnd v 0 0
 walkIn degrees sides ends lengths (suc n) d v =
     let c = turnIn sides d v in
     let rest = walkIn degrees sides ends lengths n c (farIn ends c v) in
-    let on = walkEnd (rest .at) (suc (rest .inner)) (sum32 (getD lengths c 0) (rest .length)) in
+    let on = walkAhead 1 (getD lengths c 0) rest in
     if eqb (getD degrees v 0) 2 then on else walkEnd v 0 0
-
--- k regular vertices and a length l before those of w
-unfoldable pub walkAhead : ℕ → ℕ → WalkEnd → WalkEnd
-walkAhead k l w = walkEnd (w .at) (k + w .inner) (sum32 l (w .length))
 
 -- Whether no edge of two walks has a number below e: both go on in lockstep, and stop at the first lower number.
 unfoldable pub noLowerIn : List ℕ → List ℕ → List ℕ → ℕ → ℕ → ℕ → ℕ → ℕ → ℕ → Bool

@@ -11,9 +11,6 @@ use tables::access::of16;
 use tables::access::of32;
 ghost use Rattle.search.specs.Search.{Bounded, Keeps};
 
-// Each edge has two ends.
-const MAX_ENDS: u16 = 2 * MAX_EDGES;
-
 // Follows the chains from vertex v, two at a time. The answer is the heap's size.
 fn scan(
     ends: &[u16],
@@ -33,8 +30,8 @@ fn scan(
 {
     let mut size = queued;
     let mut j = of16(heads, v);
-    // No list of ends is longer.
-    let mut left = MAX_ENDS;
+    // A vertex has at most one end of each edge.
+    let mut left = MAX_EDGES;
     while 0 < left {
         if j == 0 {
             break;

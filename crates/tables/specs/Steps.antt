@@ -8,7 +8,7 @@ use lib.ListN.{length, getD, set, replicate}
 use lib.Dec.{eqb}
 use Rattle.model.specs.Basics.{if_then_else_}
 use Rattle.model.specs.Graph.{Edge}
-use Rattle.model.specs.Tables.{Tables, Counts, Stored, edgeIn}
+use Rattle.model.specs.Tables.{Tables, Counts, Stored, edgeIn, edgesIn}
 
 -- the five tables as one record
 abbrev pub tables : List ℕ → List ℕ → List ℕ → List ℕ → List ℕ → Tables
@@ -68,6 +68,9 @@ zeroed t =
 abbrev pub stored : Tables → Counts → Stored
 stored t c = record { tables = t; counts = c }
 
--- edge e: it stands in the tables of ends and lengths alone
-unfoldable pub edgeOf : List ℕ → List ℕ → ℕ → Edge
+-- edge e, and the first m: edges stand in the tables of ends and lengths alone
+abbrev pub edgeOf : List ℕ → List ℕ → ℕ → Edge
 edgeOf ends lengths e = edgeIn (tables [] [] ends lengths []) e
+
+abbrev pub edgesOf : List ℕ → List ℕ → ℕ → List Edge
+edgesOf ends lengths m = edgesIn (tables [] [] ends lengths []) m

@@ -4,13 +4,13 @@ use Prim.Native.Nat.{ℕ, _*_, _≤_, _<_}
 use native.Mathlib.Omega.{arith}
 use mathlib.Core.Bool.{true, false}
 use mathlib.Core.Option.{some}
-use mathlib.Core.List.{List, [], _∷_}
+use mathlib.Core.List.{List}
 use lib.ListN.{length, drop, replicate, length-append, length-drop, length-replicate, length-map}
 use Rattle.model.specs.Basics.{inFront, maxEdges, maxVertices, upTo}
 use Rattle.model.specs.Graph.{Edge, degree}
 use Rattle.model.specs.Register.{Register, empty, marksOf, withEdge, withVertex}
 use Rattle.model.specs.Queries.{refuses}
-use Rattle.model.specs.Tables.{cleared, edgeLengths, endsOf, fits, held, padded, rightSizes, sidesOf, sizes, storedOf, tablesOf}
+use Rattle.model.specs.Tables.{cleared, edgeLengths, endsOf, fits, held, padded, rightSizes, sizes, storedOf, tablesOf}
 use Rattle.model.specs.Calls.{Call, Lent, Outcome, allFit, effect, finds, gate, grows, lands, measures, reaches, registerFor, scratchAfter, sheets, lentSlice, step}
 use Rattle.model.specs.Series.{Made, makes, start}
 use Rattle.model.proofs.Computing.{computing}
@@ -18,7 +18,7 @@ use Rattle.model.proofs.Basics.Lists.{length-upTo}
 use Rattle.model.proofs.Series.Accepted.{Accepted}
 use Rattle.model.proofs.Labels.Rise.{Sided}
 use Rattle.model.proofs.Series.Held.{GrowsAgain, is-held, empty-regrows, vertex-regrows, edge-regrows}
-use Rattle.model.proofs.Series.ReadBack.{length-ends, length-lengths}
+use Rattle.model.proofs.Series.ReadBack.{length-ends, length-lengths, length-sides}
 use Rattle.model.proofs.Series.Equality.{eqList-refl}
 use Rattle.model.proofs.Series.Labelled.{Labelled, labelled-empty, labelled-vertex, labelled-edge}
 use Rattle.model.proofs.Series.Sides.{sided-edge, sided-empty}
@@ -53,11 +53,6 @@ unfolding computing
 start-is = refl
 
 -- ---- the sizes of the tables
-
-length-sides : (r : Register) (vs : List ℕ) → length (sidesOf r vs) ≡ 2 * length vs
-unfolding sidesOf
-length-sides r [] = refl
-length-sides r (v ∷ vs) = omega (arith, length-sides r vs)
 
 length-padded : (n : ℕ) (xs : List ℕ) → length xs ≤ n → length (padded n xs) ≡ n
 unfolding padded inFront

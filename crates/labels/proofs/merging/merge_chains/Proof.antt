@@ -66,7 +66,7 @@ returns-2 c =
     let at-walk-lockstep = at-if1 .before .before in
     let at-leave-leaf2 = at-walk-lockstep .before .before in
     let at-leave-leaf = at-leave-leaf2 .before .before in
-    answer-begun _ _ _ _ _ _ _ _ _ _ _ _ _ _ _ _ _ _ _ (at-enum-told .enum-told .given .1)
+    answer-begun _ _ _ _ _ _ _ _ _ _ _ _ _ _ _ _ _ _ (at-enum-told .enum-told .given .1)
     (at-one-more16 .one-more16 .ensures) (at-begin-chain .begin-chain .ensures) (c .done .ensures)
     ∙ merge-kept _ _ _ _ _ _ _ _ _ _ _ _ _ _ (at-leave-leaf .leave-leaf .ensures) (at-leave-leaf2 .leave-leaf2 .ensures)
     (at-walk-lockstep .walk-lockstep .ensures) _ (at-if1 .if1 .left) (at-keeper-of .keeper-of .ensures)
