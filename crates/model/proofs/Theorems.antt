@@ -1,13 +1,11 @@
 -- What holds of every register that landing leaves: seven theorems, each a record of claims in the words of specs/, and its proof. Such
 -- registers are what growing leaves, what landing a list in one of them and what a series of calls leave (`reachable-grown`, `-list` and
 -- `-after` in Series/Reachable), and what lent tables hold (`only-held` in Series/OnlyHeld).
--- docs/THEORY.md has the argument. The proofs at the end rest on the files beside this one: 1 on Walks, 2 and 5 on Chains, 3 on Labels and
--- Groups, 4 on Groups, 6 on Distances, 7 on Series.
-use mathlib.Core.Path.{_≡_, subst}
+-- docs/THEORY.md has the argument, and the files on which each proof rests.
+use mathlib.Core.Path.{_≡_}
 use mathlib.Core.Logic.{_≢_, _⊎_}
 use Prim.Native.Nat.{ℕ, _+_, _*_, _^_, _≤_, _<_}
 use native.Mathlib.Omega.{arith}
-use native.Mathlib.Nat.{add-zero}
 use native.Mathlib.Numerals.{add-one}
 use mathlib.Core.Bool.{true, false}
 use mathlib.Core.List.{List, [], _∷_, _++_, List·Memᴰ as Mem}
@@ -17,24 +15,24 @@ use lib.Dec.{eqb·suc-suc}
 use Rattle.model.specs.Basics.{floorLog, sum}
 use Rattle.model.specs.Graph.{Chain, Edge, chainLength, chainOf, degree, edgeAt, endOnwards, endsAt, isLeaf, isRegular, nameOf, onwards, walk}
 use Rattle.model.specs.Register.{Register, labelOf, landEdge, landVertex, landed, marksOf, refused, withEdge, withVertex}
-use Rattle.model.specs.Distance.{ChainWay, Distance, IsDistance, LooseWay, Way, distance, joined, Joins, lengthVia}
-use Rattle.model.specs.Queries.{chainAt, find, measure, measured, reach, reached, refuses, sheetNumbers, lengthTo}
+use Rattle.model.specs.Distance.{ChainWay, IsDistance, LooseWay, Way, distance, joined, Joins, lengthVia}
+use Rattle.model.specs.Queries.{find, measure, measured, reach, reached, refuses, sheetNumbers, lengthTo}
 use Rattle.model.specs.Tables.{Stored, edgeLengths, held, storedOf}
 use Rattle.model.specs.Series.{FindsOwn, landedEdges, lengthColumn, relabelledBy}
 use Rattle.model.specs.Notions.{Admissible, IsChain, Reachable, Ring, SameChain, SheetNames, Upwards, history, reversed}
 use Rattle.model.proofs.Walks.Degree.{Proper, degree-snoc, is-two, not-two}
+use Rattle.model.proofs.Walks.Snoc.{regular-old}
 use Rattle.model.proofs.Walks.RingFree.{RingFree}
 use Rattle.model.proofs.Walks.Ring.{ring-none}
 use Rattle.model.proofs.Walks.Whole.{Onwards, onwards-ends}
 use Rattle.model.proofs.Chains.Sheet.{sheet-sum}
 use Rattle.model.proofs.Chains.Exact.{chain-is-chain, chain-only}
-use Rattle.model.proofs.Chains.Partition.{chain-has, chain-name, name-in-chain, name-least, chain-again}
+use Rattle.model.proofs.Chains.Partition.{chain-has, chain-name, name-in-chain, name-least}
 use Rattle.model.proofs.Chains.Names.{sheet-names}
 use Rattle.model.proofs.Chains.Reaches.{hop-lengths}
-use Rattle.model.proofs.Chains.Same.{same-back}
 use Rattle.model.proofs.Labels.Consecutive.{chain-upwards}
 use Rattle.model.proofs.Groups.FloorLog.{floorLog-fits, floorLog-most}
-use Rattle.model.proofs.Distances.Distance.{is-distance, unique}
+use Rattle.model.proofs.Distances.Distance.{is-distance}
 use Rattle.model.proofs.Distances.Hops.{chains-distance, loose-distance}
 use Rattle.model.proofs.Series.Labelled.{Labelled, labelled-bound, labels-unique, zero-then}
 use Rattle.model.proofs.Series.Kept.{kept-held}
@@ -47,7 +45,8 @@ use Rattle.model.proofs.Series.Answers.{find-none, finds-chain, measure
 
 -- ---- 1. No ring
 
--- Every walk ends at a singular vertex, within the number of edges. An edge is refused with 24 exactly if with it there would be a ring.
+-- Every walk ends at a singular vertex, within the number of edges. Of the edges that 5, 6, 7 and 23 do not hold of (`Admissible`), 24
+-- refuses exactly those with which there would be a ring.
 pub record NoRing (r : Register) : Type 0 where
   pub ends : (d v : ℕ) → d < length (r .edges) → endsAt v (edgeAt (r .edges) d) ≡ 1 → isRegular (r .edges) (endOnwards (r .edges) d v) ≡ false
   pub is-short : (d v : ℕ) → d < length (r .edges) → endsAt v (edgeAt (r .edges) d) ≡ 1 → length (onwards (r .edges) d v) < length (r .edges)
@@ -68,7 +67,6 @@ pub record OneChain (r : Register) : Type 0 where
   pub is-chain : (d : ℕ) → d < length (r .edges) → IsChain (r .edges) (chainOf (r .edges) d)
   pub has-edge : (d : ℕ) → Mem d ((chainOf (r .edges) d) .edges)
   pub only-chain : (c : Chain) (d : ℕ) → IsChain (r .edges) c → Mem d (c .edges) → SameChain c (chainOf (r .edges) d)
-  pub same-chain : (c d : ℕ) → d < length (r .edges) → Mem c ((chainOf (r .edges) d) .edges) → SameChain (chainOf (r .edges) d) (chainOf (r .edges) c)
   pub same-name : (c d : ℕ) → d < length (r .edges) → Mem c ((chainOf (r .edges) d) .edges) → nameOf (r .edges) c ≡ nameOf (r .edges) d
   pub name-in : (d : ℕ) → Mem (nameOf (r .edges) d) ((chainOf (r .edges) d) .edges)
   pub name-least : (c d : ℕ) → Mem c ((chainOf (r .edges) d) .edges) → nameOf (r .edges) d ≤ c
@@ -107,20 +105,17 @@ pub record ReachesAdd (r : Register) : Type 0 where
   pub answered : (v : ℕ) → isRegular (r .edges) v ≡ true → (low : ℕ) × (high : ℕ) × (reach r v ≡ reached low high)
   pub add-up : (v low high d : ℕ) → reach r v ≡ reached low high → d < length (r .edges) → Mem v ((chainOf (r .edges) d) .inner)
       → low + high ≡ chainLength (r .edges) d
-  pub add-up-own : (v low high : ℕ) → reach r v ≡ reached low high → low + high ≡ chainLength (r .edges) (chainAt r v)
   pub fits-32-bits : (v low high : ℕ) → reach r v ≡ reached low high → (low < 2 ^ 32) × (high < 2 ^ 32)
 
 -- ---- 6. Distances
 
 -- What is least over the edges is least over the chains, with stops at singular vertices or at any, and there is no way over the ones
--- exactly if there is none over the others. `measure` answers it. The hops of a way over the chains have the lengths that `reach` and the
--- sheet give.
+-- exactly if there is none over the others. `measure` answers it. The hops that lead to an end of a chain have the lengths that `reach` and
+-- the sheet give.
 pub record OneDistance (r : Register) : Type 0 where
   pub over-edges : (v w : ℕ) → IsDistance (λ l. Way (r .edges) v w l) (distance (r .edges) v w)
   pub over-chains : (v w : ℕ) → IsDistance (λ l. ChainWay (r .edges) v w l) (distance (r .edges) v w)
   pub any-stops : (v w : ℕ) → IsDistance (λ l. LooseWay (r .edges) v w l) (distance (r .edges) v w)
-  pub edges-chains : (v w : ℕ) (d : Distance) → IsDistance (λ l. Way (r .edges) v w l) d → IsDistance (λ l. ChainWay (r .edges) v w l) d
-  pub chains-edges : (v w : ℕ) (d : Distance) → IsDistance (λ l. ChainWay (r .edges) v w l) d → IsDistance (λ l. Way (r .edges) v w l) d
   -- and is not 2 ^ 32 - 1, which says "not joined"
   pub fits-32-bits : (v w l : ℕ) → distance (r .edges) v w ≡ joined l → l + 1 < 2 ^ 32
   pub answered : (v w : ℕ) → v < r .vertices → w < r .vertices → measure r v w ≡ measured (distance (r .edges) v w)
@@ -143,10 +138,6 @@ pub record ContentsFollow (r : Register) : Type 0 where
 regular-new : (es : List Edge) (e : Edge) (v : ℕ) → endsAt v e ≡ 1 → isRegular (es ++ (e ∷ [])) v ≡ isLeaf es v
 unfolding isRegular isLeaf
 regular-new es e v h = rw (degree-snoc es e v, h, add-one (degree es v)) (eqb·suc-suc (degree es v) 1)
-
-regular-old : (es : List Edge) (e : Edge) (v : ℕ) → endsAt v e ≡ 0 → isRegular (es ++ (e ∷ [])) v ≡ isRegular es v
-unfolding isRegular
-regular-old es e v h = rw (degree-snoc es e v, h, add-zero (degree es v))
 
 module _ (r : Register) (k : Reachable r) where
   l : Labelled r
@@ -183,7 +174,6 @@ module _ (r : Register) (k : Reachable r) where
         is-chain = chain-is-chain (r .edges) pr rf;
         has-edge = chain-has (r .edges);
         only-chain = chain-only (r .edges) pr rf;
-        same-chain = λ c d h m. same-back _ _ (chain-again (r .edges) pr rf c d h m);
         same-name = chain-name (r .edges) pr rf;
         name-in = name-in-chain (r .edges);
         name-least = name-least (r .edges);
@@ -227,7 +217,6 @@ module _ (r : Register) (k : Reachable r) where
       record {
         answered = λ v c. (_, _, reach-of r (kept r k) v c);
         add-up = reaches-add r (kept r k);
-        add-up-own = reaches-own r (kept r k);
         fits-32-bits = λ v low high e.
             let most : low + high ≤ 409600000 = omega (arith, reaches-own r (kept r k) v low high e, chains-small r k _ (reach-chain r (kept r k) v low high e .inside)) in
             (omega arith, omega arith);
@@ -235,20 +224,12 @@ module _ (r : Register) (k : Reachable r) where
 
   -- ---- 6
 
-  chains-of : (v w : ℕ) → IsDistance (λ n. ChainWay (r .edges) v w n) (distance (r .edges) v w)
-  chains-of v w = chains-distance (r .edges) pr rf v w (distance (r .edges) v w) (is-distance (r .edges) v w)
-
   pub theorem-6 : OneDistance r
   theorem-6 =
       record {
         over-edges = is-distance (r .edges);
-        over-chains = chains-of;
+        over-chains = λ v w. chains-distance (r .edges) pr rf v w (distance (r .edges) v w) (is-distance (r .edges) v w);
         any-stops = λ v w. loose-distance (r .edges) pr rf v w (distance (r .edges) v w) (is-distance (r .edges) v w);
-        edges-chains = chains-distance (r .edges) pr rf;
-        chains-edges = λ v w d h.
-            subst (λ (x : Distance). IsDistance (λ n. Way (r .edges) v w n) x)
-            (unique (λ n. ChainWay (r .edges) v w n) (distance (r .edges) v w) d (chains-of v w) h)
-            (is-distance (r .edges) v w);
         fits-32-bits = λ v w l e. omega (arith, distances-small r k v w l e);
         answered = measure-is r;
         hop-lengths = hop-lengths (r .edges) pr;
