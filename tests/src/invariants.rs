@@ -252,11 +252,11 @@ fn a_list_landed_in_parts() {
 }
 
 #[test]
-fn a_full_line_of_merges_comes_near_the_bound() {
+fn a_full_line_of_merges_keeps_the_bound() {
     let layout = shapes::balanced_merges(&mut Random::new(1), 4_096);
     let house = grown_in_order(&layout);
-    // Of 4,095 pipes; the bound is 4,095 times 11.
-    assert!(house.re_hung() > 10_000, "{}", house.re_hung());
+    // The pipes that join two pieces of 2^k fittings, 2^(11 - k) of them, re-hang 2^k - 2 tags each. The bound is 4,095 times 11.
+    assert_eq!(house.re_hung(), 18_434);
     check_re_hung_bound(&house);
     check_tags(&house);
     check_lengths(&house);
