@@ -62,13 +62,26 @@ fn put(numbers: &[u32], answer: &mut [u8]) -> i32 {
     4 * numbers.len() as i32
 }
 
+/// The two sides must answer alike: what they return, and every byte of the answer.
+fn alike(call: Call, list: &[u8], shape: &str) {
+    let (mut ours, mut theirs) = (vec![0; SHEET_MOST], vec![0; SHEET_MOST]);
+    assert_eq!(proved(call, list, &mut ours), plain(call, list, &mut theirs), "{call:?} {shape}");
+    assert_eq!(ours, theirs, "{call:?} {shape}");
+}
+
+/// The same for one call of each kind.
+pub fn all_alike(list: &[u8], shape: &str) {
+    for (_, call) in calls_on(list) {
+        alike(call, list, shape);
+    }
+}
+
 /// The times of the two sides for these calls, which must answer alike.
 pub fn times(asked: &[(Call, &[u8])], shape: &str) -> (f64, f64) {
-    let (mut ours, mut theirs) = (vec![0; SHEET_MOST], vec![0; SHEET_MOST]);
     for &(call, list) in asked {
-        assert_eq!(proved(call, list, &mut ours), plain(call, list, &mut theirs), "{call:?} {shape}");
-        assert_eq!(ours, theirs, "{call:?} {shape}");
+        alike(call, list, shape);
     }
+    let (mut ours, mut theirs) = (vec![0; SHEET_MOST], vec![0; SHEET_MOST]);
     compare(asked, |&(call, list)| proved(call, list, &mut ours), |&(call, list)| plain(call, list, &mut theirs))
 }
 

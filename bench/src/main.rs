@@ -1,6 +1,6 @@
-//! Growing lists of 512 to 4,096 fittings: the proved register, called as from C, against the same algorithm in plain Rust, in one run.
-//! Each figure is the least of many rounds, in microseconds, taken in turns; for a random shape it is the mean over several lists. The
-//! ratio is proved / plain.
+//! Growing and the sheet on lists of 512 to 4,096 fittings, and every call from C, with its stack, on full lists: the proved register
+//! against the same algorithm in plain Rust, in one run. Each figure is the least of many rounds, in microseconds, taken in turns; for a
+//! random shape it is the mean over several lists. The ratio is proved / plain.
 
 mod calls;
 #[path = "../../tests/shared/edges.rs"]
@@ -9,7 +9,7 @@ mod plain;
 #[path = "../../tests/shared/stack.rs"]
 mod stack;
 
-use calls::{times, Call};
+use calls::{all_alike, times, Call};
 use edges::{comb, line, tree, Edges, Random};
 use std::hint::black_box;
 use std::time::Instant;
@@ -91,10 +91,11 @@ fn put_heading(table: &str, shape: &str) {
     println!("{shape:<28} {:>6} {:>9} {:>9} {:>6}", "pipes", "proved", "plain", "ratio");
 }
 
-/// A row for each shape: the call on its houses of n fittings.
+/// A row for each shape: the call on its houses of n fittings. A call of each kind is compared before: GROW has no answer.
 fn put_rows(call: Call, n: usize, shapes: &[(&str, Vec<Edges>)]) {
     for (name, houses) in shapes {
         let lists: Vec<_> = houses.iter().map(|edges| list(n, edges)).collect();
+        lists.iter().for_each(|list| all_alike(list, name));
         let asked: Vec<_> = lists.iter().map(|list| (call, &list[..])).collect();
         let (proved, plain) = times(&asked, name);
         println!("{name:<28} {:>6} {proved:>9.1} {plain:>9.1} {:>6.2}", n - 1, proved / plain);

@@ -2,8 +2,8 @@
 
 use std::ptr;
 
-/// The bytes of stack that include/pnl.h promises to do with.
-pub const MOST_STACK: usize = 160 * 1024;
+/// The bytes of stack that a call has to stay below, as include/pnl.h promises.
+pub const STACK_BOUND: usize = 160 * 1024;
 
 extern "C" {
     fn pnl_sheet(list: *const u8, list_len: usize, answer: *mut u8, answer_len: usize) -> i32;

@@ -6,7 +6,7 @@ use reference::gen::{self, records};
 use reference::house::MOST_FITTINGS;
 use reference::list::{self, Record};
 
-use crate::archive::{Call, MOST_STACK};
+use crate::archive::{Call, STACK_BOUND};
 use crate::questions::{self, Question};
 use crate::stack;
 use crate::tally::Tally;
@@ -105,13 +105,13 @@ fn ask(list: &[u8], question: &Question, room: usize) -> Result<i32, Difference>
     ))
 }
 
-/// The most stack that a call on this list uses, if none uses more than it may.
+/// The most stack that a call on this list uses, if each stays below the bound.
 fn measure_stack(list: &[u8]) -> Result<usize, Difference> {
     let mut answer = vec![0; SHEET_MOST];
     let mut most = 0;
     for call in CALLS {
         let used = stack::used(|| _ = call.make(list, &mut answer));
-        if used > MOST_STACK {
+        if used >= STACK_BOUND {
             return Err(format!("{call:?} uses {used} bytes of stack"));
         }
         most = most.max(used);

@@ -53,13 +53,17 @@ impl Tally {
         self.count_stack(other.most_stack);
     }
 
-    /// The refusals that no call returned, and whether none found two fittings not joined.
+    /// The refusals that no call returned, and whether no two fittings were found not joined, and no
+    /// stack was measured.
     pub fn missing(&self) -> Vec<String> {
         let refusals = (1..=9).chain(22..=24);
         let unseen = refusals.filter(|refusal| !self.returned.contains_key(refusal));
         let mut missing: Vec<String> = unseen.map(|refusal| format!("refusal {refusal}")).collect();
         if self.not_joined == 0 {
             missing.push("not joined".to_string());
+        }
+        if self.most_stack == 0 {
+            missing.push("a stack measured".to_string());
         }
         missing
     }

@@ -167,7 +167,9 @@ mod tests {
     fn full_lists_are_whole_otherwise() {
         for &shape in WHOLE {
             let records = whole(&mut Random::new(3), shape);
-            assert_eq!(grow(&list::write(&records)).1, Ok(()));
+            let (house, result) = grow(&list::write(&records));
+            assert_eq!(result, Ok(()));
+            assert!(house.fittings().max(house.pipes().len()) > 3_500);
         }
     }
 }

@@ -1,0 +1,76 @@
+/* Each constant of include/pnl.h, compared with what the library answers. Prints those that differ, and returns 1 if there are any. */
+#include <inttypes.h>
+#include <stdio.h>
+#include <string.h>
+
+#include "pnl.h"
+
+#define HEADER "PNL\1\0"
+/* From fitting 0 to fitting 1, of 1 mm. */
+#define PIPE "P\0\0\1\0\1\0\0\0"
+/* Pipes 0-1 and 1-2, so that fitting 1 is a coupling; nothing is joined to fitting 3. */
+#define HOUSE HEADER "FFFF" PIPE "P\1\0\2\0\1\0\0\0"
+
+/* The arguments that a list given as a string, and an answer with room enough, are to a call. */
+#define LIST(text) (const uint8_t *)(text), sizeof (text) - 1
+#define ROOM answer, sizeof answer
+#define COMPARE(constant, answered) compare(#constant, constant, answered)
+
+static uint8_t answer[PNL_SHEET_MOST];
+static uint8_t full[5 + 4 + 9 * 4097];
+static int differ = 0;
+
+static void compare(const char *name, int64_t constant, int64_t answered)
+{
+    if (constant == answered)
+        return;
+    printf("%s is %" PRId64 " in pnl.h, and the library answers %" PRId64 "\n", name, constant, answered);
+    differ = 1;
+}
+
+/* The sheet of so many fittings and so many pipes, all from fitting 0 to fittings 1, 2 and 3 in turn: each pipe is a run of its own. */
+static int32_t full_sheet(size_t fittings, size_t pipes)
+{
+    size_t i, at = 5 + fittings;
+
+    memcpy(full, HEADER, 5);
+    memset(full + 5, 'F', fittings);
+    for (i = 0; i < pipes; i++, at += 9) {
+        memcpy(full + at, PIPE, 9);
+        full[at + 3] = (uint8_t)(1 + i % 3);
+    }
+    return pnl_sheet(full, at, ROOM);
+}
+
+static void compare_refusals(void)
+{
+    COMPARE(PNL_REFUSED_NO_MARK, pnl_sheet(LIST("PN"), ROOM));
+    COMPARE(PNL_REFUSED_VERSION, pnl_sheet(LIST("PNL\2\0"), ROOM));
+    COMPARE(PNL_REFUSED_CUT, pnl_sheet(LIST("PNL\1"), ROOM));
+    COMPARE(PNL_REFUSED_UNKNOWN_KIND, pnl_sheet(LIST(HEADER "G"), ROOM));
+    COMPARE(PNL_REFUSED_NOT_LANDED, pnl_sheet(LIST(HEADER "F" PIPE), ROOM));
+    COMPARE(PNL_REFUSED_SAME_FITTING, pnl_sheet(LIST(HEADER "F" "P\0\0\0\0\1\0\0\0"), ROOM));
+    COMPARE(PNL_REFUSED_LENGTH, pnl_sheet(LIST(HEADER "FF" "P\0\0\1\0\0\0\0\0"), ROOM));
+    COMPARE(PNL_REFUSED_TOO_MANY_FITTINGS, full_sheet(4097, 0));
+    COMPARE(PNL_REFUSED_TOO_MANY_PIPES, full_sheet(4, 4097));
+    COMPARE(PNL_REFUSED_RING, pnl_sheet(LIST(HEADER "FF" PIPE PIPE), ROOM));
+    COMPARE(PNL_REFUSED_NO_COUPLING, pnl_find(LIST(HOUSE), 0, ROOM));
+    COMPARE(PNL_REFUSED_SHORT_ANSWER, pnl_sheet(LIST(HOUSE), answer, 0));
+}
+
+static void compare_answers(void)
+{
+    COMPARE(PNL_SHEET_ROW, pnl_sheet(LIST(HOUSE), ROOM));
+    COMPARE(PNL_SHEET_MOST, full_sheet(4, 4096));
+    COMPARE(PNL_FIND_SIZE, pnl_find(LIST(HOUSE), 8192, ROOM));
+    COMPARE(PNL_REACH_SIZE, pnl_reach(LIST(HOUSE), 1, ROOM));
+    COMPARE(PNL_DISTANCE_SIZE, pnl_distance(LIST(HOUSE), 0, 3, ROOM));
+    COMPARE(PNL_NOT_JOINED, answer[0] | (int64_t)answer[1] << 8 | (int64_t)answer[2] << 16 | (int64_t)answer[3] << 24);
+}
+
+int main(void)
+{
+    compare_refusals();
+    compare_answers();
+    return differ;
+}
