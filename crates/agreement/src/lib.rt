@@ -1,1 +1,1 @@
-// The tables do what the definitions say.
+// What insertion and queries do to the tables is what model defines (proofs/). No code.

@@ -15,7 +15,7 @@ ghost use Rattle.admission.specs.Lent.{lent, outcome};
 
 // The counts go in and come back by value: `grow` takes its counts apart for it, and its proof cites this contract. `grow_from` promises
 // the same and goes through `grow`.
-pub fn grow_with(
+fn grow_with(
     counts: Counts,
     degrees: &mut [u16],
     sides: &mut [u16],

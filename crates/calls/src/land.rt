@@ -14,7 +14,7 @@ ghost use Rattle.tables.specs.Steps.{tables};
 ghost use Rattle.admission.specs.Lent.{lent, outcome};
 
 // The counts go in and come back by value: `land` takes its counts apart for it, and its proof cites this contract.
-pub fn land_with(
+fn land_with(
     counts: Counts,
     degrees: &mut [u16],
     sides: &mut [u16],

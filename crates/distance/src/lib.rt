@@ -1,3 +1,3 @@
-// The distance between two vertices of a register: what outsiders call, and the same for callers whose tables a replay has shown.
+// The distance between two vertices of a register. query: what outsiders call; measure: for tables that are known to be a register's.
 pub mod measure;
 pub mod query;

@@ -74,7 +74,8 @@ fn measure_in(
     distance_of(measured)
 }
 
-// The tables are those of a register, as a replay has shown. The scratch tables serve the search as heads, heap, next, distances and keys.
+// The tables are those of a register: a replay has shown it, or the call grew them. The scratch tables serve the search as heads, heap,
+// next, distances and keys.
 pub fn measure(
     ends: &[u16],
     lengths: &[u32],

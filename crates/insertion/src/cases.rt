@@ -46,7 +46,7 @@ pub fn case_of(first: Class, second: Class) -> Case
 }
 
 // The first end is no leaf; a leaf would be taken as isolated.
-pub fn case_of_other(first: Class, second: Class) -> Case
+fn case_of_other(first: Class, second: Class) -> Case
     ensures { λ r. ⌜ caseIn r ≡ caseOf (leafless (classIn first)) (classIn second) ⌝ }
 {
     match first {
@@ -56,7 +56,7 @@ pub fn case_of_other(first: Class, second: Class) -> Case
 }
 
 // The first end is singular and no leaf: an isolated vertex and a branch make the same cases.
-pub fn case_of_singular(second: Class) -> Case
+fn case_of_singular(second: Class) -> Case
     ensures { λ r. ⌜ caseIn r ≡ caseOf isolated (classIn second) ⌝ }
 {
     match second {
@@ -67,7 +67,7 @@ pub fn case_of_singular(second: Class) -> Case
     }
 }
 
-pub fn case_of_leaf(second: Class) -> Case
+fn case_of_leaf(second: Class) -> Case
     ensures { λ r. ⌜ caseIn r ≡ caseOf leaf (classIn second) ⌝ }
 {
     match second {
@@ -78,7 +78,7 @@ pub fn case_of_leaf(second: Class) -> Case
     }
 }
 
-pub fn case_of_regular(second: Class) -> Case
+fn case_of_regular(second: Class) -> Case
     ensures { λ r. ⌜ caseIn r ≡ caseOf regular (classIn second) ⌝ }
 {
     match second {

@@ -33,7 +33,7 @@ pub enum Checked {
 }
 
 // Document 01's order. These refusals look at no table.
-pub fn check_edge(counts: Counts, first: u16, second: u16, length: u32) -> Checked
+fn check_edge(counts: Counts, first: u16, second: u16, length: u32) -> Checked
     ensures { λ r. ⌜ checkedIn r ≡ checkIn (countsIn counts) (record { first = first; second = second; len = length }) ⌝ }
 {
     if counts.vertices <= first {
@@ -55,7 +55,7 @@ pub fn check_edge(counts: Counts, first: u16, second: u16, length: u32) -> Check
 }
 
 // Edge e is written down, and nothing that another edge wrote is touched.
-pub fn record_edge(ends: &mut [u16], lengths: &mut [u32], e: u16, a: u16, b: u16, length: u32)
+fn record_edge(ends: &mut [u16], lengths: &mut [u32], e: u16, a: u16, b: u16, length: u32)
     ensures { λ _. ⌜ (now (ends .exit) ≡ setPair (now (ends .entry)) e a b)
         × (now (lengths .exit) ≡ set (now (lengths .entry)) e length) ⌝ }
 {
@@ -64,7 +64,7 @@ pub fn record_edge(ends: &mut [u16], lengths: &mut [u32], e: u16, a: u16, b: u16
 }
 
 // An edge that no refusal of `check_edge` holds of. A ring, 24, shows before anything is written.
-pub fn insert_edge(
+fn insert_edge(
     degrees: &mut [u16],
     sides: &mut [u16],
     ends: &mut [u16],

@@ -26,7 +26,7 @@ pub enum Placement {
     Open(Extension),
 }
 
-pub fn placement_of(case: Case, a: u16, b: u16) -> Placement
+fn placement_of(case: Case, a: u16, b: u16) -> Placement
     ensures { λ r. ⌜ r ≡ placementFor (caseIn case) a b ⌝ }
 {
     match case {
@@ -43,7 +43,7 @@ pub fn placement_of(case: Case, a: u16, b: u16) -> Placement
 }
 
 // Vertex v is regular no more. The pieces of its chain keep their labels and sides: no other vertex is touched, no chain looked up.
-pub fn split_vertex(sides: &mut [u16], labels: &mut [u32], v: u16)
+fn split_vertex(sides: &mut [u16], labels: &mut [u32], v: u16)
     ensures { λ _. ⌜ marksIn (now (sides .exit)) (now (labels .exit)) 0
         ≡ marksIn (setPair (now (sides .entry)) v 0 0) (set (now (labels .entry)) v 0) 0 ⌝ }
 {
@@ -52,7 +52,7 @@ pub fn split_vertex(sides: &mut [u16], labels: &mut [u32], v: u16)
 }
 
 // Vertex v before edge e comes to it: an isolated one becomes a leaf with e as its only edge, a regular one is split.
-pub fn open_end(degrees: &[u16], sides: &mut [u16], labels: &mut [u32], v: u16, e: u16)
+fn open_end(degrees: &[u16], sides: &mut [u16], labels: &mut [u32], v: u16, e: u16)
     ensures { λ _. ⌜ marksIn (now (sides .exit)) (now (labels .exit)) 0
         ≡ openIn (now (degrees .entry)) (now (sides .entry)) (now (labels .entry)) v e ⌝ }
 {
@@ -66,7 +66,7 @@ pub fn open_end(degrees: &[u16], sides: &mut [u16], labels: &mut [u32], v: u16, 
 
 // Both ends are opened, the first named first. The second is split in the tables that the first split left, so that two regular
 // vertices of one chain need no care.
-pub fn open_both(
+fn open_both(
     degrees: &mut [u16],
     sides: &mut [u16],
     labels: &mut [u32],
@@ -86,7 +86,7 @@ pub fn open_both(
 
 // Both ends are opened, and then the chain of a leaf goes on over edge e, if one does. The other end may have split that very chain,
 // which e makes a loop: the leaf is labelled by what the split left, with the new degrees.
-pub fn place_open(
+fn place_open(
     extension: Extension,
     degrees: &mut [u16],
     sides: &mut [u16],
@@ -111,7 +111,7 @@ pub fn place_open(
 }
 
 // Both chains are merged and the degrees raised. A ring leaves the degrees too.
-pub fn place_merge(
+fn place_merge(
     degrees: &mut [u16],
     sides: &mut [u16],
     ends: &[u16],

@@ -28,7 +28,7 @@ pub fn base(k: u16) -> u32
 }
 
 // The sides of vertex v. Upwards the edge before it is the low one.
-pub fn orient_sides(sides: &mut [u16], v: u16, before: u16, after: u16, up: bool)
+fn orient_sides(sides: &mut [u16], v: u16, before: u16, after: u16, up: bool)
     ensures { λ _. ⌜ now (sides .exit) ≡ orientIn up (now (sides .entry)) v before after ⌝ }
 {
     if up {
@@ -39,7 +39,7 @@ pub fn orient_sides(sides: &mut [u16], v: u16, before: u16, after: u16, up: bool
 }
 
 // Document 01's re-hanging: both labels are not 0, and they differ.
-pub fn is_relabelled(old: u32, new: u32) -> bool
+fn is_relabelled(old: u32, new: u32) -> bool
     ensures { λ r. ⌜ r ≡ isRelabelled old new ⌝ }
 {
     if old == 0 {

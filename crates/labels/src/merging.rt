@@ -48,7 +48,7 @@ impl ChainChange {
 
 // The chains of the leaves x and y are joined by edge e. x's keeps its labels; the next ones go to x, to y, and along y's chain. The
 // answer counts the relabelled.
-pub fn join_chains(
+fn join_chains(
     degrees: &[u16],
     sides: &mut [u16],
     ends: &[u16],
@@ -74,7 +74,7 @@ pub fn join_chains(
 }
 
 // Two chains without regular vertices become one with two, a and b, in block k. Neither is relabelled, since a leaf has no label.
-pub fn begin_chain(
+fn begin_chain(
     sides: &mut [u16],
     labels: &mut [u32],
     a: u16,
@@ -99,7 +99,7 @@ pub enum Keeper {
 }
 
 // The chain with more regular vertices keeps its labels, a's on a tie: a walk that still stands at one is that of the longer chain.
-pub fn keeper_of(degrees: &[u16], meeting: Meeting, a: u16, b: u16) -> Keeper
+fn keeper_of(degrees: &[u16], meeting: Meeting, a: u16, b: u16) -> Keeper
     ensures { λ r. ⌜ r ≡ keeperFor (now (degrees .entry)) a b (met (meeting .first) (meeting .second) (meeting .steps)) ⌝ }
 {
     if of16(degrees, meeting.second) == 2 {

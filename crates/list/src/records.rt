@@ -90,12 +90,5 @@ pub fn next_record(list: &[u8], c: Cursor) -> Record
     let first = u16_at(list, at + 1);
     let second = u16_at(list, at + 3);
     let length = u32_at(list, at + 5);
-    Record::Edge(
-        first,
-        second,
-        length,
-        Cursor {
-            at: at + EDGE_SIZE,
-        },
-    )
+    Record::Edge(first, second, length, Cursor { at: at + EDGE_SIZE })
 }

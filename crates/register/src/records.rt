@@ -39,7 +39,7 @@ pub struct Reading {
     pub stop: Stop,
 }
 
-pub fn land_vertex(counts: Counts) -> Inserted
+fn land_vertex(counts: Counts) -> Inserted
     ensures { λ r. ⌜ answerIn r ≡ landVertexIn (countsIn counts) ⌝ }
 {
     if Vertex::COUNT <= counts.vertices {
@@ -54,7 +54,7 @@ pub fn land_vertex(counts: Counts) -> Inserted
 }
 
 // A landed record goes on at the next one, a refused one stops.
-pub fn step_of(inserted: Inserted, next: Cursor) -> Step
+fn step_of(inserted: Inserted, next: Cursor) -> Step
     ensures { λ r. ⌜ stepMeans r ≡ stepOf (next .at) (answerIn inserted) ⌝ }
 {
     match inserted {
@@ -63,7 +63,7 @@ pub fn step_of(inserted: Inserted, next: Cursor) -> Step
     }
 }
 
-pub fn land_record(
+fn land_record(
     degrees: &mut [u16],
     sides: &mut [u16],
     ends: &mut [u16],
@@ -100,7 +100,7 @@ pub fn land_record(
 }
 
 // The records from a cursor on. Each takes at least a byte, so there are no more than bytes.
-pub fn land_records(
+fn land_records(
     degrees: &mut [u16],
     sides: &mut [u16],
     ends: &mut [u16],

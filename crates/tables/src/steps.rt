@@ -34,12 +34,12 @@ pub fn low_edge(sides: &[u16], v: u16) -> u16
 }
 
 // The two elements of i: the sides of a vertex, or the ends of an edge.
-pub fn put_pair(xs: &mut [u16], i: u16, a: u16, b: u16)
-    ensures { λ _. ⌜ now (xs .exit) ≡ setPair (now (xs .entry)) i a b ⌝ }
+pub fn put_pair(narrow: &mut [u16], i: u16, a: u16, b: u16)
+    ensures { λ _. ⌜ now (narrow .exit) ≡ setPair (now (narrow .entry)) i a b ⌝ }
 {
     let at = 2 * (i as usize);
-    put16(xs, at, a);
-    put16(xs, at + 1, b);
+    put16(narrow, at, a);
+    put16(narrow, at + 1, b);
 }
 
 // The label after this one, upwards or downwards.
@@ -53,7 +53,7 @@ pub fn next_label(label: u32, up: bool) -> u32
 }
 
 // One more edge end at vertex v.
-pub fn raise_degree(degrees: &mut [u16], v: u16)
+fn raise_degree(degrees: &mut [u16], v: u16)
     ensures { λ _. ⌜ now (degrees .exit) ≡ raiseIn (now (degrees .entry)) v ⌝ }
 {
     let i = v as usize;

@@ -3,7 +3,7 @@ ghost use mathlib.Core.Path.{_≡_};
 ghost use lib.ListN.{length, replicate};
 ghost use Rattle.tables.specs.Steps.{tables, Tells, zeroed};
 
-pub fn clear16(narrow: &mut [u16])
+fn clear16(narrow: &mut [u16])
     ensures { λ _. ⌜ now (narrow .exit) ≡ replicate (length (now (narrow .entry))) 0 ⌝ }
 {
     let mut i = 0;
@@ -13,7 +13,7 @@ pub fn clear16(narrow: &mut [u16])
     }
 }
 
-pub fn clear32(wide: &mut [u32])
+fn clear32(wide: &mut [u32])
     ensures { λ _. ⌜ now (wide .exit) ≡ replicate (length (now (wide .entry))) 0 ⌝ }
 {
     let mut i = 0;
@@ -42,7 +42,7 @@ pub fn clear_tables(
 }
 
 // Whether two tables have the same length and the same elements.
-pub fn same16(xs: &[u16], ys: &[u16]) -> bool
+fn same16(xs: &[u16], ys: &[u16]) -> bool
     ensures { λ r. ⌜ Tells r (now (xs .entry)) (now (ys .entry)) ⌝ }
 {
     if xs.len() != ys.len() {
@@ -58,7 +58,7 @@ pub fn same16(xs: &[u16], ys: &[u16]) -> bool
     true
 }
 
-pub fn same32(xs: &[u32], ys: &[u32]) -> bool
+fn same32(xs: &[u32], ys: &[u32]) -> bool
     ensures { λ r. ⌜ Tells r (now (xs .entry)) (now (ys .entry)) ⌝ }
 {
     if xs.len() != ys.len() {

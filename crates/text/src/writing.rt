@@ -33,7 +33,7 @@ fn digit(n: u64) -> u8
 }
 
 // A number in decimal.
-pub fn put_number(out: &mut [u8], at: usize, n: u64) -> usize
+fn put_number(out: &mut [u8], at: usize, n: u64) -> usize
     ensures { λ r. ⌜ page (now (out .exit)) r ≡ write (decimal n) (page (now (out .entry)) at) ⌝ }
 {
     if n < 10 {

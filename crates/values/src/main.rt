@@ -1,5 +1,5 @@
-// Runs the values of document 01 that are not proved as theorems, and the full-size ones. Each line of the output is: fittings,
-// pipes, and where the list stopped (record and refusal, or 0 0).
+// Runs the values of document 01 that are not marked M, and the limits, at full size. Each line of the output is: fittings, pipes, and
+// where the list stopped (record and refusal, or 0 0).
 mod lists;
 
 use calls::grow::grow_from;
