@@ -12,7 +12,8 @@ use Rattle.model.proofs.Walks.Degree.{Proper}
 use Rattle.model.proofs.Walks.Turn.{At}
 use Rattle.model.proofs.Groups.Shape.{Shape, size, pick, pick-yes, pick-no, between-differ, between-or, Courses}
 use Rattle.model.proofs.Labels.Laid.{Direction, Near, none-near, near}
-use Rattle.model.proofs.Groups.Origins.{Origins, BlockAt, Aligned, Stand, FitsBlock, LowIs, labelAt, lowAt}
+use Rattle.model.proofs.Labels.Following.{labelAt, lowAt}
+use Rattle.model.proofs.Groups.Origins.{Origins, BlockAt, Aligned, Stand, FitsBlock, LowIs}
 use Rattle.model.proofs.Walks.Joins.{across, far-ne}
 
 -- one more block, to which no regular vertex belongs yet

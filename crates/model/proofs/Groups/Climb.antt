@@ -15,7 +15,7 @@ use Rattle.model.proofs.Walks.Trail.{Trail, done, pass}
 use Rattle.model.proofs.Walks.RingFree.{RingFree}
 use Rattle.model.proofs.Groups.Shape.{Shape, size, LeafAt, at-low, at-high, Successive, between-differ, between-or, Courses, place-fits}
 use Rattle.model.proofs.Groups.Flip.{flipped, flip-size, flip-low, flip-courses}
-use Rattle.model.proofs.Labels.Following.{Ith, here, later, InPath, Nth, nth}
+use Rattle.model.proofs.Walks.Places.{Ith, here, later, InPath, Nth, nth}
 use Rattle.model.proofs.Labels.Inwards.{inward}
 use Rattle.model.proofs.Walks.Joins.{across, far-ne}
 

@@ -15,7 +15,7 @@ use Rattle.model.proofs.Groups.Shape.{Shape, size, size-fresh, Successi
 use Rattle.model.proofs.Groups.Flip.{flipped, flip-place, flip-low, flip-courses}
 use Rattle.model.proofs.Groups.Climb.{low-path, inwards-short}
 use Rattle.model.proofs.Groups.Grown.{Growth, GrownTo, grownTo, size-x}
-use Rattle.model.proofs.Labels.Following.{Ith, here, later, InPath, ith-below}
+use Rattle.model.proofs.Walks.Places.{Ith, here, later, InPath, ith-below}
 use Rattle.model.proofs.Groups.Origins.{Origins, Aligned, offset, fits-near}
 use Rattle.model.proofs.Groups.Ghosts.{Ghosts}
 use Rattle.model.proofs.Groups.Laying.{Laying, begins, growth}

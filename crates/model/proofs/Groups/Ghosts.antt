@@ -13,7 +13,8 @@ use Rattle.model.proofs.Walks.Degree.{Proper}
 use Rattle.model.proofs.Walks.Turn.{At}
 use Rattle.model.proofs.Groups.Shape.{Shape, size, LeafAt, at-low, at-high, pick, pick-yes, pick-no, Courses, no-shape, no-courses}
 use Rattle.model.proofs.Groups.Flip.{flipped, flip-size, flip-place, keep-place, flip-low, keep-low, flip-high, flip-courses, between-flip, between-keep}
-use Rattle.model.proofs.Groups.Origins.{Origins, Fits, LowIs, labelAt, lowAt, Stand, Aligned, no-origins, no-aligned}
+use Rattle.model.proofs.Labels.Following.{labelAt, lowAt}
+use Rattle.model.proofs.Groups.Origins.{Origins, Fits, LowIs, Stand, Aligned, no-origins, no-aligned}
 
 -- The whole ghost state: some groups whose courses pay for the relabellings, and blocks in which the labels stand.
 pub record Ghosts (es : List Edge) (relabellings : ℕ) (m : Marks) (blocks : ℕ) : Type 0 where

@@ -20,7 +20,7 @@ use Rattle.model.proofs.Walks.RingFree.{RingFree}
 use Rattle.model.proofs.Chains.Same.{lineChain, Line}
 use Rattle.model.proofs.Chains.Partition.{LineOf, own-line}
 use Rattle.model.proofs.Chains.Exact.{line-back, line-back-chain}
-use Rattle.model.proofs.Groups.Origins.{labelAt, lowAt}
+use Rattle.model.proofs.Labels.Following.{labelAt, lowAt}
 use Rattle.model.proofs.Labels.Rise.{Rise, up-to, down-to, Sided}
 
 -- a trail from a singular vertex passes nothing

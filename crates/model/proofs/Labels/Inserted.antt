@@ -20,7 +20,7 @@ use Rattle.model.proofs.Walks.Snoc.{far-old, trail-old, trail-clear}
 use Rattle.model.proofs.Walks.RingFree.{RingFree}
 use Rattle.model.proofs.Walks.NewEdge.{at-new}
 use Rattle.model.proofs.Labels.Cases.{compact, edge-compact}
-use Rattle.model.proofs.Labels.Following.{here, later, InPath}
+use Rattle.model.proofs.Walks.Places.{here, later, InPath}
 use Rattle.model.proofs.Labels.Splits.{unlabel, Bare, splits, no-splits}
 use Rattle.model.proofs.Labels.Inwards.{trail-nil, trail-head, Inward, inward-on, inward}
 use Rattle.model.proofs.Labels.Laid.{Attached, attached, Laid, extendPath, mergePath, Inserted, fresh, extends, merges}

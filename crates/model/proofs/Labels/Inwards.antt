@@ -13,7 +13,7 @@ use Rattle.model.proofs.Walks.Turn.{At, onlyEdge-is}
 use Rattle.model.proofs.Walks.Joins.{across}
 use Rattle.model.proofs.Walks.Trail.{Trail, done, pass}
 use Rattle.model.proofs.Walks.RingFree.{RingFree}
-use Rattle.model.proofs.Labels.Following.{Ith, here, later}
+use Rattle.model.proofs.Walks.Places.{Ith, here, later}
 use Rattle.model.proofs.Walks.Whole.{Onwards, onwards-ends}
 
 pub trail-nil : {es : List Edge} {p f q g : ℕ} {ss : List Pass} → Trail es p f ss q g → ss ≡ [] → f ≡ g

@@ -13,7 +13,8 @@ use Rattle.model.specs.Labels.{Labelling, Marks, attach, base, inwards}
 use Rattle.model.proofs.Walks.Degree.{degree-snoc, end-cases}
 use Rattle.model.proofs.Walks.Turn.{At}
 use Rattle.model.proofs.Walks.Trail.{Trail}
-use Rattle.model.proofs.Labels.Following.{following, from-base, InPath}
+use Rattle.model.proofs.Walks.Places.{InPath}
+use Rattle.model.proofs.Labels.Following.{following, from-base}
 use Rattle.model.proofs.Labels.Splits.{Bare}
 
 -- A path goes on beside a vertex with this low edge, from its edge e: downwards if that is the low edge, else upwards.

@@ -11,10 +11,10 @@ use Rattle.model.proofs.Walks.Degree.{Proper, degree-snoc, proper-snoc,
 use Rattle.model.proofs.Walks.Turn.{At, some-edge}
 use Rattle.model.proofs.Walks.Snoc.{far-old}
 use Rattle.model.proofs.Walks.NewEdge.{at-new, old-edge}
-use Rattle.model.proofs.Labels.Following.{following, ithLabel, lowOf, Ith, ith-one}
+use Rattle.model.proofs.Walks.Places.{Ith, ith-one}
+use Rattle.model.proofs.Labels.Following.{following, ithLabel, lowOf, labelAt, lowAt}
 use Rattle.model.proofs.Labels.Laid.{Direction, Laid, Near, none-near, near}
 use Rattle.model.proofs.Labels.WearsAfter.{LongEnough, WearsAfter, in-path, as-was, wears-after}
-use Rattle.model.proofs.Groups.Origins.{labelAt, lowAt}
 use Rattle.model.proofs.Labels.Splits.{Bare}
 use Rattle.model.proofs.Labels.Inwards.{trail-regular}
 use Rattle.model.proofs.Walks.Once.{Pair, pair, at-once, Nearby, itself, ahead, behind, at-start, at-end, nearby}

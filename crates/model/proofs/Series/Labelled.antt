@@ -20,11 +20,10 @@ use Rattle.model.proofs.Walks.RingFree.{RingFree, ring-free}
 use Rattle.model.proofs.Walks.Ring.{no-ring}
 use Rattle.model.proofs.Walks.Sound.{Sound, empty-sound}
 use Rattle.model.proofs.Walks.NewEdge.{length-new, at-old, last-at, Which, is-new, is-old, which}
-use Rattle.model.proofs.Labels.Following.{Long, following-long}
+use Rattle.model.proofs.Labels.Following.{Long, following-long, labelAt}
 use Rattle.model.proofs.Labels.Laid.{Laid, Inserted, fresh, extends, merges}
 use Rattle.model.proofs.Labels.WearsAfter.{LongEnough}
 use Rattle.model.proofs.Labels.Inserted.{inserted}
-use Rattle.model.proofs.Groups.Origins.{labelAt}
 use Rattle.model.proofs.Labels.Singular.{BareSingular, bare-split, bare-laid}
 use Rattle.model.proofs.Groups.Bound.{bound}
 use Rattle.model.proofs.Groups.Ghosts.{Ghosts, no-ghosts}

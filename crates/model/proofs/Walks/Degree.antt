@@ -1,14 +1,15 @@
 -- Degrees, the ends of an edge, and the edges at a vertex.
 use mathlib.Core.Path.{_≡_, refl, sym, _∙_}
 use mathlib.Core.Logic.{_≢_, _⊎_, inl, inr}
-use Prim.Native.Nat.{ℕ, zero, suc, _+_, _≤_}
+use Prim.Native.Nat.{ℕ, zero, suc, _+_, _≤_, _<_}
 use native.Mathlib.Omega.{arith}
 use native.Mathlib.Decide.{ℕ-discrete}
 use mathlib.Core.Bool.{true, false}
 use mathlib.Core.List.{List, [], _∷_, _++_}
 use lib.ListN.{length}
 use borrow.Author.Tests.{eqb-true, eqb-false, eq-eqb, ne-eqb}
-use Rattle.model.specs.Graph.{Edge, degree, endsAt, incidentFrom, isRegular, same}
+use Rattle.model.specs.Graph.{Edge, degree, edgeAt, endsAt, incidentFrom, isRegular, same}
+use Rattle.model.specs.Notions.{Lawful}
 use Rattle.model.proofs.Basics.Counting.{same-eq, same-ne}
 
 -- one edge more
@@ -41,6 +42,10 @@ leaf-singular es v h = not-regular es v (λ e. omega arith)
 abbrev pub Proper : List Edge → Type 0
 Proper [] = Unit {0}
 Proper (p ∷ es) = (p .first ≢ p .second) × Proper es
+
+-- every edge is lawful among n vertices
+abbrev pub AllLawful : ℕ → List Edge → Type 0
+AllLawful n es = (d : ℕ) → d < length es → Lawful n (edgeAt es d)
 
 pub proper-snoc : (es : List Edge) (p : Edge) → Proper es → p .first ≢ p .second → Proper (es ++ (p ∷ []))
 proper-snoc [] p h d = (d, tt)

@@ -11,7 +11,7 @@ use Rattle.model.proofs.Walks.Turn.{At, TwoEdges, two-edges, turn-betwe
 use Rattle.model.proofs.Walks.Trail.{Trail, done, pass, Next, next-edge, afters, Front, front, first, nothing}
 use Rattle.model.proofs.Walks.Joins.{other-end}
 use Rattle.model.proofs.Walks.Ended.{fresh}
-use Rattle.model.proofs.Labels.Following.{Ith, here, later}
+use Rattle.model.proofs.Walks.Places.{Ith, here, later}
 
 -- ---- a walk that ends passes no regular vertex twice
 
