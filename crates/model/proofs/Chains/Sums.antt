@@ -37,14 +37,14 @@ named es p = same (nameOf es p) p
 
 module _ (es : List Edge) (pr : Proper es) (rf : RingFree es) where
   -- an edge's chain has each of its edges once, and only edges of the list
-  pub record Once (p : ℕ) : Type 0 where
-    pub distinct : Distinct ((chainOf es p) .edges)
-    pub below : AllBelow (length es) ((chainOf es p) .edges)
+  pub record Once (d : ℕ) : Type 0 where
+    pub distinct : Distinct ((chainOf es d) .edges)
+    pub below : AllBelow (length es) ((chainOf es d) .edges)
 
-  pub once : (p : ℕ) → p < length es → Once p
+  pub once : (d : ℕ) → d < length es → Once d
   unfolding lineChain
-  once p h =
-      let o = own-line es pr rf p h in
+  once d h =
+      let o = own-line es pr rf d h in
       record {
         distinct = subst (λ (c : Chain). Distinct (c .edges)) (o .chain-is) (line-distinct es pr (o .line));
         below = subst (λ (c : Chain). AllBelow (length es) (c .edges)) (o .chain-is) (line-below es pr (o .line));
@@ -72,16 +72,16 @@ module _ (es : List Edge) (pr : Proper es) (rf : RingFree es) where
   name-below k h = below-mem (length es) ((chainOf es k) .edges) ((once k h) .below) (nameOf es k) (name-in-chain es k)
 
   -- a chain is as long as its edges, each as often as it stands on the chain
-  pub length-occurs : (p : ℕ) → p < length es → chainLength es p ≡ total (length es) (λ k. occurs k ((chainOf es p) .edges) * lengthAt es k)
+  pub length-occurs : (d : ℕ) → d < length es → chainLength es d ≡ total (length es) (λ k. occurs k ((chainOf es d) .edges) * lengthAt es k)
   unfolding chainLength
-  length-occurs p h = omega (arith, sum-occurs es (length es) ((chainOf es p) .edges) ((once p h) .below))
+  length-occurs d h = omega (arith, sum-occurs es (length es) ((chainOf es d) .edges) ((once d h) .below))
 
-  expand : (p : ℕ) → p < length es
-      → named es p * chainLength es p ≡ total (length es) (λ k. (named es p * occurs k ((chainOf es p) .edges)) * lengthAt es k)
-  expand p h =
+  expand : (d : ℕ) → d < length es
+      → named es d * chainLength es d ≡ total (length es) (λ k. (named es d * occurs k ((chainOf es d) .edges)) * lengthAt es k)
+  expand d h =
       let n = length es in
-      let g : ℕ → ℕ = λ k. occurs k ((chainOf es p) .edges) * lengthAt es k in
-      ap (λ (s : ℕ). named es p * s) (length-occurs p h) ∙ mul-comm (named es p) (total n g) ∙ sym (total-mul n g (named es p)) ∙ total-same n _ _ (λ k l. omega arith)
+      let g : ℕ → ℕ = λ k. occurs k ((chainOf es d) .edges) * lengthAt es k in
+      ap (λ (s : ℕ). named es d * s) (length-occurs d h) ∙ mul-comm (named es d) (total n g) ∙ sym (total-mul n g (named es d)) ∙ total-same n _ _ (λ k l. omega arith)
 
   collapse : (k : ℕ) → k < length es → total (length es) (λ p. (named es p * occurs k ((chainOf es p) .edges)) * lengthAt es k) ≡ lengthAt es k
   collapse k h =

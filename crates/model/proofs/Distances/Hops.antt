@@ -88,13 +88,13 @@ module _ (es : List Edge) (pr : Proper es) (rf : RingFree es) where
       record { len = r .len; fits = omega (arith, s .fits, r .fits); way = rw (joins-far es d v x pr h j) at (r .way) }
 
   -- so one distance is both, and that of the looser reading too
-  pub chains-distance : (f g : ℕ) (d : Distance) → IsDistance (λ n. Way es f g n) d → IsDistance (λ n. ChainWay es f g n) d
-  chains-distance f g (joined d) l =
+  pub chains-distance : (v g : ℕ) (d : Distance) → IsDistance (λ n. Way es v g n) d → IsDistance (λ n. ChainWay es v g n) d
+  chains-distance v g (joined d) l =
       let s = edges-chains (l .holds) in
       let b = l .least (s .len) (chains-edges es pr (s .way)) in
-      record { holds = subst (λ (n : ℕ). ChainWay es f g n) (let z : s .len ≡ d = omega (arith, s .fits, b) in z) (s .way); least = λ e w. l .least e (chains-edges es pr w) }
-  chains-distance f g notJoined l = λ d w. l d (chains-edges es pr w)
+      record { holds = subst (λ (n : ℕ). ChainWay es v g n) (let z : s .len ≡ d = omega (arith, s .fits, b) in z) (s .way); least = λ e w. l .least e (chains-edges es pr w) }
+  chains-distance v g notJoined l = λ d w. l d (chains-edges es pr w)
 
-  pub loose-distance : (f g : ℕ) (d : Distance) → IsDistance (λ n. Way es f g n) d → IsDistance (λ n. LooseWay es f g n) d
-  loose-distance f g (joined d) l = record { holds = chains-loose ((chains-distance f g (joined d) l) .holds); least = λ e w. l .least e (loose-edges es pr w) }
-  loose-distance f g notJoined l = λ d w. l d (loose-edges es pr w)
+  pub loose-distance : (v g : ℕ) (d : Distance) → IsDistance (λ n. Way es v g n) d → IsDistance (λ n. LooseWay es v g n) d
+  loose-distance v g (joined d) l = record { holds = chains-loose ((chains-distance v g (joined d) l) .holds); least = λ e w. l .least e (loose-edges es pr w) }
+  loose-distance v g notJoined l = λ d w. l d (loose-edges es pr w)

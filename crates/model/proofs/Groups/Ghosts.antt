@@ -171,7 +171,7 @@ module _ (es : List Edge) (pr : Proper es) {relabellings : ℕ} {m : Marks} {blo
       go (at-high i t) (yes s) =
           let t′ : suc (h .place c) ≡ size h (length es) (h .group e) = rw s t in
           let z : e ≡ c = w .apart e c (a .inside) (b .inside) s (omega (arith, t′, k .top)) in
-          absurd (ne (sym (k .hi) ∙ ap (λ (f : ℕ). far es f (h .low f)) z ∙ i))
+          absurd (ne (sym (k .hi) ∙ ap (λ (v : ℕ). far es v (h .low v)) z ∙ i))
       go (at-high i t) (no s) = record {
         high = record {
           ghosts = turned (k .ghosts) g;

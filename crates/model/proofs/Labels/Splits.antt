@@ -38,12 +38,12 @@ record Off (es : List Edge) (f : ℕ) (m m′ : Marks) : Type 0 where
   long-lows : length (m′ .lows) ≡ length (m .lows)
   move : (ts : List ℕ) → relabelCount ts (m′ .labels) ≤ relabelCount ts (m .labels)
 
-set-off : (xs : List ℕ) (f : ℕ) → getD (set xs f 0) f 0 ≡ 0
-set-off xs f = go (decLt f (length xs))
+set-off : (xs : List ℕ) (v : ℕ) → getD (set xs v 0) v 0 ≡ 0
+set-off xs v = go (decLt v (length xs))
   where
-    go : Dec (f < length xs) → getD (set xs f 0) f 0 ≡ 0
-    go (yes l) = getD-set-same xs f 0 0 l
-    go (no l) = List·getD-eq-default (set xs f 0) 0 (omega (arith, length-set xs f 0))
+    go : Dec (v < length xs) → getD (set xs v 0) v 0 ≡ 0
+    go (yes l) = getD-set-same xs v 0 0 l
+    go (no l) = List·getD-eq-default (set xs v 0) 0 (omega (arith, length-set xs v 0))
 
 set-zero : (xs : List ℕ) (f v : ℕ) → getD xs v 0 ≡ 0 → getD (set xs f 0) v 0 ≡ 0
 set-zero xs f v z = go (ℕ-discrete v f)

@@ -126,10 +126,10 @@ labelled-vertex r c h = record {
   ghosts = c .ghosts;
 }
 
-zeros : (n f : ℕ) → _≡_ {A = ℕ} (getD (replicate n 0) f 0) 0
-zeros zero f = refl
+zeros : (n v : ℕ) → _≡_ {A = ℕ} (getD (replicate n 0) v 0) 0
+zeros zero v = refl
 zeros (suc n) zero = refl
-zeros (suc n) (suc f) = zeros n f
+zeros (suc n) (suc v) = zeros n v
 
 pub labelled-empty : Labelled empty
 unfolding empty marksOf

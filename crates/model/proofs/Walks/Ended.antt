@@ -16,8 +16,8 @@ use Rattle.model.proofs.Walks.Joins.{across, far-ne, other-end, Across}
 use Rattle.model.proofs.Walks.Trail.{Trail, done, pass, trail-walk, trail-at, Next, next-edge, afters, Cut, cut, backwards, trail-back, length-backwards}
 
 -- along one edge to one vertex there is one walk that ends
-pub trail-unique : {es : List Edge} {p f q g q′ g′ : ℕ} {ss ss′ : List Pass} → Trail es p f ss q g → isRegular es g ≡ false
-    → Trail es p f ss′ q′ g′ → isRegular es g′ ≡ false → ss ≡ ss′
+pub trail-unique : {es : List Edge} {d v q g q′ g′ : ℕ} {ss ss′ : List Pass} → Trail es d v ss q g → isRegular es g ≡ false
+    → Trail es d v ss′ q′ g′ → isRegular es g′ ≡ false → ss ≡ ss′
 trail-unique {ss = ss} {ss′ = ss′} u j u′ j′ =
     sym (trail-walk (length ss + length ss′) u j (omega arith)) ∙ trail-walk (length ss + length ss′) u′ j′ (omega arith)
 
@@ -82,19 +82,19 @@ module _ (es : List Edge) (pr : Proper es) where
       go (no d) =
           never es pr a (pass t c e (r .before)) refl (other-end es p f (r .to) pr a ar d)
 
-  pub trail-distinct : {p f q g : ℕ} {ss : List Pass} → At es f p → Trail es p f ss q g → isRegular es g ≡ false → Distinct (p ∷ afters ss)
+  pub trail-distinct : {d v q g : ℕ} {ss : List Pass} → At es v d → Trail es d v ss q g → isRegular es g ≡ false → Distinct (d ∷ afters ss)
   unfolding afters afterOf occurs
   trail-distinct a done j = distinct-cons _ [] (λ m. elim m [ ]) (λ k. omega arith)
-  trail-distinct {p} {f} {q} {g} a (pass {ss = ss} t c e u) j =
-      distinct-cons p (t ∷ afters ss) (fresh p f q g t ss a c e u j) (trail-distinct ((next-edge es p f t pr a c e) .across .at) u j)
+  trail-distinct {d} {v} {q} {g} a (pass {ss = ss} t c e u) j =
+      distinct-cons d (t ∷ afters ss) (fresh d v q g t ss a c e u j) (trail-distinct ((next-edge es d v t pr a c e) .across .at) u j)
 
-  pub trail-below : {p f q g : ℕ} {ss : List Pass} → At es f p → Trail es p f ss q g → AllBelow (length es) (p ∷ afters ss)
+  pub trail-below : {d v q g : ℕ} {ss : List Pass} → At es v d → Trail es d v ss q g → AllBelow (length es) (d ∷ afters ss)
   unfolding afters afterOf
   trail-below a done = (a .inside, tt)
-  trail-below {p} {f} a (pass t c e u) = (a .inside, trail-below ((next-edge es p f t pr a c e) .across .at) u)
+  trail-below {d} {v} a (pass t c e u) = (a .inside, trail-below ((next-edge es d v t pr a c e) .across .at) u)
 
   -- so the number of edges bounds the walk
-  pub trail-short : {p f q g : ℕ} {ss : List Pass} → At es f p → Trail es p f ss q g → isRegular es g ≡ false → length ss < length es
+  pub trail-short : {d v q g : ℕ} {ss : List Pass} → At es v d → Trail es d v ss q g → isRegular es g ≡ false → length ss < length es
   unfolding afters
-  trail-short {p} {ss = ss} a u j =
-      omega (arith, pigeonhole (length es) (p ∷ afters ss) (trail-distinct a u j) (trail-below a u), length-map ss afterOf)
+  trail-short {d} {ss = ss} a u j =
+      omega (arith, pigeonhole (length es) (d ∷ afters ss) (trail-distinct a u j) (trail-below a u), length-map ss afterOf)

@@ -25,23 +25,23 @@ use Rattle.model.proofs.Walks.Whole.{Onwards, onwards-ends}
 
 -- ---- a ring is a trail that comes back
 
-trail-onto : {es : List Edge} {p f q g : ℕ} {ss : List Pass} → Trail es p f ss q g → ontoOf p ss ≡ q
+trail-onto : {es : List Edge} {d v q g : ℕ} {ss : List Pass} → Trail es d v ss q g → ontoOf d ss ≡ q
 unfolding ontoOf
 trail-onto done = refl
 trail-onto (pass t c e u) = trail-onto u
 
 -- a trail of n regular vertices is the walk of n steps
-trail-steps : {es : List Edge} {p f q g : ℕ} {ss : List Pass} → Trail es p f ss q g → walk (length ss) es p f ≡ ss
+trail-steps : {es : List Edge} {d v q g : ℕ} {ss : List Pass} → Trail es d v ss q g → walk (length ss) es d v ≡ ss
 unfolding walk
 trail-steps done = refl
-trail-steps {es} {p} {f} (pass {ss = ss} t c e u) =
-    walk-on (length ss) es p f c ∙ rw e (ap (λ (l : List Pass). record { before = p; at = f; after = t } ∷ l) (trail-steps u))
+trail-steps {es} {d} {v} (pass {ss = ss} t c e u) =
+    walk-on (length ss) es d v c ∙ rw e (ap (λ (l : List Pass). record { before = d; at = v; after = t } ∷ l) (trail-steps u))
 
-ring-of-trail : {es : List Edge} {p f : ℕ} {ss : List Pass} → At es f p → Trail es p f ss p f → 1 ≤ length ss → Ring es
-ring-of-trail {es} {p} {f} {ss} a u h =
+ring-of-trail : {es : List Edge} {d v : ℕ} {ss : List Pass} → At es v d → Trail es d v ss d v → 1 ≤ length ss → Ring es
+ring-of-trail {es} {d} {v} {ss} a u h =
     record {
-      edge = p;
-      vertex = f;
+      edge = d;
+      vertex = v;
       steps = length ss;
       inside = a .inside;
       meets = a .meets;
@@ -73,7 +73,7 @@ ring-none es rf k =
 -- ---- an edge that the test lets pass closes none
 
 -- a walk of enough steps along a trail to a singular vertex ends there
-walk-ends : {es : List Edge} {p f q g : ℕ} {ss : List Pass} (n : ℕ) → Trail es p f ss q g → isRegular es g ≡ false → length ss ≤ n → endOf es f (walk n es p f) ≡ g
+walk-ends : {es : List Edge} {d v q g : ℕ} {ss : List Pass} (n : ℕ) → Trail es d v ss q g → isRegular es g ≡ false → length ss ≤ n → endOf es v (walk n es d v) ≡ g
 walk-ends n u j h = rw (trail-walk n u j h) (trail-endOf u)
 
 module _ (es : List Edge) (pr : Proper es) where

@@ -17,19 +17,19 @@ use Rattle.model.proofs.Walks.NewEdge.{at-old, at-last, last-at, Which,
 use Rattle.model.proofs.Walks.Ended.{leaf-once}
 use Rattle.model.proofs.Walks.NewTurn.{NewTurn, new-turn}
 
-pub record Ended (es : List Edge) (p f : ℕ) : Type 0 where
+pub record Ended (es : List Edge) (d v : ℕ) : Type 0 where
   pub passes : List Pass
   pub onto : ℕ
   pub to : ℕ
-  pub trail : Trail es p f passes onto to
+  pub trail : Trail es d v passes onto to
   pub singular : isRegular es to ≡ false
 
 abbrev pub RingFree : List Edge → Type 0
-RingFree es = (p f : ℕ) → At es f p → Ended es p f
+RingFree es = (d v : ℕ) → At es v d → Ended es d v
 
 -- a walk that ends still ends with a regular vertex in front
-ended-on : (es : List Edge) (p f t : ℕ) → isRegular es f ≡ true → turn es p f ≡ t → Ended es t (far es t f) → Ended es p f
-ended-on es p f t c e r = record { passes = _; onto = r .onto; to = r .to; trail = pass t c e (r .trail); singular = r .singular }
+ended-on : (es : List Edge) (d v t : ℕ) → isRegular es v ≡ true → turn es d v ≡ t → Ended es t (far es t v) → Ended es d v
+ended-on es d v t c e r = record { passes = _; onto = r .onto; to = r .to; trail = pass t c e (r .trail); singular = r .singular }
 
 module _ (es : List Edge) (n : Edge) (pr : Proper es) (d : n .first ≢ n .second) where
   abbrev new : List Edge
@@ -38,32 +38,32 @@ module _ (es : List Edge) (n : Edge) (pr : Proper es) (d : n .first ≢ n .secon
   proper-new : Proper new
   proper-new = proper-snoc es n pr d
 
-  stop-here : (p f : ℕ) → degree es f + endsAt f n ≢ 2 → Ended new p f
-  stop-here p f h =
-      record { passes = []; onto = p; to = f; trail = done; singular = not-regular new f (λ e. h (omega (arith, degree-snoc es n f))) }
+  stop-here : (d v : ℕ) → degree es v + endsAt v n ≢ 2 → Ended new d v
+  stop-here d v h =
+      record { passes = []; onto = d; to = v; trail = done; singular = not-regular new v (λ e. h (omega (arith, degree-snoc es n v))) }
 
   -- an old walk in the new list: it stops at an end of the new edge that was regular, or goes on from where it ended
-  through : {p f q g : ℕ} {ss : List Pass} → At es f p → Trail es p f ss q g → Ended new q g → Ended new p f
+  through : {p v q g : ℕ} {ss : List Pass} → At es v p → Trail es p v ss q g → Ended new q g → Ended new p v
   through a done r = r
-  through {p} {f} a (pass t c e u) r = go (zero-or-one (endsAt f n) (endsAt-le f n d)) (through (nx .across .at) u r)
+  through {p} {v} a (pass t c e u) r = go (zero-or-one (endsAt v n) (endsAt-le v n d)) (through (nx .across .at) u r)
     where
-      nx : Next es p f t
-      nx = next-edge es p f t pr a c e
+      nx : Next es p v t
+      nx = next-edge es p v t pr a c e
 
-      go : (endsAt f n ≡ 0) ⊎ (endsAt f n ≡ 1) → Ended new t (far es t f) → Ended new p f
-      go (inl z) s = ended-on new p f t (regular-old es n f z ∙ c) (turn-old es n f p pr z ∙ e) (rw (far-old es n t f (nx .at .inside)) s)
-      go (inr o) s = stop-here p f (λ x. omega (arith, is-two es f c))
+      go : (endsAt v n ≡ 0) ⊎ (endsAt v n ≡ 1) → Ended new t (far es t v) → Ended new p v
+      go (inl z) s = ended-on new p v t (regular-old es n v z ∙ c) (turn-old es n v p pr z ∙ e) (rw (far-old es n t v (nx .at .inside)) s)
+      go (inr o) s = stop-here p v (λ x. omega (arith, is-two es v c))
 
   module _ (rf : RingFree es)
       (no-ring : (x y e q : ℕ) (ss : List Pass) → endsAt x n ≡ 1 → endsAt y n ≡ 1 → degree es x ≡ 1 → degree es y ≡ 1
       → At es y e → Trail es e (far es e y) ss q x → x ≢ y → ⊥) where
     -- an old walk in the new list ends, if it does so from a leaf that the new edge meets
-    follow : (p f : ℕ) → At es f p
-        → ((q g : ℕ) (ss : List Pass) → Trail es p f ss q g → degree es g ≡ 1 → endsAt g n ≡ 1 → Ended new q g) → Ended new p f
-    follow p f a on = through a (r .trail) (last (ℕ-discrete (degree es (r .to) + endsAt (r .to) n) 2))
+    follow : (p v : ℕ) → At es v p
+        → ((q g : ℕ) (ss : List Pass) → Trail es p v ss q g → degree es g ≡ 1 → endsAt g n ≡ 1 → Ended new q g) → Ended new p v
+    follow p v a on = through a (r .trail) (last (ℕ-discrete (degree es (r .to) + endsAt (r .to) n) 2))
       where
-        r : Ended es p f
-        r = rf p f a
+        r : Ended es p v
+        r = rf p v a
 
         last : Dec (degree es (r .to) + endsAt (r .to) n ≡ 2) → Ended new (r .onto) (r .to)
         last (yes q) =

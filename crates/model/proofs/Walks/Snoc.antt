@@ -15,34 +15,34 @@ module _ (es : List Edge) (n : Edge) where
   abbrev new : List Edge
   new = es ++ (n ∷ [])
 
-  pub edgeAt-old : (p : ℕ) → p < length es → edgeAt new p ≡ edgeAt es p
+  pub edgeAt-old : (d : ℕ) → d < length es → edgeAt new d ≡ edgeAt es d
   unfolding edgeAt
-  edgeAt-old p h = List·getD-append es (n ∷ []) noEdge p h
+  edgeAt-old d h = List·getD-append es (n ∷ []) noEdge d h
 
-  pub far-old : (p f : ℕ) → p < length es → far new p f ≡ far es p f
+  pub far-old : (d v : ℕ) → d < length es → far new d v ≡ far es d v
   unfolding far
-  far-old p f h = rw (edgeAt-old p h)
+  far-old d v h = rw (edgeAt-old d h)
 
-  pub regular-old : (f : ℕ) → endsAt f n ≡ 0 → isRegular new f ≡ isRegular es f
+  pub regular-old : (v : ℕ) → endsAt v n ≡ 0 → isRegular new v ≡ isRegular es v
   unfolding isRegular
-  regular-old f e =
-      let d : degree new f ≡ degree es f = omega (arith, degree-snoc es n f) in
+  regular-old v e =
+      let d : degree new v ≡ degree es v = omega (arith, degree-snoc es n v) in
       rw d
 
 -- the edges at a vertex that the new edge does not meet
-pub incidentFrom-old : (at : ℕ) (es : List Edge) (n : Edge) (f : ℕ) → Proper es → endsAt f n ≡ 0 → incidentFrom at (es ++ (n ∷ [])) f ≡ incidentFrom at es f
+pub incidentFrom-old : (at : ℕ) (es : List Edge) (n : Edge) (v : ℕ) → Proper es → endsAt v n ≡ 0 → incidentFrom at (es ++ (n ∷ [])) v ≡ incidentFrom at es v
 unfolding incidentFrom
-incidentFrom-old at [] n f pr e = incidentFrom-skip at n [] f e
-incidentFrom-old at (q ∷ es) n f pr e = go (zero-or-one (endsAt f q) (endsAt-le f q (pr .0))) (incidentFrom-old (suc at) es n f (pr .1) e)
+incidentFrom-old at [] n v pr e = incidentFrom-skip at n [] v e
+incidentFrom-old at (q ∷ es) n v pr e = go (zero-or-one (endsAt v q) (endsAt-le v q (pr .0))) (incidentFrom-old (suc at) es n v (pr .1) e)
   where
-    go : (endsAt f q ≡ 0) ⊎ (endsAt f q ≡ 1) → incidentFrom (suc at) (es ++ (n ∷ [])) f ≡ incidentFrom (suc at) es f
-        → incidentFrom at (q ∷ (es ++ (n ∷ []))) f ≡ incidentFrom at (q ∷ es) f
-    go (inl z) i = incidentFrom-skip at q (es ++ (n ∷ [])) f z ∙ i ∙ sym (incidentFrom-skip at q es f z)
-    go (inr o) i = incidentFrom-take at q (es ++ (n ∷ [])) f o ∙ ap (λ (l : List ℕ). at ∷ l) i ∙ sym (incidentFrom-take at q es f o)
+    go : (endsAt v q ≡ 0) ⊎ (endsAt v q ≡ 1) → incidentFrom (suc at) (es ++ (n ∷ [])) v ≡ incidentFrom (suc at) es v
+        → incidentFrom at (q ∷ (es ++ (n ∷ []))) v ≡ incidentFrom at (q ∷ es) v
+    go (inl z) i = incidentFrom-skip at q (es ++ (n ∷ [])) v z ∙ i ∙ sym (incidentFrom-skip at q es v z)
+    go (inr o) i = incidentFrom-take at q (es ++ (n ∷ [])) v o ∙ ap (λ (l : List ℕ). at ∷ l) i ∙ sym (incidentFrom-take at q es v o)
 
-pub turn-old : (es : List Edge) (n : Edge) (f p : ℕ) → Proper es → endsAt f n ≡ 0 → turn (es ++ (n ∷ [])) p f ≡ turn es p f
+pub turn-old : (es : List Edge) (n : Edge) (v d : ℕ) → Proper es → endsAt v n ≡ 0 → turn (es ++ (n ∷ [])) d v ≡ turn es d v
 unfolding turn incident
-turn-old es n f p pr e = rw (incidentFrom-old 0 es n f pr e)
+turn-old es n v d pr e = rw (incidentFrom-old 0 es n v pr e)
 
 -- no vertex that is passed is an end of the new edge
 abbrev pub Clear : Edge → List Pass → Type 0
@@ -53,10 +53,10 @@ pub trail-clear : {es : List Edge} {q f r g : ℕ} {ss : List Pass} (n : Edge) �
 trail-clear n off done = tt
 trail-clear {es} n off (pass t c tn u) = (off _ (is-two es _ c), trail-clear n off u)
 
-pub trail-old : {es : List Edge} {p f q g : ℕ} {ss : List Pass} (n : Edge) → Proper es → At es f p → Clear n ss → Trail es p f ss q g
-    → Trail (es ++ (n ∷ [])) p f ss q g
+pub trail-old : {es : List Edge} {d f q g : ℕ} {ss : List Pass} (n : Edge) → Proper es → At es f d → Clear n ss → Trail es d f ss q g
+    → Trail (es ++ (n ∷ [])) d f ss q g
 trail-old n pr a c done = done
-trail-old {es} {p} {f} {q} {g} n pr a c (pass {ss = ss} t k e u) =
-    let nx : Next es p f t = next-edge es p f t pr a k e in
+trail-old {es} {d} {f} {q} {g} n pr a c (pass {ss = ss} t k e u) =
+    let nx : Next es d f t = next-edge es d f t pr a k e in
     let v : Trail (es ++ (n ∷ [])) t (far (es ++ (n ∷ [])) t f) ss q g = rw (far-old es n t f (nx .at .inside)) (trail-old n pr (nx .across .at) (c .1) u) in
-    pass t (regular-old es n f (c .0) ∙ k) (turn-old es n f p pr (c .0) ∙ e) v
+    pass t (regular-old es n f (c .0) ∙ k) (turn-old es n f d pr (c .0) ∙ e) v
