@@ -34,12 +34,12 @@ module _ (es : List Edge) (pr : Proper es) where
       let nx : Next es d v t = next-edge es d v t pr a c e in
       edge-on d (a .inside) j (trail-path (nx .across .at) (joins-of es t v pr (nx .at)) u)
 
-  trail-between : {d f q g : ℕ} {ss : List Pass} → Trail es d f ss q g → (v : ℕ) → Mem v (map atOf ss) → isRegular es v ≡ true
+  trail-between : {d w q g : ℕ} {ss : List Pass} → Trail es d w ss q g → (v : ℕ) → Mem v (map atOf ss) → isRegular es v ≡ true
   unfolding atOf
   trail-between done v m = absurd (mem-nil m)
-  trail-between {f = f} (pass {ss = ss} t c e u) v m = go (mem-cases m) (λ n. trail-between u v n)
+  trail-between {w = w} (pass {ss = ss} t c e u) v m = go (mem-cases m) (λ n. trail-between u v n)
     where
-      go : (v ≡ f) ⊎ Mem v (map atOf ss) → (Mem v (map atOf ss) → isRegular es v ≡ true) → isRegular es v ≡ true
+      go : (v ≡ w) ⊎ Mem v (map atOf ss) → (Mem v (map atOf ss) → isRegular es v ≡ true) → isRegular es v ≡ true
       go (inl q) ih = rw q c
       go (inr n) ih = ih n
 

@@ -24,12 +24,12 @@ module _ (es : List Edge) (pr : Proper es) (rf : RingFree es) where
   unfolding afters atOf afterOf
   passed {d} {v} a done k j x m ax cx = go (ℕ-discrete x v)
     where
-      ap′ : At es x d
-      ap′ = subst (λ (z : ℕ). At es x z) (mem-one m) ax
+      ad : At es x d
+      ad = subst (λ (z : ℕ). At es x z) (mem-one m) ax
 
       go : Dec (x ≡ v) → Mem x [] ⊎ (x ≡ far es d v)
       go (yes e) = absurd (true≢false (sym cx ∙ rw e k))
-      go (no n) = inr (other-end es d v x pr a ap′ n)
+      go (no n) = inr (other-end es d v x pr a ad n)
   passed {d} {v} a (pass {ss = ss} t c e u) k j x m ax cx = go (mem-cases m) (λ n. passed (nx .across .at) u k j x n ax cx)
     where
       nx : Next es d v t
@@ -96,13 +96,13 @@ module _ (es : List Edge) (pr : Proper es) (rf : RingFree es) where
   pub own-chain : (v : ℕ) → isRegular es v ≡ true → OwnChain es v (nameOf es (getD (incident es v) 0 0))
   own-chain v c =
       let two : TwoEdges es v = two-edges es v pr (is-two es v c) in
-      let p = two .low in
-      let h : p < length es = two .low-at .inside in
-      let inside : nameOf es p < length es = name-below es pr rf p h in
+      let d = two .low in
+      let h : d < length es = two .low-at .inside in
+      let inside : nameOf es d < length es = name-below es pr rf d h in
       rw (two .list) (record {
         inside = inside;
-        names = chain-name es pr rf (nameOf es p) p h (name-in-chain es p);
-        has = chain-inner (nameOf es p) p v inside (chain-back es pr rf (nameOf es p) p h (name-in-chain es p)) (two .low-at) c;
+        names = chain-name es pr rf (nameOf es d) d h (name-in-chain es d);
+        has = chain-inner (nameOf es d) d v inside (chain-back es pr rf (nameOf es d) d h (name-in-chain es d)) (two .low-at) c;
       })
 
   -- and the only one

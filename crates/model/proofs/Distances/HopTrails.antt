@@ -17,7 +17,7 @@ use Rattle.model.proofs.Distances.Distance.{way-same, way-append}
 
 -- ---- lengths
 unfoldable pub alongEdges : List Edge → ℕ → List Pass → ℕ
-alongEdges es p ss = sum (lengthsOf es (p ∷ afters ss))
+alongEdges es d ss = sum (lengthsOf es (d ∷ afters ss))
 
 -- the way back has the same length
 pub along-back : {es : List Edge} {d v q g : ℕ} {ss : List Pass} → Trail es d v ss q g → alongEdges es q (backwards ss) ≡ alongEdges es d ss
@@ -112,17 +112,17 @@ module _ (es : List Edge) (pr : Proper es) where
       way-same (sym (t .len)) (trail-way ((across es (t .edge) v pr (t .at)) .at) (joins-of es (t .edge) v pr (t .at)) (t .trail))
 
   -- every way over the chains is one over the edges, of the same length, whatever its stops
-  pub chains-edges : {v g d : ℕ} → ChainWay es v g d → Way es v g d
+  pub chains-edges : {v w l : ℕ} → ChainWay es v w l → Way es v w l
   chains-edges stay = here
   chains-edges (last h) = hop-way h
-  chains-edges (stop h c w) = way-append (hop-way h) (chains-edges w)
+  chains-edges (stop h c t) = way-append (hop-way h) (chains-edges t)
 
-  pub loose-edges : {v g d : ℕ} → LooseWay es v g d → Way es v g d
+  pub loose-edges : {v w l : ℕ} → LooseWay es v w l → Way es v w l
   loose-edges stay = here
-  loose-edges (hop h w) = way-append (hop-way h) (loose-edges w)
+  loose-edges (hop h t) = way-append (hop-way h) (loose-edges t)
 
 -- a way that stops at singular vertices is one with any stops
-pub chains-loose : {es : List Edge} {v g d : ℕ} → ChainWay es v g d → LooseWay es v g d
+pub chains-loose : {es : List Edge} {v w l : ℕ} → ChainWay es v w l → LooseWay es v w l
 chains-loose stay = stay
-chains-loose {es} {v} {g} {d} (last h) = subst (λ (n : ℕ). LooseWay es v g n) (let z : d + 0 ≡ d = omega arith in z) (hop h stay)
-chains-loose (stop h c w) = hop h (chains-loose w)
+chains-loose {es} {v} {w} {l} (last h) = subst (λ (n : ℕ). LooseWay es v w n) (let z : l + 0 ≡ l = omega arith in z) (hop h stay)
+chains-loose (stop h c t) = hop h (chains-loose t)

@@ -167,11 +167,11 @@ module _ (es : List Edge) (pr : Proper es) {relabellings : ℕ} {m : Marks} {blo
       g = h .group c
 
       go : LeafAt es h y c → Dec (h .group e ≡ h .group c) → Facing es relabellings m blocks x e y c
-      go (at-low i t) d = record { high = k; lo = i; bot = t }
+      go (at-low i t) s = record { high = k; lo = i; bot = t }
       go (at-high i t) (yes s) =
           let t′ : suc (h .place c) ≡ size h (length es) (h .group e) = rw s t in
           let z : e ≡ c = w .apart e c (a .inside) (b .inside) s (omega (arith, t′, k .top)) in
-          absurd (ne (sym (k .hi) ∙ ap (λ (v : ℕ). far es v (h .low v)) z ∙ i))
+          absurd (ne (sym (k .hi) ∙ ap (λ (d : ℕ). far es d (h .low d)) z ∙ i))
       go (at-high i t) (no s) = record {
         high = record {
           ghosts = turned (k .ghosts) g;

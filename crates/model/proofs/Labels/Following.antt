@@ -57,8 +57,8 @@ pub data Wears (up : Bool) (label : ℕ) (path : List Pass) (m : Marks) (v t l :
   given : (i : ℕ) (s : Pass) → Ith s i path → s .at ≡ v → t ≡ ithLabel up label i → l ≡ lowOf up s → Wears up label path m v t l
   kept : ((i : ℕ) (s : Pass) → Ith s i path → s .at ≢ v) → t ≡ getD (m .labels) v 0 → l ≡ getD (m .lows) v 0 → Wears up label path m v t l
 
-set-at : (xs : List ℕ) (f v a : ℕ) → f ≡ v → v < length xs → getD (set xs f a) v 0 ≡ a
-set-at xs f v a e l = rw e (getD-set-same xs v a 0 l)
+set-at : (xs : List ℕ) (w v a : ℕ) → w ≡ v → v < length xs → getD (set xs w a) v 0 ≡ a
+set-at xs w v a e l = rw e (getD-set-same xs v a 0 l)
 
 wears-on : (up : Bool) (label : ℕ) (s : Pass) (ss : List Pass) (m : Marks) (v t l : ℕ) → v < length (m .labels) → v < length (m .lows) → Dec (s .at ≡ v)
     → Wears up (ithLabel up label 0) ss (mark (s .at) (ithLabel up label 0) (lowOf up s) m) v t l → Wears up label (s ∷ ss) m v t l

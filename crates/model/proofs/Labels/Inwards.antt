@@ -27,9 +27,9 @@ pub record Head (es : List Edge) (v : ℕ) (u : Pass) : Type 0 where
 cons-head : (a b : Pass) (xs ys : List Pass) → a ∷ xs ≡ b ∷ ys → a ≡ b
 cons-head a b xs ys e = cc
 
-pub trail-head : {es : List Edge} {d f q g : ℕ} {ss : List Pass} (u : Pass) (us : List Pass) → Trail es d f ss q g → ss ≡ u ∷ us → Head es f u
+pub trail-head : {es : List Edge} {d v q g : ℕ} {ss : List Pass} (u : Pass) (us : List Pass) → Trail es d v ss q g → ss ≡ u ∷ us → Head es v u
 trail-head u us done e = absurd (let z : 0 ≡ suc (length us) = ap length e in omega arith)
-trail-head {f = f} u us (pass t c tn v) e = record { head-at = ap (λ (s : Pass). s .at) (sym (cons-head _ u _ us e)); head-regular = c }
+trail-head {v = v} u us (pass t c tn r) e = record { head-at = ap (λ (s : Pass). s .at) (sym (cons-head _ u _ us e)); head-regular = c }
 
 pub trail-regular : {es : List Edge} {d v q g : ℕ} {ss : List Pass} → Trail es d v ss q g → (i : ℕ) (s : Pass) → Ith s i ss → degree es (s .at) ≡ 2
 unfolding isRegular

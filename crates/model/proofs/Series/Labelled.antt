@@ -45,7 +45,7 @@ pub record Labelled (r : Register) : Type 0 where
 
 module _ (es : List Edge) (p : Edge) (d : p .first ≢ p .second) (blocks : ℕ) (m : Marks) (z : BareSingular es m) (res : Labelling) (even : length (m .labels) ≡ length (m .lows)) where
   bare-after : Inserted es p blocks m res → BareSingular (es ++ (p ∷ [])) (res .marks)
-  bare-after (fresh ca cb e b) = λ f n. bare-split es p d z b f n
+  bare-after (fresh ca cb e b) = λ v n. bare-split es p d z b v n
   bare-after (extends x y e ny l) = bare-laid es p d z even l
   bare-after (merges x y e c cy b le l) = bare-laid es p d z even l
 
@@ -135,7 +135,7 @@ pub labelled-empty : Labelled empty
 unfolding empty marksOf
 labelled-empty = record {
   sound = empty-sound;
-  bare = λ f n. zeros maxVertices f;
+  bare = λ v n. zeros maxVertices v;
   labels-long = length-replicate {A = ℕ} maxVertices 0;
   lows-long = length-replicate {A = ℕ} maxVertices 0;
   few = omega arith;

@@ -61,26 +61,26 @@ leaf-once es pr x e q ss h a u =
 -- The edges of a walk that ends are distinct.
 module _ (es : List Edge) (pr : Proper es) where
   -- the edge on which it sets out is not met again
-  pub fresh : (p f q g t : ℕ) (ss : List Pass) → At es f p → isRegular es f ≡ true → turn es p f ≡ t → Trail es t (far es t f) ss q g
-      → isRegular es g ≡ false → Mem p (t ∷ afters ss) → ⊥
-  fresh p f q g t ss a c e u j m = go (ℕ-discrete (r .to) f)
+  pub fresh : (d v q g t : ℕ) (ss : List Pass) → At es v d → isRegular es v ≡ true → turn es d v ≡ t → Trail es t (far es t v) ss q g
+      → isRegular es g ≡ false → Mem d (t ∷ afters ss) → ⊥
+  fresh d v q g t ss a c e u j m = go (ℕ-discrete (r .to) v)
     where
-      r : Cut es t (far es t f) ss q g p
-      r = cut p u m
+      r : Cut es t (far es t v) ss q g d
+      r = cut d u m
 
-      ar : At es (r .to) p
-      ar = trail-at pr ((next-edge es p f t pr a c e) .across .at) (r .before)
+      ar : At es (r .to) d
+      ar = trail-at pr ((next-edge es d v t pr a c e) .across .at) (r .before)
 
       n : length ss ≡ length (r .front) + length (r .rest)
       n = ap length (r .parts) ∙ length-append (r .front) (r .rest)
 
-      go : Dec (r .to ≡ f) → ⊥
+      go : Dec (r .to ≡ v) → ⊥
       go (yes y) =
-          let v : Trail es p f (r .rest) q g = rw y at (r .behind) in
-          let i = ap length (trail-unique (pass t c e u) j v j) in
+          let u′ : Trail es d v (r .rest) q g = rw y at (r .behind) in
+          let i = ap length (trail-unique (pass t c e u) j u′ j) in
           omega (arith, i, n)
-      go (no d) =
-          never es pr a (pass t c e (r .before)) refl (other-end es p f (r .to) pr a ar d)
+      go (no x) =
+          never es pr a (pass t c e (r .before)) refl (other-end es d v (r .to) pr a ar x)
 
   pub trail-distinct : {d v q g : ℕ} {ss : List Pass} → At es v d → Trail es d v ss q g → isRegular es g ≡ false → Distinct (d ∷ afters ss)
   unfolding afters afterOf occurs

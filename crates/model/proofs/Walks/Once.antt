@@ -38,7 +38,7 @@ module _ (es : List Edge) (pr : Proper es) where
 
   first-once : {e v q z t : ℕ} {ss : List Pass} → At es v e → isRegular es v ≡ true → turn es e v ≡ t → Trail es t (far es t v) ss q z → isRegular es z ≡ false
       → (i : ℕ) (s : Pass) → Ith s i ss → s .at ≡ v → ⊥
-  first-once {e} {v} {q} {z} {t} {ss} a c tn u jn i s j at-f = go (ℕ-discrete (s .before) e) (ℕ-discrete (s .after) e)
+  first-once {e} {v} {q} {z} {t} {ss} a c tn u jn i s j at-v = go (ℕ-discrete (s .before) e) (ℕ-discrete (s .after) e)
     where
       nx : Next es e v t
       nx = next-edge es e v t pr a c tn
@@ -50,10 +50,10 @@ module _ (es : List Edge) (pr : Proper es) where
       tp = two-edges es v pr (is-two es v c)
 
       b : At es v (s .before)
-      b = rw at-f at (r .before-at)
+      b = rw at-v at (r .before-at)
 
       d : At es v (s .after)
-      d = rw at-f at (r .after-at)
+      d = rw at-v at (r .after-at)
 
       go : Dec (s .before ≡ e) → Dec (s .after ≡ e) → ⊥
       go (yes p) k = fresh es pr e v q z t ss a c tn u jn (subst (λ (o : ℕ). Mem o (t ∷ afters ss)) p (r .before-in))
@@ -82,12 +82,12 @@ pub data Nearby (path : List Pass) (e v z i c w : ℕ) (s : Pass) : Type 0 where
   at-end : w ≡ z → Nearby path e v z i c w s
 
 module _ (es : List Edge) (pr : Proper es) where
-  lift : (s₀ : Pass) (ss : List Pass) (e v t f′ z i c w : ℕ) (s : Pass) → s₀ .at ≡ f′ → s₀ .after ≡ t → Nearby ss t f′ z i c w s → Nearby (s₀ ∷ ss) e v z (suc i) c w s
-  lift s₀ ss e v t f′ z i c w s a b (itself q) = itself q
-  lift s₀ ss e v t f′ z i c w s a b (ahead o j q r k) = ahead o (later j) q r k
-  lift s₀ ss e v t f′ z i c w s a b (behind n o g j q r k) = behind (suc n) o (ap suc g) (later j) q r k
-  lift s₀ ss e v t f′ z i c w s a b (at-start g q r k) = behind 0 s₀ (ap suc g) here (a ∙ sym q) (b ∙ sym r) k
-  lift s₀ ss e v t f′ z i c w s a b (at-end q) = at-end q
+  lift : (s₀ : Pass) (ss : List Pass) (e v t v′ z i c w : ℕ) (s : Pass) → s₀ .at ≡ v′ → s₀ .after ≡ t → Nearby ss t v′ z i c w s → Nearby (s₀ ∷ ss) e v z (suc i) c w s
+  lift s₀ ss e v t v′ z i c w s a b (itself q) = itself q
+  lift s₀ ss e v t v′ z i c w s a b (ahead o j q r k) = ahead o (later j) q r k
+  lift s₀ ss e v t v′ z i c w s a b (behind n o g j q r k) = behind (suc n) o (ap suc g) (later j) q r k
+  lift s₀ ss e v t v′ z i c w s a b (at-start g q r k) = behind 0 s₀ (ap suc g) here (a ∙ sym q) (b ∙ sym r) k
+  lift s₀ ss e v t v′ z i c w s a b (at-end q) = at-end q
 
   pub nearby : {e v q z : ℕ} {ss : List Pass} → At es v e → Trail es e v ss q z → (i : ℕ) (s : Pass) → Ith s i ss → (c w : ℕ) → At es (s .at) c → At es w c
       → Nearby ss e (far es e v) z i c w s

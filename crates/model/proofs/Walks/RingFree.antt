@@ -31,43 +31,43 @@ RingFree es = (d v : ℕ) → At es v d → Ended es d v
 ended-on : (es : List Edge) (d v t : ℕ) → isRegular es v ≡ true → turn es d v ≡ t → Ended es t (far es t v) → Ended es d v
 ended-on es d v t c e r = record { passes = _; onto = r .onto; to = r .to; trail = pass t c e (r .trail); singular = r .singular }
 
-module _ (es : List Edge) (n : Edge) (pr : Proper es) (d : n .first ≢ n .second) where
+module _ (es : List Edge) (n : Edge) (pr : Proper es) (ne : n .first ≢ n .second) where
   abbrev new : List Edge
   new = es ++ (n ∷ [])
 
   proper-new : Proper new
-  proper-new = proper-snoc es n pr d
+  proper-new = proper-snoc es n pr ne
 
   stop-here : (d v : ℕ) → degree es v + endsAt v n ≢ 2 → Ended new d v
   stop-here d v h =
       record { passes = []; onto = d; to = v; trail = done; singular = not-regular new v (λ e. h (omega (arith, degree-snoc es n v))) }
 
   -- an old walk in the new list: it stops at an end of the new edge that was regular, or goes on from where it ended
-  through : {p v q g : ℕ} {ss : List Pass} → At es v p → Trail es p v ss q g → Ended new q g → Ended new p v
+  through : {d v q g : ℕ} {ss : List Pass} → At es v d → Trail es d v ss q g → Ended new q g → Ended new d v
   through a done r = r
-  through {p} {v} a (pass t c e u) r = go (zero-or-one (endsAt v n) (endsAt-le v n d)) (through (nx .across .at) u r)
+  through {d} {v} a (pass t c e u) r = go (zero-or-one (endsAt v n) (endsAt-le v n ne)) (through (nx .across .at) u r)
     where
-      nx : Next es p v t
-      nx = next-edge es p v t pr a c e
+      nx : Next es d v t
+      nx = next-edge es d v t pr a c e
 
-      go : (endsAt v n ≡ 0) ⊎ (endsAt v n ≡ 1) → Ended new t (far es t v) → Ended new p v
-      go (inl z) s = ended-on new p v t (regular-old es n v z ∙ c) (turn-old es n v p pr z ∙ e) (rw (far-old es n t v (nx .at .inside)) s)
-      go (inr o) s = stop-here p v (λ x. omega (arith, is-two es v c))
+      go : (endsAt v n ≡ 0) ⊎ (endsAt v n ≡ 1) → Ended new t (far es t v) → Ended new d v
+      go (inl z) s = ended-on new d v t (regular-old es n v z ∙ c) (turn-old es n v d pr z ∙ e) (rw (far-old es n t v (nx .at .inside)) s)
+      go (inr o) s = stop-here d v (λ x. omega (arith, is-two es v c))
 
   module _ (rf : RingFree es)
       (no-ring : (x y e q : ℕ) (ss : List Pass) → endsAt x n ≡ 1 → endsAt y n ≡ 1 → degree es x ≡ 1 → degree es y ≡ 1
       → At es y e → Trail es e (far es e y) ss q x → x ≢ y → ⊥) where
     -- an old walk in the new list ends, if it does so from a leaf that the new edge meets
-    follow : (p v : ℕ) → At es v p
-        → ((q g : ℕ) (ss : List Pass) → Trail es p v ss q g → degree es g ≡ 1 → endsAt g n ≡ 1 → Ended new q g) → Ended new p v
-    follow p v a on = through a (r .trail) (last (ℕ-discrete (degree es (r .to) + endsAt (r .to) n) 2))
+    follow : (d v : ℕ) → At es v d
+        → ((q g : ℕ) (ss : List Pass) → Trail es d v ss q g → degree es g ≡ 1 → endsAt g n ≡ 1 → Ended new q g) → Ended new d v
+    follow d v a on = through a (r .trail) (last (ℕ-discrete (degree es (r .to) + endsAt (r .to) n) 2))
       where
-        r : Ended es p v
-        r = rf p v a
+        r : Ended es d v
+        r = rf d v a
 
         last : Dec (degree es (r .to) + endsAt (r .to) n ≡ 2) → Ended new (r .onto) (r .to)
         last (yes q) =
-            let k : degree es (r .to) ≡ 1 = omega (arith, not-two es (r .to) (r .singular), endsAt-le (r .to) n d) in
+            let k : degree es (r .to) ≡ 1 = omega (arith, not-two es (r .to) (r .singular), endsAt-le (r .to) n ne) in
             on (r .onto) (r .to) (r .passes) (r .trail) k (omega arith)
         last (no h) = stop-here (r .onto) (r .to) h
 
@@ -88,16 +88,16 @@ module _ (es : List Edge) (n : Edge) (pr : Proper es) (d : n .first ≢ n .secon
         go (yes k) =
             let one : OneEdge es y = one-edge es y pr k in
             let e = one .edge in
-            let t : NewTurn es n y e = new-turn es n pr d y e o k (one .at) in
+            let t : NewTurn es n y e = new-turn es n pr ne y e o k (one .at) in
             let r : Ended new e (far new e y) = rw (far-old es n e y (one .at .inside)) (inwards y e o k (one .at)) in
             ended-on new (length es) y e (t .regular) (t .back) r
 
     pub ring-free : RingFree (es ++ (n ∷ []))
-    ring-free p f a = go (which es n p (a .inside))
+    ring-free d v a = go (which es n d (a .inside))
       where
-        go : Which es n p → Ended new p f
-        go (is-old h) = follow p f (at-old es n h a) (λ q g ss u k o.
-            let t : NewTurn es n g q = new-turn es n pr d g q o k (trail-at pr (at-old es n h a) u) in
+        go : Which es n d → Ended new d v
+        go (is-old h) = follow d v (at-old es n h a) (λ q g ss u k o.
+            let t : NewTurn es n g q = new-turn es n pr ne g q o k (trail-at pr (at-old es n h a) u) in
             let x : Across new (length es) g = across new (length es) g proper-new (at-last es n o) in
             ended-on new q g (length es) (t .regular) (t .out) (enter (far new (length es) g) (last-at es n (x .at))))
-        go (is-new e) = rw e (enter f (last-at es n (rw e at a)))
+        go (is-new e) = rw e (enter v (last-at es n (rw e at a)))

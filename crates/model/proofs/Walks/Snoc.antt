@@ -49,14 +49,14 @@ abbrev pub Clear : Edge → List Pass → Type 0
 Clear n [] = Unit {0}
 Clear n (s ∷ ss) = (endsAt (s .at) n ≡ 0) × Clear n ss
 
-pub trail-clear : {es : List Edge} {q f r g : ℕ} {ss : List Pass} (n : Edge) → ((v : ℕ) → degree es v ≡ 2 → endsAt v n ≡ 0) → Trail es q f ss r g → Clear n ss
+pub trail-clear : {es : List Edge} {d w q g : ℕ} {ss : List Pass} (n : Edge) → ((v : ℕ) → degree es v ≡ 2 → endsAt v n ≡ 0) → Trail es d w ss q g → Clear n ss
 trail-clear n off done = tt
 trail-clear {es} n off (pass t c tn u) = (off _ (is-two es _ c), trail-clear n off u)
 
-pub trail-old : {es : List Edge} {d f q g : ℕ} {ss : List Pass} (n : Edge) → Proper es → At es f d → Clear n ss → Trail es d f ss q g
-    → Trail (es ++ (n ∷ [])) d f ss q g
+pub trail-old : {es : List Edge} {d v q g : ℕ} {ss : List Pass} (n : Edge) → Proper es → At es v d → Clear n ss → Trail es d v ss q g
+    → Trail (es ++ (n ∷ [])) d v ss q g
 trail-old n pr a c done = done
-trail-old {es} {d} {f} {q} {g} n pr a c (pass {ss = ss} t k e u) =
-    let nx : Next es d f t = next-edge es d f t pr a k e in
-    let v : Trail (es ++ (n ∷ [])) t (far (es ++ (n ∷ [])) t f) ss q g = rw (far-old es n t f (nx .at .inside)) (trail-old n pr (nx .across .at) (c .1) u) in
-    pass t (regular-old es n f (c .0) ∙ k) (turn-old es n f d pr (c .0) ∙ e) v
+trail-old {es} {d} {v} {q} {g} n pr a c (pass {ss = ss} t k e u) =
+    let nx : Next es d v t = next-edge es d v t pr a k e in
+    let u′ : Trail (es ++ (n ∷ [])) t (far (es ++ (n ∷ [])) t v) ss q g = rw (far-old es n t v (nx .at .inside)) (trail-old n pr (nx .across .at) (c .1) u) in
+    pass t (regular-old es n v (c .0) ∙ k) (turn-old es n v d pr (c .0) ∙ e) u′

@@ -18,9 +18,9 @@ pub data Trail (es : List Edge) : ℕ → ℕ → List Pass → ℕ → ℕ → 
   pass : {d v q g : ℕ} {ss : List Pass} (t : ℕ) → isRegular es v ≡ true → turn es d v ≡ t → Trail es t (far es t v) ss q g
       → Trail es d v (record { before = d; at = v; after = t } ∷ ss) q g
 
-pub trail-append : {es : List Edge} {d f q g r h : ℕ} {ss ts : List Pass} → Trail es d f ss q g → Trail es q g ts r h → Trail es d f (ss ++ ts) r h
-trail-append done v = v
-trail-append (pass t c e u) v = pass t c e (trail-append u v)
+pub trail-append : {es : List Edge} {d v q g r h : ℕ} {ss ts : List Pass} → Trail es d v ss q g → Trail es q g ts r h → Trail es d v (ss ++ ts) r h
+trail-append done u′ = u′
+trail-append (pass t c e u) u′ = pass t c e (trail-append u u′)
 
 -- what a trail begins with
 pub data Front (es : List Edge) (d v : ℕ) (ss : List Pass) (z : ℕ) : Type 0 where

@@ -95,8 +95,8 @@ at-zero es v k r = rw (let e : k ≡ r .0 = omega (arith, r .1) in e) (r .2)
 
 pub two-edges : (es : List Edge) (v : ℕ) → Proper es → degree es v ≡ 2 → TwoEdges es v
 unfolding incident
-two-edges es v pr d =
-    go (two-elements (incidentFrom 0 es v) (length-incidentFrom 0 es v pr ∙ d))
+two-edges es v pr c =
+    go (two-elements (incidentFrom 0 es v) (length-incidentFrom 0 es v pr ∙ c))
   where
     go : (a : ℕ) × (b : ℕ) × (incidentFrom 0 es v ≡ a ∷ b ∷ []) → TwoEdges es v
     go (a, b, e) = record {
@@ -106,11 +106,11 @@ two-edges es v pr d =
       differ = let r : Rising 0 (a ∷ b ∷ []) = rw e at (incidentFrom-rising 0 es v pr) in omega (arith, r .1 .0);
       low-at = at-zero es v a (mem-at 0 es v a pr (rw e (at-head refl)));
       high-at = at-zero es v b (mem-at 0 es v b pr (rw e (in-tail (at-head refl))));
-      only = λ p h. two-cases p a b (Memᴰ·cast (omega arith) (rw e at (at-mem 0 es v p pr h)));
+      only = λ d h. two-cases d a b (Memᴰ·cast (omega arith) (rw e at (at-mem 0 es v d pr h)));
     }
 
 pub some-edge : (es : List Edge) (v : ℕ) → Proper es → degree es v ≡ 2 → (e : ℕ) × At es v e
-some-edge es v pr d = let t : TwoEdges es v = two-edges es v pr d in (t .low, t .low-at)
+some-edge es v pr c = let t : TwoEdges es v = two-edges es v pr c in (t .low, t .low-at)
 
 -- turning from one of them gives the other
 turn-is : (es : List Edge) (v a b d : ℕ) → incident es v ≡ a ∷ b ∷ [] → turn es d v ≡ (if eqb a d then b else a)
