@@ -11,52 +11,52 @@ use Rattle.model.proofs.Walks.Turn.{At}
 use Rattle.model.proofs.Walks.Joins.{across}
 use Rattle.model.proofs.Walks.Trail.{Trail, done, pass, Next, next-edge}
 
-module _ (es : List Edge) (n : Edge) where
+module _ (es : List Edge) (p : Edge) where
   abbrev new : List Edge
-  new = es ++ (n ∷ [])
+  new = es ++ (p ∷ [])
 
   pub edgeAt-old : (d : ℕ) → d < length es → edgeAt new d ≡ edgeAt es d
   unfolding edgeAt
-  edgeAt-old d h = List·getD-append es (n ∷ []) noEdge d h
+  edgeAt-old d h = List·getD-append es (p ∷ []) noEdge d h
 
   pub far-old : (d v : ℕ) → d < length es → far new d v ≡ far es d v
   unfolding far
   far-old d v h = rw (edgeAt-old d h)
 
-  pub regular-old : (v : ℕ) → endsAt v n ≡ 0 → isRegular new v ≡ isRegular es v
+  pub regular-old : (v : ℕ) → endsAt v p ≡ 0 → isRegular new v ≡ isRegular es v
   unfolding isRegular
   regular-old v e =
-      let d : degree new v ≡ degree es v = omega (arith, degree-snoc es n v) in
+      let d : degree new v ≡ degree es v = omega (arith, degree-snoc es p v) in
       rw d
 
 -- the edges at a vertex that the new edge does not meet
-pub incidentFrom-old : (at : ℕ) (es : List Edge) (n : Edge) (v : ℕ) → Proper es → endsAt v n ≡ 0 → incidentFrom at (es ++ (n ∷ [])) v ≡ incidentFrom at es v
+pub incidentFrom-old : (at : ℕ) (es : List Edge) (p : Edge) (v : ℕ) → Proper es → endsAt v p ≡ 0 → incidentFrom at (es ++ (p ∷ [])) v ≡ incidentFrom at es v
 unfolding incidentFrom
-incidentFrom-old at [] n v pr e = incidentFrom-skip at n [] v e
-incidentFrom-old at (q ∷ es) n v pr e = go (zero-or-one (endsAt v q) (endsAt-le v q (pr .0))) (incidentFrom-old (suc at) es n v (pr .1) e)
+incidentFrom-old at [] p v pr e = incidentFrom-skip at p [] v e
+incidentFrom-old at (q ∷ es) p v pr e = go (zero-or-one (endsAt v q) (endsAt-le v q (pr .0))) (incidentFrom-old (suc at) es p v (pr .1) e)
   where
-    go : (endsAt v q ≡ 0) ⊎ (endsAt v q ≡ 1) → incidentFrom (suc at) (es ++ (n ∷ [])) v ≡ incidentFrom (suc at) es v
-        → incidentFrom at (q ∷ (es ++ (n ∷ []))) v ≡ incidentFrom at (q ∷ es) v
-    go (inl z) i = incidentFrom-skip at q (es ++ (n ∷ [])) v z ∙ i ∙ sym (incidentFrom-skip at q es v z)
-    go (inr o) i = incidentFrom-take at q (es ++ (n ∷ [])) v o ∙ ap (λ (l : List ℕ). at ∷ l) i ∙ sym (incidentFrom-take at q es v o)
+    go : (endsAt v q ≡ 0) ⊎ (endsAt v q ≡ 1) → incidentFrom (suc at) (es ++ (p ∷ [])) v ≡ incidentFrom (suc at) es v
+        → incidentFrom at (q ∷ (es ++ (p ∷ []))) v ≡ incidentFrom at (q ∷ es) v
+    go (inl z) i = incidentFrom-skip at q (es ++ (p ∷ [])) v z ∙ i ∙ sym (incidentFrom-skip at q es v z)
+    go (inr o) i = incidentFrom-take at q (es ++ (p ∷ [])) v o ∙ ap (λ (l : List ℕ). at ∷ l) i ∙ sym (incidentFrom-take at q es v o)
 
-pub turn-old : (es : List Edge) (n : Edge) (v d : ℕ) → Proper es → endsAt v n ≡ 0 → turn (es ++ (n ∷ [])) d v ≡ turn es d v
+pub turn-old : (es : List Edge) (p : Edge) (v d : ℕ) → Proper es → endsAt v p ≡ 0 → turn (es ++ (p ∷ [])) d v ≡ turn es d v
 unfolding turn incident
-turn-old es n v d pr e = rw (incidentFrom-old 0 es n v pr e)
+turn-old es p v d pr e = rw (incidentFrom-old 0 es p v pr e)
 
 -- no vertex that is passed is an end of the new edge
 abbrev pub Clear : Edge → List Pass → Type 0
-Clear n [] = Unit {0}
-Clear n (s ∷ ss) = (endsAt (s .at) n ≡ 0) × Clear n ss
+Clear p [] = Unit {0}
+Clear p (s ∷ ss) = (endsAt (s .at) p ≡ 0) × Clear p ss
 
-pub trail-clear : {es : List Edge} {d w q g : ℕ} {ss : List Pass} (n : Edge) → ((v : ℕ) → degree es v ≡ 2 → endsAt v n ≡ 0) → Trail es d w ss q g → Clear n ss
-trail-clear n off done = tt
-trail-clear {es} n off (pass t c tn u) = (off _ (is-two es _ c), trail-clear n off u)
+pub trail-clear : {es : List Edge} {d w q g : ℕ} {ss : List Pass} (p : Edge) → ((v : ℕ) → degree es v ≡ 2 → endsAt v p ≡ 0) → Trail es d w ss q g → Clear p ss
+trail-clear p off done = tt
+trail-clear {es} p off (pass t c tn u) = (off _ (is-two es _ c), trail-clear p off u)
 
-pub trail-old : {es : List Edge} {d v q g : ℕ} {ss : List Pass} (n : Edge) → Proper es → At es v d → Clear n ss → Trail es d v ss q g
-    → Trail (es ++ (n ∷ [])) d v ss q g
-trail-old n pr a c done = done
-trail-old {es} {d} {v} {q} {g} n pr a c (pass {ss = ss} t k e u) =
+pub trail-old : {es : List Edge} {d v q g : ℕ} {ss : List Pass} (p : Edge) → Proper es → At es v d → Clear p ss → Trail es d v ss q g
+    → Trail (es ++ (p ∷ [])) d v ss q g
+trail-old p pr a c done = done
+trail-old {es} {d} {v} {q} {g} p pr a c (pass {ss = ss} t k e u) =
     let nx : Next es d v t = next-edge es d v t pr a k e in
-    let u′ : Trail (es ++ (n ∷ [])) t (far (es ++ (n ∷ [])) t v) ss q g = rw (far-old es n t v (nx .at .inside)) (trail-old n pr (nx .across .at) (c .1) u) in
-    pass t (regular-old es n v (c .0) ∙ k) (turn-old es n v d pr (c .0) ∙ e) u′
+    let u′ : Trail (es ++ (p ∷ [])) t (far (es ++ (p ∷ [])) t v) ss q g = rw (far-old es p t v (nx .at .inside)) (trail-old p pr (nx .across .at) (c .1) u) in
+    pass t (regular-old es p v (c .0) ∙ k) (turn-old es p v d pr (c .0) ∙ e) u′
