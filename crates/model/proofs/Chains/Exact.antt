@@ -26,15 +26,15 @@ no-twice [] d = tt
 no-twice (x ∷ xs) d = (λ m. omega (arith, d x, same-eq x x refl, mem-occurs x xs m), no-twice xs (λ k. omega (arith, d k)))
 
 module _ (es : List Edge) (pr : Proper es) where
-  trail-path : {x d v q g : ℕ} {ss : List Pass} → At es v d → Joins (edgeAt es d) x v → Trail es d v ss q g
-      → PathOver es x (d ∷ afters ss) (map atOf ss) g
+  trail-path : {x d v q w : ℕ} {ss : List Pass} → At es v d → Joins (edgeAt es d) x v → Trail es d v ss q w
+      → PathOver es x (d ∷ afters ss) (map atOf ss) w
   unfolding afters afterOf atOf
   trail-path {d = d} a j done = one-edge d (a .inside) j
   trail-path {d = d} {v = v} a j (pass t c e u) =
       let nx : Next es d v t = next-edge es d v t pr a c e in
       edge-on d (a .inside) j (trail-path (nx .across .at) (joins-of es t v pr (nx .at)) u)
 
-  trail-between : {d w q g : ℕ} {ss : List Pass} → Trail es d w ss q g → (v : ℕ) → Mem v (map atOf ss) → isRegular es v ≡ true
+  trail-between : {d w q x : ℕ} {ss : List Pass} → Trail es d w ss q x → (v : ℕ) → Mem v (map atOf ss) → isRegular es v ≡ true
   unfolding atOf
   trail-between done v m = absurd (mem-nil m)
   trail-between {w = w} (pass {ss = ss} t c e u) v m = go (mem-cases m) (λ n. trail-between u v n)

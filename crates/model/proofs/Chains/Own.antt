@@ -19,7 +19,7 @@ use Rattle.model.proofs.Chains.Same.{lineChain, Line}
 
 module _ (es : List Edge) (pr : Proper es) (rf : RingFree es) where
   -- a regular vertex at an edge of a trail to a singular vertex is passed on it, or lies behind its beginning
-  passed : {d v q g : ℕ} {ss : List Pass} → At es v d → Trail es d v ss q g → isRegular es g ≡ false → (j x : ℕ) → Mem j (d ∷ afters ss) → At es x j → isRegular es x ≡ true
+  passed : {d v q w : ℕ} {ss : List Pass} → At es v d → Trail es d v ss q w → isRegular es w ≡ false → (j x : ℕ) → Mem j (d ∷ afters ss) → At es x j → isRegular es x ≡ true
       → Mem x (map atOf ss) ⊎ (x ≡ far es d v)
   unfolding afters atOf afterOf
   passed {d} {v} a done k j x m ax cx = go (ℕ-discrete x v)
@@ -67,7 +67,7 @@ module _ (es : List Edge) (pr : Proper es) (rf : RingFree es) where
       go (inr e) = absurd (true≢false (sym cx ∙ rw (e, b .again) (l .starts)))
 
   -- both edges of a regular vertex that a trail passes are on it
-  both-edges : {d v q g : ℕ} {ss : List Pass} → At es v d → Trail es d v ss q g → (x j : ℕ) → Mem x (map atOf ss) → At es x j → Mem j (d ∷ afters ss)
+  both-edges : {d v q w : ℕ} {ss : List Pass} → At es v d → Trail es d v ss q w → (x j : ℕ) → Mem x (map atOf ss) → At es x j → Mem j (d ∷ afters ss)
   unfolding afters atOf afterOf
   both-edges a done x j m aj = elim m [ ]
   both-edges {d} {v} a (pass {ss = ss} t c e u) x j m aj = go (mem-cases m) (λ n. both-edges (nx .across .at) u x j n aj)

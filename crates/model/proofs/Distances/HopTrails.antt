@@ -20,7 +20,7 @@ unfoldable pub alongEdges : List Edge → ℕ → List Pass → ℕ
 alongEdges es d ss = sum (lengthsOf es (d ∷ afters ss))
 
 -- the way back has the same length
-pub along-back : {es : List Edge} {d v q g : ℕ} {ss : List Pass} → Trail es d v ss q g → alongEdges es q (backwards ss) ≡ alongEdges es d ss
+pub along-back : {es : List Edge} {d v q w : ℕ} {ss : List Pass} → Trail es d v ss q w → alongEdges es q (backwards ss) ≡ alongEdges es d ss
 unfolding alongEdges
 along-back {es} {d} {ss = ss} u = ap (λ (l : List ℕ). sum (lengthsOf es l)) (afters-back u) ∙ sum-reverse es (d ∷ afters ss)
 
@@ -34,7 +34,7 @@ record Part (es : List Edge) (d v k : ℕ) (ss : List Pass) : Type 0 where
   onto : ℕ
   trail : Trail es d v (take k ss) onto (getD (map atOf ss) k 0)
 
-part : {es : List Edge} {d v q g : ℕ} {ss : List Pass} (k : ℕ) → Trail es d v ss q g → k < length ss → Part es d v k ss
+part : {es : List Edge} {d v q w : ℕ} {ss : List Pass} (k : ℕ) → Trail es d v ss q w → k < length ss → Part es d v k ss
 unfolding atOf
 part k done h = absurd (not-suc-le-zero h)
 part {d = d} zero (pass t c e u) h = record { onto = d; trail = done }
@@ -98,7 +98,7 @@ module _ (es : List Edge) (pr : Proper es) where
   hop-trail (other-way h) = hop-trail-back (hop-trail h)
 
   -- a trail is a way
-  trail-way : {x d v q g : ℕ} {ss : List Pass} → At es v d → Joins (edgeAt es d) x v → Trail es d v ss q g → Way es x g (alongEdges es d ss)
+  trail-way : {x d v q w : ℕ} {ss : List Pass} → At es v d → Joins (edgeAt es d) x v → Trail es d v ss q w → Way es x w (alongEdges es d ss)
   unfolding alongEdges sum lengthsOf afters afterOf
   trail-way {x} {d} a j done = along d (a .inside) j here
   trail-way {x} {d} {v} a j (pass t c e u) =

@@ -26,7 +26,7 @@ use Rattle.model.proofs.Labels.Inwards.{Inward, inward}
 use Rattle.model.proofs.Groups.Closing.{Joined, closed, size₁, Who, of-path, of-old, Stood, stood, old-below, single, missed}
 use Rattle.model.proofs.Walks.Joins.{across}
 
-trail-first : {es : List Edge} {d v q g i : ℕ} {s : Pass} {ss : List Pass} → Trail es d v ss q g → Ith s i ss → degree es v ≡ 2
+trail-first : {es : List Edge} {d v q w i : ℕ} {s : Pass} {ss : List Pass} → Trail es d v ss q w → Ith s i ss → degree es v ≡ 2
 trail-first {es} {v = v} (pass t c e u) j = is-two es v c
 trail-first {i = zero} done j = elim j [ ]
 trail-first {i = suc i} done j = elim j [ ]

@@ -24,7 +24,7 @@ use Rattle.model.proofs.Labels.Following.{labelAt, lowAt}
 use Rattle.model.proofs.Labels.Rise.{Rise, up-to, down-to, Sided}
 
 -- a trail from a singular vertex passes nothing
-trail-still : {es : List Edge} {d v q g : ℕ} {ss : List Pass} → Trail es d v ss q g → isRegular es v ≡ false → ss ≡ []
+trail-still : {es : List Edge} {d v q w : ℕ} {ss : List Pass} → Trail es d v ss q w → isRegular es v ≡ false → ss ≡ []
 trail-still done j = refl
 trail-still (pass t c e u) j = absurd (not-both _ c j)
 
@@ -44,10 +44,10 @@ module _ (es : List Edge) (pr : Proper es) (m : Marks) (s : Sided es m) where
   on-up v d t l n (up-to a b e) = (b, e)
   on-up v d t l n (down-to a b e) = absurd (n (sym a ∙ l))
 
-  ascends : {d v q g : ℕ} {ss : List Pass} → At es v d → Trail es d v ss q g → (isRegular es v ≡ true → lowAt m v ≡ d) → Ascends d v ss q
+  ascends : {d v q w : ℕ} {ss : List Pass} → At es v d → Trail es d v ss q w → (isRegular es v ≡ true → lowAt m v ≡ d) → Ascends d v ss q
   unfolding countFrom afters atOf afterOf
   ascends a done l = record { labels-are = refl; lows-are = refl }
-  ascends {d} {v} {q} {g} a (pass {ss = ss} t c e u) l = go (isRegular es (far es t v)) refl (λ k. ascends (nx .across .at) u k)
+  ascends {d} {v} {q} {w} a (pass {ss = ss} t c e u) l = go (isRegular es (far es t v)) refl (λ k. ascends (nx .across .at) u k)
     where
       nx : Next es d v t
       nx = next-edge es d v t pr a c e
@@ -71,17 +71,17 @@ module _ (es : List Edge) (pr : Proper es) (m : Marks) (s : Sided es m) where
           goal (ih (λ x. absurd (not-both _ x c′))) (rw z refl)
 
   -- if the first low edge is the one after, so is the last
-  data Falls (d v q g : ℕ) : Type 0 where
-    nothing-passed : q ≡ d → g ≡ v → Falls d v q g
-    to-last : lowAt m (far es q g) ≡ q → Falls d v q g
+  data Falls (d v q w : ℕ) : Type 0 where
+    nothing-passed : q ≡ d → w ≡ v → Falls d v q w
+    to-last : lowAt m (far es q w) ≡ q → Falls d v q w
 
   on-down : (v t : ℕ) → lowAt m v ≡ t → Rise m v (far es t v) t → lowAt m (far es t v) ≢ t
   on-down v t l (up-to a b e) = absurd (a l)
   on-down v t l (down-to a b e) = b
 
-  falls : {d v q g : ℕ} {ss : List Pass} → At es v d → Trail es d v ss q g → (isRegular es v ≡ true → lowAt m v ≢ d) → Falls d v q g
+  falls : {d v q w : ℕ} {ss : List Pass} → At es v d → Trail es d v ss q w → (isRegular es v ≡ true → lowAt m v ≢ d) → Falls d v q w
   falls a done l = nothing-passed refl refl
-  falls {d} {v} {q} {g} a (pass t c e u) l = go (falls (nx .across .at) u (λ c′. on-down v t low-t (rise v t c (nx .at) c′)))
+  falls {d} {v} {q} {w} a (pass t c e u) l = go (falls (nx .across .at) u (λ c′. on-down v t low-t (rise v t c (nx .at) c′)))
     where
       nx : Next es d v t
       nx = next-edge es d v t pr a c e
@@ -89,7 +89,7 @@ module _ (es : List Edge) (pr : Proper es) (m : Marks) (s : Sided es m) where
       low-t : lowAt m v ≡ t
       low-t = sym (turn-between es v d (lowAt m v) (two-edges es v pr (is-two es v c)) a (s .low-at v (is-two es v c)) (λ x. l c (sym x))) ∙ e
 
-      go : Falls t (far es t v) q g → Falls d v q g
+      go : Falls t (far es t v) q w → Falls d v q w
       go (nothing-passed x y) = to-last (rw (x, y, nx .across .again) low-t)
       go (to-last x) = to-last x
 

@@ -25,13 +25,13 @@ use Rattle.model.proofs.Walks.Whole.{Onwards, onwards-ends}
 
 -- ---- a ring is a trail that comes back
 
-trail-onto : {es : List Edge} {d v q g : ℕ} {ss : List Pass} → Trail es d v ss q g → ontoOf d ss ≡ q
+trail-onto : {es : List Edge} {d v q w : ℕ} {ss : List Pass} → Trail es d v ss q w → ontoOf d ss ≡ q
 unfolding ontoOf
 trail-onto done = refl
 trail-onto (pass t c e u) = trail-onto u
 
 -- a trail of n regular vertices is the walk of n steps
-trail-steps : {es : List Edge} {d v q g : ℕ} {ss : List Pass} → Trail es d v ss q g → walk (length ss) es d v ≡ ss
+trail-steps : {es : List Edge} {d v q w : ℕ} {ss : List Pass} → Trail es d v ss q w → walk (length ss) es d v ≡ ss
 unfolding walk
 trail-steps done = refl
 trail-steps {es} {d} {v} (pass {ss = ss} t c e u) =
@@ -58,7 +58,7 @@ trail-of-ring es k =
     let a : w .onto ≡ k .edge = sym (trail-onto (w .trail)) ∙ k .same-edge in
     let b : w .to ≡ k .vertex = sym (trail-endOf (w .trail)) ∙ k .same-vertex in
     subst (λ (q : ℕ). Trail es (k .edge) (k .vertex) ss q (k .vertex)) a
-    (subst (λ (g : ℕ). Trail es (k .edge) (k .vertex) ss (w .onto) g) b (w .trail))
+    (subst (λ (z : ℕ). Trail es (k .edge) (k .vertex) ss (w .onto) z) b (w .trail))
 
 -- ---- where every walk ends there is none: once more round the ring would be another walk that ends
 
@@ -73,7 +73,7 @@ ring-none es rf k =
 -- ---- an edge that the test lets pass closes none
 
 -- a walk of enough steps along a trail to a singular vertex ends there
-walk-ends : {es : List Edge} {d v q g : ℕ} {ss : List Pass} (n : ℕ) → Trail es d v ss q g → isRegular es g ≡ false → length ss ≤ n → endOf es v (walk n es d v) ≡ g
+walk-ends : {es : List Edge} {d v q w : ℕ} {ss : List Pass} (n : ℕ) → Trail es d v ss q w → isRegular es w ≡ false → length ss ≤ n → endOf es v (walk n es d v) ≡ w
 walk-ends n u j h = rw (trail-walk n u j h) (trail-endOf u)
 
 module _ (es : List Edge) (pr : Proper es) where

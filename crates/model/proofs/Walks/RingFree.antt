@@ -43,7 +43,7 @@ module _ (es : List Edge) (p : Edge) (pr : Proper es) (ne : p .first ≢ p .seco
       record { passes = []; onto = d; to = v; trail = done; singular = not-regular new v (λ e. h (omega (arith, degree-snoc es p v))) }
 
   -- an old walk in the new list: it stops at an end of the new edge that was regular, or goes on from where it ended
-  through : {d v q g : ℕ} {ss : List Pass} → At es v d → Trail es d v ss q g → Ended new q g → Ended new d v
+  through : {d v q w : ℕ} {ss : List Pass} → At es v d → Trail es d v ss q w → Ended new q w → Ended new d v
   through a done r = r
   through {d} {v} a (pass t c e u) r = go (zero-or-one (endsAt v p) (endsAt-le v p ne)) (through (nx .across .at) u r)
     where
@@ -59,7 +59,7 @@ module _ (es : List Edge) (p : Edge) (pr : Proper es) (ne : p .first ≢ p .seco
       → At es y e → Trail es e (far es e y) ss q x → x ≢ y → ⊥) where
     -- an old walk in the new list ends, if it does so from a leaf that the new edge meets
     follow : (d v : ℕ) → At es v d
-        → ((q g : ℕ) (ss : List Pass) → Trail es d v ss q g → degree es g ≡ 1 → endsAt g p ≡ 1 → Ended new q g) → Ended new d v
+        → ((q w : ℕ) (ss : List Pass) → Trail es d v ss q w → degree es w ≡ 1 → endsAt w p ≡ 1 → Ended new q w) → Ended new d v
     follow d v a on = through a (r .trail) (last (ℕ-discrete (degree es (r .to) + endsAt (r .to) p) 2))
       where
         r : Ended es d v
@@ -73,11 +73,11 @@ module _ (es : List Edge) (p : Edge) (pr : Proper es) (ne : p .first ≢ p .seco
 
     -- from such a leaf y inwards: the walk comes to none, neither to y again nor to the other
     inwards : (y e : ℕ) → endsAt y p ≡ 1 → degree es y ≡ 1 → At es y e → Ended new e (far es e y)
-    inwards y e o h a = follow e (far es e y) ((across es e y pr a) .at) (λ q g ss u k o′. absurd (neither q g ss u k o′ (ℕ-discrete g y)))
+    inwards y e o h a = follow e (far es e y) ((across es e y pr a) .at) (λ q w ss u k o′. absurd (neither q w ss u k o′ (ℕ-discrete w y)))
       where
-        neither : (q g : ℕ) (ss : List Pass) → Trail es e (far es e y) ss q g → degree es g ≡ 1 → endsAt g p ≡ 1 → Dec (g ≡ y) → ⊥
-        neither q g ss u k o′ (yes i) = leaf-once es pr y e q ss h a (rw i at u)
-        neither q g ss u k o′ (no i) = no-ring g y e q ss o′ o k h a u i
+        neither : (q w : ℕ) (ss : List Pass) → Trail es e (far es e y) ss q w → degree es w ≡ 1 → endsAt w p ≡ 1 → Dec (w ≡ y) → ⊥
+        neither q w ss u k o′ (yes i) = leaf-once es pr y e q ss h a (rw i at u)
+        neither q w ss u k o′ (no i) = no-ring w y e q ss o′ o k h a u i
 
     -- along the new edge to its end y
     enter : (y : ℕ) → endsAt y p ≡ 1 → Ended new (length es) y
@@ -96,8 +96,8 @@ module _ (es : List Edge) (p : Edge) (pr : Proper es) (ne : p .first ≢ p .seco
     ring-free d v a = go (which es p d (a .inside))
       where
         go : Which es p d → Ended new d v
-        go (is-old h) = follow d v (at-old es p h a) (λ q g ss u k o.
-            let t : NewTurn es p g q = new-turn es p pr ne g q o k (trail-at pr (at-old es p h a) u) in
-            let x : Across new (length es) g = across new (length es) g proper-new (at-last es p o) in
-            ended-on new q g (length es) (t .regular) (t .out) (enter (far new (length es) g) (last-at es p (x .at))))
+        go (is-old h) = follow d v (at-old es p h a) (λ q w ss u k o.
+            let t : NewTurn es p w q = new-turn es p pr ne w q o k (trail-at pr (at-old es p h a) u) in
+            let x : Across new (length es) w = across new (length es) w proper-new (at-last es p o) in
+            ended-on new q w (length es) (t .regular) (t .out) (enter (far new (length es) w) (last-at es p (x .at))))
         go (is-new e) = rw e (enter v (last-at es p (rw e at a)))

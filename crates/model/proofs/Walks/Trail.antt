@@ -12,13 +12,13 @@ use Rattle.model.proofs.Walks.Degree.{Proper, is-two}
 use Rattle.model.proofs.Walks.Turn.{At, two-edges, Turned, turned}
 use Rattle.model.proofs.Walks.Joins.{Across, across}
 
--- Coming along edge d to vertex v and passing the regular vertices `ss`, one is on edge q and comes to vertex g.
+-- Coming along edge d to vertex v and passing the regular vertices `ss`, one is on edge q and comes to vertex w.
 pub data Trail (es : List Edge) : ℕ → ℕ → List Pass → ℕ → ℕ → Type 0 where
   done : {d v : ℕ} → Trail es d v [] d v
-  pass : {d v q g : ℕ} {ss : List Pass} (t : ℕ) → isRegular es v ≡ true → turn es d v ≡ t → Trail es t (far es t v) ss q g
-      → Trail es d v (record { before = d; at = v; after = t } ∷ ss) q g
+  pass : {d v q w : ℕ} {ss : List Pass} (t : ℕ) → isRegular es v ≡ true → turn es d v ≡ t → Trail es t (far es t v) ss q w
+      → Trail es d v (record { before = d; at = v; after = t } ∷ ss) q w
 
-pub trail-append : {es : List Edge} {d v q g r h : ℕ} {ss ts : List Pass} → Trail es d v ss q g → Trail es q g ts r h → Trail es d v (ss ++ ts) r h
+pub trail-append : {es : List Edge} {d v q w r x : ℕ} {ss ts : List Pass} → Trail es d v ss q w → Trail es q w ts r x → Trail es d v (ss ++ ts) r x
 trail-append done u′ = u′
 trail-append (pass t c e u) u′ = pass t c e (trail-append u u′)
 
@@ -45,11 +45,11 @@ next-edge es d v t pr a c e =
     record { at = at; other = rw e at (tu .other); again = rw e at (tu .again); across = across es t v pr at }
 
 -- at the end of a trail one is at the end of its last edge
-pub trail-at : {es : List Edge} {d v q g : ℕ} {ss : List Pass} → Proper es → At es v d → Trail es d v ss q g → At es g q
+pub trail-at : {es : List Edge} {d v q w : ℕ} {ss : List Pass} → Proper es → At es v d → Trail es d v ss q w → At es w q
 trail-at pr a done = a
 trail-at {es} {d} {v} pr a (pass t c e u) = trail-at pr ((next-edge es d v t pr a c e) .across .at) u
 
-pub trail-endOf : {es : List Edge} {d v q g : ℕ} {ss : List Pass} → Trail es d v ss q g → endOf es v ss ≡ g
+pub trail-endOf : {es : List Edge} {d v q w : ℕ} {ss : List Pass} → Trail es d v ss q w → endOf es v ss ≡ w
 unfolding endOf
 trail-endOf done = refl
 trail-endOf (pass t c e u) = trail-endOf u
@@ -63,8 +63,8 @@ unfolding flip
 backwards [] = []
 backwards (s ∷ ss) = backwards ss ++ (flip s ∷ [])
 
-pub trail-back : {es : List Edge} {d v q g : ℕ} {ss : List Pass} → Proper es → At es v d → Trail es d v ss q g
-    → Trail es q (far es q g) (backwards ss) d (far es d v)
+pub trail-back : {es : List Edge} {d v q w : ℕ} {ss : List Pass} → Proper es → At es v d → Trail es d v ss q w
+    → Trail es q (far es q w) (backwards ss) d (far es d v)
 unfolding backwards flip
 trail-back pr a done = done
 trail-back {es} {d} {v} pr a (pass t c e u) =
@@ -81,7 +81,7 @@ unfoldable pub afters : List Pass → List ℕ
 unfolding afterOf
 afters ss = map afterOf ss
 
-pub afters-back : {es : List Edge} {d v q g : ℕ} {ss : List Pass} → Trail es d v ss q g → q ∷ afters (backwards ss) ≡ reverse (d ∷ afters ss)
+pub afters-back : {es : List Edge} {d v q w : ℕ} {ss : List Pass} → Trail es d v ss q w → q ∷ afters (backwards ss) ≡ reverse (d ∷ afters ss)
 unfolding afters backwards flip afterOf
 afters-back done = refl
 afters-back {d = d} {q = q} (pass {ss = ss} t c e u) =
@@ -99,7 +99,7 @@ walk-stop zero es d v c = refl
 walk-stop (suc n) es d v c = rw (c, walk)
 
 -- a trail that ends at a singular vertex is the walk, if the walk's bound allows it
-pub trail-walk : {es : List Edge} {d v q g : ℕ} {ss : List Pass} (n : ℕ) → Trail es d v ss q g → isRegular es g ≡ false → length ss ≤ n → walk n es d v ≡ ss
+pub trail-walk : {es : List Edge} {d v q w : ℕ} {ss : List Pass} (n : ℕ) → Trail es d v ss q w → isRegular es w ≡ false → length ss ≤ n → walk n es d v ≡ ss
 trail-walk {es} {d} {v} n done j h = walk-stop n es d v j
 trail-walk zero (pass t c e u) j h = absurd (not-suc-le-zero h)
 trail-walk {es} {d} {v} (suc n) (pass {ss = ss} t c e u) j h =
@@ -132,19 +132,19 @@ walked (suc n) es d v = go (isRegular es v) refl (walked n es (turn es d v) (far
         up (inr e) = inr (ap suc e)
 
 -- where an edge stands on a trail, the trail can be cut
-pub record Cut (es : List Edge) (d v : ℕ) (ss : List Pass) (q g k : ℕ) : Type 0 where
+pub record Cut (es : List Edge) (d v : ℕ) (ss : List Pass) (q w k : ℕ) : Type 0 where
   pub to : ℕ
   pub front : List Pass
   pub rest : List Pass
   pub parts : ss ≡ front ++ rest
   pub before : Trail es d v front k to
-  pub behind : Trail es k to rest q g
+  pub behind : Trail es k to rest q w
 
-cut-here : {es : List Edge} {d v q g : ℕ} {ss : List Pass} (k : ℕ) → k ≡ d → Trail es d v ss q g → Cut es d v ss q g k
+cut-here : {es : List Edge} {d v q w : ℕ} {ss : List Pass} (k : ℕ) → k ≡ d → Trail es d v ss q w → Cut es d v ss q w k
 cut-here {v = v} {ss = ss} k e u = rw e (record { to = v; front = []; rest = ss; parts = refl; before = done; behind = u })
 
-cut-on : {es : List Edge} {d v q g : ℕ} {ss : List Pass} (k t : ℕ) → isRegular es v ≡ true → turn es d v ≡ t
-    → Cut es t (far es t v) ss q g k → Cut es d v (record { before = d; at = v; after = t } ∷ ss) q g k
+cut-on : {es : List Edge} {d v q w : ℕ} {ss : List Pass} (k t : ℕ) → isRegular es v ≡ true → turn es d v ≡ t
+    → Cut es t (far es t v) ss q w k → Cut es d v (record { before = d; at = v; after = t } ∷ ss) q w k
 cut-on {d = d} {v = v} k t c e r = record {
   to = r .to;
   front = record { before = d; at = v; after = t } ∷ r .front;
@@ -154,16 +154,16 @@ cut-on {d = d} {v = v} k t c e r = record {
   behind = r .behind;
 }
 
-pub cut : {es : List Edge} {d v q g : ℕ} {ss : List Pass} (k : ℕ) → Trail es d v ss q g → Mem k (d ∷ afters ss) → Cut es d v ss q g k
+pub cut : {es : List Edge} {d v q w : ℕ} {ss : List Pass} (k : ℕ) → Trail es d v ss q w → Mem k (d ∷ afters ss) → Cut es d v ss q w k
 unfolding afters
 cut {es} {d} {v} k done m = go (mem-cases m)
   where
     go : (k ≡ d) ⊎ Mem k [] → Cut es d v [] d v k
     go (inl e) = cut-here k e done
     go (inr n) = absurd (mem-nil n)
-cut {es} {d} {v} {q} {g} k (pass {ss = ss} t c e u) m = go (λ n. cut k u n) (mem-cases m)
+cut {es} {d} {v} {q} {w} k (pass {ss = ss} t c e u) m = go (λ n. cut k u n) (mem-cases m)
   where
-    go : (Mem k (t ∷ afters ss) → Cut es t (far es t v) ss q g k) → (k ≡ d) ⊎ Mem k (t ∷ afters ss)
-        → Cut es d v (record { before = d; at = v; after = t } ∷ ss) q g k
+    go : (Mem k (t ∷ afters ss) → Cut es t (far es t v) ss q w k) → (k ≡ d) ⊎ Mem k (t ∷ afters ss)
+        → Cut es d v (record { before = d; at = v; after = t } ∷ ss) q w k
     go below (inl h) = cut-here k h (pass t c e u)
     go below (inr n) = cut-on k t c e (below n)
