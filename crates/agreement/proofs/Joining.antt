@@ -20,7 +20,7 @@ use Rattle.model.proofs.Walks.Turn.{At}
 use Rattle.model.proofs.Walks.Joins.{across}
 use Rattle.model.proofs.Walks.Ended.{trail-short}
 use Rattle.model.proofs.Walks.RingFree.{RingFree}
-use Rattle.model.proofs.Labels.Following.{Ith, here, later}
+use Rattle.model.proofs.Walks.Places.{Ith, here, later}
 use Rattle.model.proofs.Labels.Relabellings.{relabelCount-bare, relabelCount-same}
 use Rattle.model.proofs.Labels.Inwards.{Inward, inward, trail-head, trail-regular}
 use Rattle.model.proofs.Walks.Once.{at-once}

@@ -19,7 +19,7 @@ use Rattle.labels.proofs.Labels.{relabel-end, relabel-on}
 use Rattle.model.proofs.Walks.Degree.{Proper}
 use Rattle.model.proofs.Walks.Turn.{At}
 use Rattle.model.proofs.Walks.Trail.{Trail, done, pass, Next, next-edge}
-use Rattle.model.proofs.Labels.Following.{Ith, here, later, no-nil}
+use Rattle.model.proofs.Walks.Places.{Ith, here, later, no-nil}
 use Rattle.agreement.proofs.Lists.{length-pair, pair-other}
 use Rattle.agreement.proofs.Relabelled.{relabelled-set}
 use Rattle.agreement.proofs.Linked.{Linked, linked-here, linked-other}

@@ -10,7 +10,7 @@ use Rattle.model.proofs.Walks.Turn.{At, two-edges, turn-between}
 use Rattle.model.proofs.Walks.Trail.{Trail, done, pass, Next, next-edge}
 use Rattle.model.proofs.Walks.Snoc.{turn-old}
 use Rattle.model.proofs.Walks.NewEdge.{at-new}
-use Rattle.model.proofs.Labels.Following.{Ith, here, later}
+use Rattle.model.proofs.Walks.Places.{Ith, here, later}
 use Rattle.agreement.proofs.Linked.{degree-old}
 
 -- ---- a regular vertex between two edges

@@ -11,14 +11,14 @@ use Rattle.model.specs.Graph.{Edge, degree}
 use Rattle.model.specs.Register.{Register, lowEdgeOf, marksOf}
 use Rattle.model.specs.Tables.{held, storedOf}
 use Rattle.model.specs.Notions.{Reachable}
-use Rattle.model.proofs.Walks.Degree.{Proper}
+use Rattle.model.proofs.Walks.Degree.{Proper, AllLawful}
 use Rattle.model.proofs.Walks.Turn.{At}
 use Rattle.model.proofs.Walks.RingFree.{RingFree}
-use Rattle.model.proofs.Groups.Origins.{lowAt}
+use Rattle.model.proofs.Labels.Following.{lowAt}
 use Rattle.model.proofs.Series.Held.{GrowsAgain}
 use Rattle.model.proofs.Series.Labelled.{Labelled, ends-landed}
 use Rattle.model.proofs.Series.Kept.{kept-held}
-use Rattle.model.proofs.Series.Lawful.{AllLawful, edges-lawful}
+use Rattle.model.proofs.Series.Lawful.{edges-lawful}
 use Rattle.model.proofs.Series.Reachable as reachable
 
 module _ (r : Register) (g : Reachable r) where

@@ -4,5 +4,5 @@ pub mod Sums
 pub mod Exact
 pub mod Sheet
 pub mod Names
-pub mod Reaches
 pub mod Own
+pub mod Reaches

@@ -1,12 +1,12 @@
 pub mod Computing
 pub mod Values
 pub mod Computed
-pub mod Applied
 pub mod Basics
 pub mod Walks
 pub mod Chains
 pub mod Labels
 pub mod Groups
-pub mod Series
 pub mod Distances
+pub mod Series
+pub mod Applied
 pub mod Theorems

@@ -7,6 +7,7 @@ pub mod NewEdge
 pub mod NewTurn
 pub mod Ended
 pub mod RingFree
+pub mod Places
 pub mod Once
 pub mod Sound
 pub mod Whole

@@ -26,20 +26,20 @@ no-twice [] d = tt
 no-twice (x ∷ xs) d = (λ m. omega (arith, d x, same-eq x x refl, mem-occurs x xs m), no-twice xs (λ k. omega (arith, d k)))
 
 module _ (es : List Edge) (pr : Proper es) where
-  trail-path : {x p f q g : ℕ} {ss : List Pass} → At es f p → Joins (edgeAt es p) x f → Trail es p f ss q g
-      → PathOver es x (p ∷ afters ss) (map atOf ss) g
+  trail-path : {x d v q w : ℕ} {ss : List Pass} → At es v d → Joins (edgeAt es d) x v → Trail es d v ss q w
+      → PathOver es x (d ∷ afters ss) (map atOf ss) w
   unfolding afters afterOf atOf
-  trail-path {p = p} a j done = one-edge p (a .inside) j
-  trail-path {p = p} {f = f} a j (pass t c e u) =
-      let nx : Next es p f t = next-edge es p f t pr a c e in
-      edge-on p (a .inside) j (trail-path (nx .across .at) (joins-of es t f pr (nx .at)) u)
+  trail-path {d = d} a j done = one-edge d (a .inside) j
+  trail-path {d = d} {v = v} a j (pass t c e u) =
+      let nx : Next es d v t = next-edge es d v t pr a c e in
+      edge-on d (a .inside) j (trail-path (nx .across .at) (joins-of es t v pr (nx .at)) u)
 
-  trail-between : {p f q g : ℕ} {ss : List Pass} → Trail es p f ss q g → (v : ℕ) → Mem v (map atOf ss) → isRegular es v ≡ true
+  trail-between : {d w q x : ℕ} {ss : List Pass} → Trail es d w ss q x → (v : ℕ) → Mem v (map atOf ss) → isRegular es v ≡ true
   unfolding atOf
   trail-between done v m = absurd (mem-nil m)
-  trail-between {f = f} (pass {ss = ss} t c e u) v m = go (mem-cases m) (λ n. trail-between u v n)
+  trail-between {w = w} (pass {ss = ss} t c e u) v m = go (mem-cases m) (λ n. trail-between u v n)
     where
-      go : (v ≡ f) ⊎ Mem v (map atOf ss) → (Mem v (map atOf ss) → isRegular es v ≡ true) → isRegular es v ≡ true
+      go : (v ≡ w) ⊎ Mem v (map atOf ss) → (Mem v (map atOf ss) → isRegular es v ≡ true) → isRegular es v ≡ true
       go (inl q) ih = rw q c
       go (inr n) ih = ih n
 

@@ -19,33 +19,33 @@ use Rattle.model.proofs.Chains.Same.{lineChain, Line}
 
 module _ (es : List Edge) (pr : Proper es) (rf : RingFree es) where
   -- a regular vertex at an edge of a trail to a singular vertex is passed on it, or lies behind its beginning
-  passed : {p f q g : ℕ} {ss : List Pass} → At es f p → Trail es p f ss q g → isRegular es g ≡ false → (j x : ℕ) → Mem j (p ∷ afters ss) → At es x j → isRegular es x ≡ true
-      → Mem x (map atOf ss) ⊎ (x ≡ far es p f)
+  passed : {d v q w : ℕ} {ss : List Pass} → At es v d → Trail es d v ss q w → isRegular es w ≡ false → (j x : ℕ) → Mem j (d ∷ afters ss) → At es x j → isRegular es x ≡ true
+      → Mem x (map atOf ss) ⊎ (x ≡ far es d v)
   unfolding afters atOf afterOf
-  passed {p} {f} a done k j x m ax cx = go (ℕ-discrete x f)
+  passed {d} {v} a done k j x m ax cx = go (ℕ-discrete x v)
     where
-      ap′ : At es x p
-      ap′ = subst (λ (z : ℕ). At es x z) (mem-one m) ax
+      ad : At es x d
+      ad = subst (λ (z : ℕ). At es x z) (mem-one m) ax
 
-      go : Dec (x ≡ f) → Mem x [] ⊎ (x ≡ far es p f)
+      go : Dec (x ≡ v) → Mem x [] ⊎ (x ≡ far es d v)
       go (yes e) = absurd (true≢false (sym cx ∙ rw e k))
-      go (no n) = inr (other-end es p f x pr a ap′ n)
-  passed {p} {f} a (pass {ss = ss} t c e u) k j x m ax cx = go (mem-cases m) (λ n. passed (nx .across .at) u k j x n ax cx)
+      go (no n) = inr (other-end es d v x pr a ad n)
+  passed {d} {v} a (pass {ss = ss} t c e u) k j x m ax cx = go (mem-cases m) (λ n. passed (nx .across .at) u k j x n ax cx)
     where
-      nx : Next es p f t
-      nx = next-edge es p f t pr a c e
+      nx : Next es d v t
+      nx = next-edge es d v t pr a c e
 
-      here′ : At es x p → Dec (x ≡ f) → Mem x (f ∷ map atOf ss) ⊎ (x ≡ far es p f)
+      here′ : At es x d → Dec (x ≡ v) → Mem x (v ∷ map atOf ss) ⊎ (x ≡ far es d v)
       here′ b (yes q) = inl (at-head q)
-      here′ b (no n) = inr (other-end es p f x pr a b n)
+      here′ b (no n) = inr (other-end es d v x pr a b n)
 
-      later : Mem x (map atOf ss) ⊎ (x ≡ far es t (far es t f)) → Mem x (f ∷ map atOf ss) ⊎ (x ≡ far es p f)
+      later : Mem x (map atOf ss) ⊎ (x ≡ far es t (far es t v)) → Mem x (v ∷ map atOf ss) ⊎ (x ≡ far es d v)
       later (inl y) = inl (in-tail y)
       later (inr y) = inl (at-head (y ∙ nx .across .again))
 
-      go : (j ≡ p) ⊎ Mem j (t ∷ afters ss) → (Mem j (t ∷ afters ss) → Mem x (map atOf ss) ⊎ (x ≡ far es t (far es t f)))
-          → Mem x (f ∷ map atOf ss) ⊎ (x ≡ far es p f)
-      go (inl q) ih = here′ (subst (λ (z : ℕ). At es x z) q ax) (ℕ-discrete x f)
+      go : (j ≡ d) ⊎ Mem j (t ∷ afters ss) → (Mem j (t ∷ afters ss) → Mem x (map atOf ss) ⊎ (x ≡ far es t (far es t v)))
+          → Mem x (v ∷ map atOf ss) ⊎ (x ≡ far es d v)
+      go (inl q) ih = here′ (subst (λ (z : ℕ). At es x z) q ax) (ℕ-discrete x v)
       go (inr n) ih = later (ih n)
 
   -- a regular vertex at an edge of a chain is one of the chain's regular vertices
@@ -67,20 +67,20 @@ module _ (es : List Edge) (pr : Proper es) (rf : RingFree es) where
       go (inr e) = absurd (true≢false (sym cx ∙ rw (e, b .again) (l .starts)))
 
   -- both edges of a regular vertex that a trail passes are on it
-  both-edges : {p f q g : ℕ} {ss : List Pass} → At es f p → Trail es p f ss q g → (x j : ℕ) → Mem x (map atOf ss) → At es x j → Mem j (p ∷ afters ss)
+  both-edges : {d v q w : ℕ} {ss : List Pass} → At es v d → Trail es d v ss q w → (x j : ℕ) → Mem x (map atOf ss) → At es x j → Mem j (d ∷ afters ss)
   unfolding afters atOf afterOf
   both-edges a done x j m aj = elim m [ ]
-  both-edges {p} {f} a (pass {ss = ss} t c e u) x j m aj = go (mem-cases m) (λ n. both-edges (nx .across .at) u x j n aj)
+  both-edges {d} {v} a (pass {ss = ss} t c e u) x j m aj = go (mem-cases m) (λ n. both-edges (nx .across .at) u x j n aj)
     where
-      nx : Next es p f t
-      nx = next-edge es p f t pr a c e
+      nx : Next es d v t
+      nx = next-edge es d v t pr a c e
 
-      here′ : At es f j → Dec (p ≡ j) → Mem j (p ∷ t ∷ afters ss)
+      here′ : At es v j → Dec (d ≡ j) → Mem j (d ∷ t ∷ afters ss)
       here′ b (yes q) = at-head (sym q)
-      here′ b (no n) = in-tail (at-head (sym (turn-between es f p j (two-edges es f pr (is-two es f c)) a b n) ∙ e))
+      here′ b (no n) = in-tail (at-head (sym (turn-between es v d j (two-edges es v pr (is-two es v c)) a b n) ∙ e))
 
-      go : (x ≡ f) ⊎ Mem x (map atOf ss) → (Mem x (map atOf ss) → Mem j (t ∷ afters ss)) → Mem j (p ∷ t ∷ afters ss)
-      go (inl q) ih = here′ (subst (λ (z : ℕ). At es z j) q aj) (ℕ-discrete p j)
+      go : (x ≡ v) ⊎ Mem x (map atOf ss) → (Mem x (map atOf ss) → Mem j (t ∷ afters ss)) → Mem j (d ∷ t ∷ afters ss)
+      go (inl q) ih = here′ (subst (λ (z : ℕ). At es z j) q aj) (ℕ-discrete d j)
       go (inr n) ih = in-tail (ih n)
 
   -- so an edge at a regular vertex of a chain lies on the chain
@@ -93,20 +93,20 @@ module _ (es : List Edge) (pr : Proper es) (rf : RingFree es) where
       subst (λ (c : Chain). Mem j (c .edges)) (o .chain-is) (both-edges ((across es (l .first) (l .start) pr (l .at)) .at) (l .trail) x j m′ aj)
 
   -- the chain of a regular vertex
-  pub own-chain : (f : ℕ) → isRegular es f ≡ true → OwnChain es f (nameOf es (getD (incident es f) 0 0))
-  own-chain f c =
-      let two : TwoEdges es f = two-edges es f pr (is-two es f c) in
-      let p = two .low in
-      let h : p < length es = two .low-at .inside in
-      let inside : nameOf es p < length es = name-below es pr rf p h in
+  pub own-chain : (v : ℕ) → isRegular es v ≡ true → OwnChain es v (nameOf es (getD (incident es v) 0 0))
+  own-chain v c =
+      let two : TwoEdges es v = two-edges es v pr (is-two es v c) in
+      let d = two .low in
+      let h : d < length es = two .low-at .inside in
+      let inside : nameOf es d < length es = name-below es pr rf d h in
       rw (two .list) (record {
         inside = inside;
-        names = chain-name es pr rf (nameOf es p) p h (name-in-chain es p);
-        has = chain-inner (nameOf es p) p f inside (chain-back es pr rf (nameOf es p) p h (name-in-chain es p)) (two .low-at) c;
+        names = chain-name es pr rf (nameOf es d) d h (name-in-chain es d);
+        has = chain-inner (nameOf es d) d v inside (chain-back es pr rf (nameOf es d) d h (name-in-chain es d)) (two .low-at) c;
       })
 
   -- and the only one
-  pub only-chain : (f : ℕ) → isRegular es f ≡ true → (other : ℕ) → OwnChain es f other → other ≡ nameOf es (getD (incident es f) 0 0)
-  only-chain f c k w =
-      let two : TwoEdges es f = two-edges es f pr (is-two es f c) in
-      rw (two .list) (sym (w .names) ∙ sym (chain-name es pr rf (two .low) k (w .inside) (inner-chain k (two .low) f (w .inside) (w .has) (two .low-at))))
+  pub only-chain : (v : ℕ) → isRegular es v ≡ true → (other : ℕ) → OwnChain es v other → other ≡ nameOf es (getD (incident es v) 0 0)
+  only-chain v c k w =
+      let two : TwoEdges es v = two-edges es v pr (is-two es v c) in
+      rw (two .list) (sym (w .names) ∙ sym (chain-name es pr rf (two .low) k (w .inside) (inner-chain k (two .low) v (w .inside) (w .has) (two .low-at))))

@@ -42,11 +42,11 @@ ats-back [] = refl
 ats-back (s ∷ ss) = map-append atOf (backwards ss) (flip s ∷ []) ∙ rw (ats-back ss) (sym (reverse-cons (s .at) (map atOf ss)))
 
 -- a trail and another behind it on the same edge, from that edge
-edges-around : {es : List Edge} {p f k to : ℕ} {front : List Pass} (rest : List Pass) → Trail es p f front k to
-    → p ∷ afters (front ++ rest) ≡ reverse (afters (backwards front)) ++ (k ∷ afters rest)
+edges-around : {es : List Edge} {d v k to : ℕ} {front : List Pass} (rest : List Pass) → Trail es d v front k to
+    → d ∷ afters (front ++ rest) ≡ reverse (afters (backwards front)) ++ (k ∷ afters rest)
 unfolding afters
-edges-around {p = p} {k = k} {front = front} rest u =
-    simp map-append (ap (λ (l : List ℕ). l ++ map afterOf rest) (sym (ap reverse (afters-back u) ∙ reverse-reverse (p ∷ afters front))) ∙ reverse-onto k (afters (backwards front)) (afters rest))
+edges-around {d = d} {k = k} {front = front} rest u =
+    simp map-append (ap (λ (l : List ℕ). l ++ map afterOf rest) (sym (ap reverse (afters-back u) ∙ reverse-reverse (d ∷ afters front))) ∙ reverse-onto k (afters (backwards front)) (afters rest))
 
 -- both walks from an edge of a line
 record Both (es : List Edge) (l : Line es) (k : ℕ) : Type 0 where

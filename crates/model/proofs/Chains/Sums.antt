@@ -31,68 +31,68 @@ sum-occurs es n (x ∷ xs) a =
       total-one n x (λ k. lengthAt es k) (a .0),
     )
 
--- 1 where p is the name of its chain
+-- 1 where d is the name of its chain
 unfoldable pub named : List Edge → ℕ → ℕ
-named es p = same (nameOf es p) p
+named es d = same (nameOf es d) d
 
 module _ (es : List Edge) (pr : Proper es) (rf : RingFree es) where
   -- an edge's chain has each of its edges once, and only edges of the list
-  pub record Once (p : ℕ) : Type 0 where
-    pub distinct : Distinct ((chainOf es p) .edges)
-    pub below : AllBelow (length es) ((chainOf es p) .edges)
+  pub record Once (d : ℕ) : Type 0 where
+    pub distinct : Distinct ((chainOf es d) .edges)
+    pub below : AllBelow (length es) ((chainOf es d) .edges)
 
-  pub once : (p : ℕ) → p < length es → Once p
+  pub once : (d : ℕ) → d < length es → Once d
   unfolding lineChain
-  once p h =
-      let o = own-line es pr rf p h in
+  once d h =
+      let o = own-line es pr rf d h in
       record {
         distinct = subst (λ (c : Chain). Distinct (c .edges)) (o .chain-is) (line-distinct es pr (o .line));
         below = subst (λ (c : Chain). AllBelow (length es) (c .edges)) (o .chain-is) (line-below es pr (o .line));
       }
 
-  -- edge k is on the chain of name p just if p is the name of k's own chain
-  one-chain : (k p : ℕ) → k < length es → p < length es → named es p * occurs k ((chainOf es p) .edges) ≡ same (nameOf es k) p
+  -- edge k is on the chain of name d just if d is the name of k's own chain
+  one-chain : (k d : ℕ) → k < length es → d < length es → named es d * occurs k ((chainOf es d) .edges) ≡ same (nameOf es k) d
   unfolding named
-  one-chain k p hk hp = go (ℕ-discrete (nameOf es k) p) (occurs-or k ((chainOf es p) .edges)) (ℕ-discrete (nameOf es p) p)
+  one-chain k d hk hd = go (ℕ-discrete (nameOf es k) d) (occurs-or k ((chainOf es d) .edges)) (ℕ-discrete (nameOf es d) d)
     where
-      go : Dec (nameOf es k ≡ p) → (occurs k ((chainOf es p) .edges) ≡ 0) ⊎ Mem k ((chainOf es p) .edges) → Dec (nameOf es p ≡ p)
-          → same (nameOf es p) p * occurs k ((chainOf es p) .edges) ≡ same (nameOf es k) p
-      go (no n) (inl z) d = rw (same-ne (nameOf es k) p n, z) (mul-zero _)
+      go : Dec (nameOf es k ≡ d) → (occurs k ((chainOf es d) .edges) ≡ 0) ⊎ Mem k ((chainOf es d) .edges) → Dec (nameOf es d ≡ d)
+          → same (nameOf es d) d * occurs k ((chainOf es d) .edges) ≡ same (nameOf es k) d
+      go (no n) (inl z) b = rw (same-ne (nameOf es k) d n, z) (mul-zero _)
       go (no n) (inr m) (yes e) =
-          absurd (n (chain-name es pr rf k p hp m ∙ e))
-      go (no n) (inr m) (no e) = rw (same-ne (nameOf es k) p n, same-ne (nameOf es p) p e) (zero-mul _)
-      go (yes e) o d =
-          let pm : Mem p ((chainOf es k) .edges) = rw e at (name-in-chain es k) in
-          let self : nameOf es p ≡ p = chain-name es pr rf p k hk pm ∙ e in
-          let m : Mem k ((chainOf es p) .edges) = chain-back es pr rf p k hk pm in
-          let c : occurs k ((chainOf es p) .edges) ≡ 1 = omega (arith, (once p hp) .distinct k, mem-occurs k ((chainOf es p) .edges) m) in
-          rw (same-eq (nameOf es k) p e, same-eq (nameOf es p) p self, c) (omega arith)
+          absurd (n (chain-name es pr rf k d hd m ∙ e))
+      go (no n) (inr m) (no e) = rw (same-ne (nameOf es k) d n, same-ne (nameOf es d) d e) (zero-mul _)
+      go (yes e) o b =
+          let dm : Mem d ((chainOf es k) .edges) = rw e at (name-in-chain es k) in
+          let self : nameOf es d ≡ d = chain-name es pr rf d k hk dm ∙ e in
+          let m : Mem k ((chainOf es d) .edges) = chain-back es pr rf d k hk dm in
+          let c : occurs k ((chainOf es d) .edges) ≡ 1 = omega (arith, (once d hd) .distinct k, mem-occurs k ((chainOf es d) .edges) m) in
+          rw (same-eq (nameOf es k) d e, same-eq (nameOf es d) d self, c) (omega arith)
 
   pub name-below : (k : ℕ) → k < length es → nameOf es k < length es
   name-below k h = below-mem (length es) ((chainOf es k) .edges) ((once k h) .below) (nameOf es k) (name-in-chain es k)
 
   -- a chain is as long as its edges, each as often as it stands on the chain
-  pub length-occurs : (p : ℕ) → p < length es → chainLength es p ≡ total (length es) (λ k. occurs k ((chainOf es p) .edges) * lengthAt es k)
+  pub length-occurs : (d : ℕ) → d < length es → chainLength es d ≡ total (length es) (λ k. occurs k ((chainOf es d) .edges) * lengthAt es k)
   unfolding chainLength
-  length-occurs p h = omega (arith, sum-occurs es (length es) ((chainOf es p) .edges) ((once p h) .below))
+  length-occurs d h = omega (arith, sum-occurs es (length es) ((chainOf es d) .edges) ((once d h) .below))
 
-  expand : (p : ℕ) → p < length es
-      → named es p * chainLength es p ≡ total (length es) (λ k. (named es p * occurs k ((chainOf es p) .edges)) * lengthAt es k)
-  expand p h =
+  expand : (d : ℕ) → d < length es
+      → named es d * chainLength es d ≡ total (length es) (λ k. (named es d * occurs k ((chainOf es d) .edges)) * lengthAt es k)
+  expand d h =
       let n = length es in
-      let g : ℕ → ℕ = λ k. occurs k ((chainOf es p) .edges) * lengthAt es k in
-      ap (λ (s : ℕ). named es p * s) (length-occurs p h) ∙ mul-comm (named es p) (total n g) ∙ sym (total-mul n g (named es p)) ∙ total-same n _ _ (λ k l. omega arith)
+      let g : ℕ → ℕ = λ k. occurs k ((chainOf es d) .edges) * lengthAt es k in
+      ap (λ (s : ℕ). named es d * s) (length-occurs d h) ∙ mul-comm (named es d) (total n g) ∙ sym (total-mul n g (named es d)) ∙ total-same n _ _ (λ k l. omega arith)
 
-  collapse : (k : ℕ) → k < length es → total (length es) (λ p. (named es p * occurs k ((chainOf es p) .edges)) * lengthAt es k) ≡ lengthAt es k
+  collapse : (k : ℕ) → k < length es → total (length es) (λ d. (named es d * occurs k ((chainOf es d) .edges)) * lengthAt es k) ≡ lengthAt es k
   collapse k h =
       let n = length es in
-      total-same n _ (λ p. same (nameOf es k) p * lengthAt es k) (λ p l. ap (λ (s : ℕ). s * lengthAt es k) (one-chain k p h l))
-      ∙ total-one n (nameOf es k) (λ p. lengthAt es k) (name-below k h)
+      total-same n _ (λ d. same (nameOf es k) d * lengthAt es k) (λ d l. ap (λ (s : ℕ). s * lengthAt es k) (one-chain k d h l))
+      ∙ total-one n (nameOf es k) (λ d. lengthAt es k) (name-below k h)
 
   -- over all names, the lengths of the chains add up to those of the edges
-  pub chains-sum : total (length es) (λ p. named es p * chainLength es p) ≡ total (length es) (λ k. lengthAt es k)
+  pub chains-sum : total (length es) (λ d. named es d * chainLength es d) ≡ total (length es) (λ k. lengthAt es k)
   chains-sum =
       let n = length es in
       total-same n _ _ expand
-      ∙ total-swap n n (λ p k. (named es p * occurs k ((chainOf es p) .edges)) * lengthAt es k)
+      ∙ total-swap n n (λ d k. (named es d * occurs k ((chainOf es d) .edges)) * lengthAt es k)
       ∙ total-same n _ _ collapse

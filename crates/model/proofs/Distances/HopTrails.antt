@@ -17,12 +17,12 @@ use Rattle.model.proofs.Distances.Distance.{way-same, way-append}
 
 -- ---- lengths
 unfoldable pub alongEdges : List Edge → ℕ → List Pass → ℕ
-alongEdges es p ss = sum (lengthsOf es (p ∷ afters ss))
+alongEdges es d ss = sum (lengthsOf es (d ∷ afters ss))
 
 -- the way back has the same length
-pub along-back : {es : List Edge} {p f q g : ℕ} {ss : List Pass} → Trail es p f ss q g → alongEdges es q (backwards ss) ≡ alongEdges es p ss
+pub along-back : {es : List Edge} {d v q w : ℕ} {ss : List Pass} → Trail es d v ss q w → alongEdges es q (backwards ss) ≡ alongEdges es d ss
 unfolding alongEdges
-along-back {es} {p} {ss = ss} u = ap (λ (l : List ℕ). sum (lengthsOf es l)) (afters-back u) ∙ sum-reverse es (p ∷ afters ss)
+along-back {es} {d} {ss = ss} u = ap (λ (l : List ℕ). sum (lengthsOf es l)) (afters-back u) ∙ sum-reverse es (d ∷ afters ss)
 
 map-take : (k : ℕ) (ss : List Pass) → map afterOf (take k ss) ≡ take k (map afterOf ss)
 map-take zero ss = refl
@@ -30,14 +30,14 @@ map-take (suc k) [] = refl
 map-take (suc k) (s ∷ ss) = ap (λ (l : List ℕ). afterOf s ∷ l) (map-take k ss)
 
 -- the first k regular vertices of a trail lead to the next one
-record Part (es : List Edge) (p f k : ℕ) (ss : List Pass) : Type 0 where
+record Part (es : List Edge) (d v k : ℕ) (ss : List Pass) : Type 0 where
   onto : ℕ
-  trail : Trail es p f (take k ss) onto (getD (map atOf ss) k 0)
+  trail : Trail es d v (take k ss) onto (getD (map atOf ss) k 0)
 
-part : {es : List Edge} {p f q g : ℕ} {ss : List Pass} (k : ℕ) → Trail es p f ss q g → k < length ss → Part es p f k ss
+part : {es : List Edge} {d v q w : ℕ} {ss : List Pass} (k : ℕ) → Trail es d v ss q w → k < length ss → Part es d v k ss
 unfolding atOf
 part k done h = absurd (not-suc-le-zero h)
-part {p = p} zero (pass t c e u) h = record { onto = p; trail = done }
+part {d = d} zero (pass t c e u) h = record { onto = d; trail = done }
 part (suc k) (pass t c e u) h = let r = part k u (omega arith) in record { onto = r .onto; trail = pass t c e (r .trail) }
 
 -- ---- a hop is a trail
@@ -98,12 +98,12 @@ module _ (es : List Edge) (pr : Proper es) where
   hop-trail (other-way h) = hop-trail-back (hop-trail h)
 
   -- a trail is a way
-  trail-way : {x p f q g : ℕ} {ss : List Pass} → At es f p → Joins (edgeAt es p) x f → Trail es p f ss q g → Way es x g (alongEdges es p ss)
+  trail-way : {x d v q w : ℕ} {ss : List Pass} → At es v d → Joins (edgeAt es d) x v → Trail es d v ss q w → Way es x w (alongEdges es d ss)
   unfolding alongEdges sum lengthsOf afters afterOf
-  trail-way {x} {p} a j done = along p (a .inside) j here
-  trail-way {x} {p} {f} a j (pass t c e u) =
-      let nx : Next es p f t = next-edge es p f t pr a c e in
-      along p (a .inside) j (trail-way (nx .across .at) (joins-of es t f pr (nx .at)) u)
+  trail-way {x} {d} a j done = along d (a .inside) j here
+  trail-way {x} {d} {v} a j (pass t c e u) =
+      let nx : Next es d v t = next-edge es d v t pr a c e in
+      along d (a .inside) j (trail-way (nx .across .at) (joins-of es t v pr (nx .at)) u)
 
   -- so a hop is one, of the same length
   hop-way : {v w l : ℕ} → Hop es v w l → Way es v w l
@@ -112,17 +112,17 @@ module _ (es : List Edge) (pr : Proper es) where
       way-same (sym (t .len)) (trail-way ((across es (t .edge) v pr (t .at)) .at) (joins-of es (t .edge) v pr (t .at)) (t .trail))
 
   -- every way over the chains is one over the edges, of the same length, whatever its stops
-  pub chains-edges : {f g d : ℕ} → ChainWay es f g d → Way es f g d
+  pub chains-edges : {v w l : ℕ} → ChainWay es v w l → Way es v w l
   chains-edges stay = here
   chains-edges (last h) = hop-way h
-  chains-edges (stop h c w) = way-append (hop-way h) (chains-edges w)
+  chains-edges (stop h c t) = way-append (hop-way h) (chains-edges t)
 
-  pub loose-edges : {f g d : ℕ} → LooseWay es f g d → Way es f g d
+  pub loose-edges : {v w l : ℕ} → LooseWay es v w l → Way es v w l
   loose-edges stay = here
-  loose-edges (hop h w) = way-append (hop-way h) (loose-edges w)
+  loose-edges (hop h t) = way-append (hop-way h) (loose-edges t)
 
 -- a way that stops at singular vertices is one with any stops
-pub chains-loose : {es : List Edge} {f g d : ℕ} → ChainWay es f g d → LooseWay es f g d
+pub chains-loose : {es : List Edge} {v w l : ℕ} → ChainWay es v w l → LooseWay es v w l
 chains-loose stay = stay
-chains-loose {es} {f} {g} {d} (last h) = subst (λ (n : ℕ). LooseWay es f g n) (let z : d + 0 ≡ d = omega arith in z) (hop h stay)
-chains-loose (stop h c w) = hop h (chains-loose w)
+chains-loose {es} {v} {w} {l} (last h) = subst (λ (n : ℕ). LooseWay es v w n) (let z : l + 0 ≡ l = omega arith in z) (hop h stay)
+chains-loose (stop h c t) = hop h (chains-loose t)

@@ -88,13 +88,13 @@ module _ (es : List Edge) (pr : Proper es) (rf : RingFree es) where
       record { len = r .len; fits = omega (arith, s .fits, r .fits); way = rw (joins-far es d v x pr h j) at (r .way) }
 
   -- so one distance is both, and that of the looser reading too
-  pub chains-distance : (f g : ℕ) (d : Distance) → IsDistance (λ n. Way es f g n) d → IsDistance (λ n. ChainWay es f g n) d
-  chains-distance f g (joined d) l =
-      let s = edges-chains (l .holds) in
-      let b = l .least (s .len) (chains-edges es pr (s .way)) in
-      record { holds = subst (λ (n : ℕ). ChainWay es f g n) (let z : s .len ≡ d = omega (arith, s .fits, b) in z) (s .way); least = λ e w. l .least e (chains-edges es pr w) }
-  chains-distance f g notJoined l = λ d w. l d (chains-edges es pr w)
+  pub chains-distance : (v w : ℕ) (a : Distance) → IsDistance (λ n. Way es v w n) a → IsDistance (λ n. ChainWay es v w n) a
+  chains-distance v w (joined l) q =
+      let s = edges-chains (q .holds) in
+      let b = q .least (s .len) (chains-edges es pr (s .way)) in
+      record { holds = subst (λ (n : ℕ). ChainWay es v w n) (let z : s .len ≡ l = omega (arith, s .fits, b) in z) (s .way); least = λ k t. q .least k (chains-edges es pr t) }
+  chains-distance v w notJoined q = λ k t. q k (chains-edges es pr t)
 
-  pub loose-distance : (f g : ℕ) (d : Distance) → IsDistance (λ n. Way es f g n) d → IsDistance (λ n. LooseWay es f g n) d
-  loose-distance f g (joined d) l = record { holds = chains-loose ((chains-distance f g (joined d) l) .holds); least = λ e w. l .least e (loose-edges es pr w) }
-  loose-distance f g notJoined l = λ d w. l d (loose-edges es pr w)
+  pub loose-distance : (v w : ℕ) (a : Distance) → IsDistance (λ n. Way es v w n) a → IsDistance (λ n. LooseWay es v w n) a
+  loose-distance v w (joined l) q = record { holds = chains-loose ((chains-distance v w (joined l) q) .holds); least = λ k t. q .least k (loose-edges es pr t) }
+  loose-distance v w notJoined q = λ k t. q k (loose-edges es pr t)

@@ -17,8 +17,8 @@ use Rattle.model.proofs.Walks.RingFree.{Ended, RingFree}
 use Rattle.model.proofs.Walks.Joins.{joins-of, Across, across}
 use Rattle.model.proofs.Distances.HopTrails.{alongEdges, along-back}
 
-pub hop-same : {es : List Edge} {f g g′ d d′ : ℕ} → g ≡ g′ → d ≡ d′ → Hop es f g d → Hop es f g′ d′
-hop-same {es} {f} {g} {g′} {d} {d′} a b h = subst (λ (n : ℕ). Hop es f n d′) a (subst (λ (n : ℕ). Hop es f g n) b h)
+pub hop-same : {es : List Edge} {v w w′ l l′ : ℕ} → w ≡ w′ → l ≡ l′ → Hop es v w l → Hop es v w′ l′
+hop-same {es} {v} {w} {w′} {l} {l′} a b h = subst (λ (n : ℕ). Hop es v n l′) a (subst (λ (n : ℕ). Hop es v w n) b h)
 
 module _ (es : List Edge) (pr : Proper es) (rf : RingFree es) where
   ends-singular : {d q w : ℕ} {ss : List Pass} (v : ℕ) → At es v d → Trail es d (far es d v) ss q w → isRegular es w ≡ false → Hop es v w (alongEdges es d ss)

@@ -12,7 +12,8 @@ use Rattle.model.proofs.Walks.Degree.{Proper}
 use Rattle.model.proofs.Walks.Turn.{At}
 use Rattle.model.proofs.Groups.Shape.{Shape, size, pick, pick-yes, pick-no, between-differ, between-or, Courses}
 use Rattle.model.proofs.Labels.Laid.{Direction, Near, none-near, near}
-use Rattle.model.proofs.Groups.Origins.{Origins, BlockAt, Aligned, Stand, FitsBlock, LowIs, labelAt, lowAt}
+use Rattle.model.proofs.Labels.Following.{labelAt, lowAt}
+use Rattle.model.proofs.Groups.Origins.{Origins, BlockAt, Aligned, Stand, FitsBlock, LowIs}
 use Rattle.model.proofs.Walks.Joins.{across, far-ne}
 
 -- one more block, to which no regular vertex belongs yet
@@ -79,8 +80,8 @@ same-way false true lo hi low e n q k lw = absurd (n (sym lw ∙ k ∙ q))
 
 module _ (es : List Edge) (p : Edge) (pr : Proper es) {relabellings : ℕ} {m : Marks} {blocks : ℕ} {h : Shape} (w : Courses es relabellings h) {l : Origins} (lab : Aligned es m blocks h l)
     (x e : ℕ) (cx : degree es x ≡ 1) (a : At es x e) (hi : far es e (h .low e) ≡ x) (top : suc (h .place e) ≡ size h (length es) (h .group e)) where
-  f : ℕ
-  f = far es e x
+  v : ℕ
+  v = far es e x
 
   start-new : (up : Bool) (label blocks′ : ℕ) → degree (es ++ (p ∷ [])) (far es e x) ≢ 2 → up ≡ true → label ≡ base (blocks + 1) - 1 → blocks′ ≡ blocks + 1 → Start es p m h x e up label blocks′
   unfolding base
@@ -107,35 +108,35 @@ module _ (es : List Edge) (p : Edge) (pr : Proper es) {relabellings : ℕ} {m : 
 
   start-on : (up : Bool) (label blocks′ : ℕ) → degree es (far es e x) ≡ 2 → label ≡ getD (m .labels) (far es e x) 0 → blocks′ ≡ blocks
       → Direction up (getD (m .lows) (far es e x) 0) e → Start es p m h x e up label blocks′
-  unfolding f labelAt lowAt
-  start-on up label blocks′ c t b dir = go (between-or es h f (h .group e) e pr c (s .between) af)
+  unfolding v labelAt lowAt
+  start-on up label blocks′ c t b dir = go (between-or es h v (h .group e) e pr c (s .between) av)
     where
-      af : At es f e
-      af = (across es e x pr a) .at
+      av : At es v e
+      av = (across es e x pr a) .at
 
-      s : Stand es m h l f (h .group e)
-      s = lab .stands f e c af (w .leaf-open x e cx a)
+      s : Stand es m h l v (h .group e)
+      s = lab .stands v e c av (w .leaf-open x e cx a)
 
-      start : up ≡ l .rising (l .block f) → e ≡ s .between .hi → Start es p m h x e up label blocks′
+      start : up ≡ l .rising (l .block v) → e ≡ s .between .hi → Start es p m h x e up label blocks′
       start u q = rw (u, t, b) (record {
         origins = l;
         aligned = lab;
-        now = l .block f;
+        now = l .block v;
         block-at = record {
-          least = lab .least f c;
-          most = lab .most f c;
-          owner-is = lab .owned f e c af;
+          least = lab .least v c;
+          most = lab .most v c;
+          owner-is = lab .owned v e c av;
           rising-is = refl;
           first = s .first;
           last = omega (arith, s .last);
         };
-        fits = subst (λ (i : ℕ). FitsBlock l (l .block f) (h .place i) (getD (m .labels) f 0)) (sym q) (s .fits);
+        fits = subst (λ (i : ℕ). FitsBlock l (l .block v) (h .place i) (getD (m .labels) v 0)) (sym q) (s .fits);
         beside = λ z. refl;
       })
 
       go : (e ≡ s .between .lo) ⊎ (e ≡ s .between .hi) → Start es p m h x e up label blocks′
       go (inl q) = absurd (far-ne es e x pr a (sym (sym hi ∙ ap (λ (i : ℕ). far es i (h .low i)) q ∙ s .between .lo-end)))
-      go (inr q) = start (same-way up (l .rising (l .block f)) (s .between .lo) (s .between .hi) _ e (between-differ (s .between)) q dir (s .low-is)) q
+      go (inr q) = start (same-way up (l .rising (l .block v)) (s .between .lo) (s .between .hi) _ e (between-differ (s .between)) q dir (s .low-is)) q
 
   pub start-of : (up : Bool) (label blocks′ : ℕ) → Near es p (far es e x) blocks e m up label blocks′ → Start es p m h x e up label blocks′
   start-of up label blocks′ (none-near n u t b) = start-new up label blocks′ n u t b

@@ -15,7 +15,7 @@ use Rattle.model.proofs.Walks.Trail.{Trail, done, pass}
 use Rattle.model.proofs.Walks.RingFree.{RingFree}
 use Rattle.model.proofs.Groups.Shape.{Shape, size, LeafAt, at-low, at-high, Successive, between-differ, between-or, Courses, place-fits}
 use Rattle.model.proofs.Groups.Flip.{flipped, flip-size, flip-low, flip-courses}
-use Rattle.model.proofs.Labels.Following.{Ith, here, later, InPath, Nth, nth}
+use Rattle.model.proofs.Walks.Places.{Ith, here, later, InPath, Nth, nth}
 use Rattle.model.proofs.Labels.Inwards.{inward}
 use Rattle.model.proofs.Walks.Joins.{across, far-ne}
 
@@ -67,26 +67,26 @@ pub record Climb (es : List Edge) (h : Shape) (e : ℕ) (ss : List Pass) (q z : 
 
 module _ (es : List Edge) (pr : Proper es) {relabellings : ℕ} {h : Shape} (w : Courses es relabellings h) where
   -- one regular vertex upwards
-  spot : (e f t : ℕ) → e < length es → far es e (h .low e) ≡ f → h .isOpen (h .group e) ≡ true → isRegular es f ≡ true → turn es e f ≡ t
-      → Spot es h (h .group e) (h .place e) (record { before = e; at = f; after = t })
+  spot : (e v t : ℕ) → e < length es → far es e (h .low e) ≡ v → h .isOpen (h .group e) ≡ true → isRegular es v ≡ true → turn es e v ≡ t
+      → Spot es h (h .group e) (h .place e) (record { before = e; at = v; after = t })
   unfolding isRegular
-  spot e f t l i o c tn = go (between-or es h f (h .group e) e pr two u a)
+  spot e v t l i o c tn = go (between-or es h v (h .group e) e pr two u a)
     where
-      a : At es f e
+      a : At es v e
       a = rw i at ((across es e (h .low e) pr (w .ends e l)) .at)
 
-      two : degree es f ≡ 2
+      two : degree es v ≡ 2
       two = eqb-true _ _ c
 
-      u : Successive es h f (h .group e)
-      u = w .between f e two a o
+      u : Successive es h v (h .group e)
+      u = w .between v e two a o
 
-      go : (e ≡ u .lo) ⊎ (e ≡ u .hi) → Spot es h (h .group e) (h .place e) (record { before = e; at = f; after = t })
+      go : (e ≡ u .lo) ⊎ (e ≡ u .hi) → Spot es h (h .group e) (h .place e) (record { before = e; at = v; after = t })
       go (inr q) =
-          let k : h .low e ≡ f = rw q (u .hi-end) in
+          let k : h .low e ≡ v = rw q (u .hi-end) in
           absurd (far-ne es e (h .low e) pr (w .ends e l) (i ∙ sym k))
       go (inl q) =
-          let y : t ≡ u .hi = sym tn ∙ turn-between es f e (u .hi) (two-edges es f pr two) a (u .hi-at) (λ z. between-differ u (sym q ∙ z)) in
+          let y : t ≡ u .hi = sym tn ∙ turn-between es v e (u .hi) (two-edges es v pr two) a (u .hi-at) (λ z. between-differ u (sym q ∙ z)) in
           record {
             before-at = a;
             after-at = rw y (u .hi-at);
@@ -99,10 +99,10 @@ module _ (es : List Edge) (pr : Proper es) {relabellings : ℕ} {h : Shape} (w :
             regular = two;
           }
 
-  pub climb : {e f q z : ℕ} {ss : List Pass} → e < length es → far es e (h .low e) ≡ f → h .isOpen (h .group e) ≡ true → Trail es e f ss q z → Climb es h e ss q z
+  pub climb : {e v q z : ℕ} {ss : List Pass} → e < length es → far es e (h .low e) ≡ v → h .isOpen (h .group e) ≡ true → Trail es e v ss q z → Climb es h e ss q z
   climb l i o done = record { inside = l; same-group = refl; rise = omega arith; end = i; path = tt }
-  climb {e} {f} {q} {z} l i o (pass {ss = ss} t c tn u) =
-      let sp = spot e f t l i o c tn in
+  climb {e} {v} {q} {z} l i o (pass {ss = ss} t c tn u) =
+      let sp = spot e v t l i o c tn in
       let r : Climb es h t ss q z = climb (sp .after-at .inside) (ap (λ (k : ℕ). far es t k) (sp .after-end)) (rw (sp .after-group) o) u in
       record {
         inside = r .inside;
@@ -115,7 +115,7 @@ module _ (es : List Edge) (pr : Proper es) {relabellings : ℕ} {h : Shape} (w :
 -- from a leaf at the low end of its course inwards
 module _ (es : List Edge) (pr : Proper es) (rf : RingFree es) {relabellings : ℕ} {h : Shape} (w : Courses es relabellings h) (x e : ℕ) (c : degree es x ≡ 1) (a : At es x e) (lo : h .low e ≡ x) where
   pub inwards-climb : Climb es h e (inwards es x) ((inward es pr rf x e c a) .onto) ((inward es pr rf x e c a) .to)
-  inwards-climb = climb es pr w (a .inside) (ap (λ (f : ℕ). far es e f) lo) (w .leaf-open x e c a) ((inward es pr rf x e c a) .trail)
+  inwards-climb = climb es pr w (a .inside) (ap (λ (v : ℕ). far es e v) lo) (w .leaf-open x e c a) ((inward es pr rf x e c a) .trail)
 
   short-low : length (inwards es x) < size h (length es) (h .group e)
   short-low = let k = inwards-climb in omega (arith, k .rise, place-fits w _ (h .group e) (k .inside) (k .same-group))

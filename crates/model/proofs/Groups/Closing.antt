@@ -15,8 +15,9 @@ use Rattle.model.proofs.Groups.Climb.{Spot, rises-ith, inwards-climb}
 use Rattle.model.proofs.Walks.NewEdge.{old-edge}
 use Rattle.model.proofs.Groups.Grown.{Growth, GrownTo, grownTo, seen-o}
 use Rattle.model.proofs.Groups.GrownEnds.{end-group}
-use Rattle.model.proofs.Labels.Following.{ithLabel, Ith, ith-one, ith-split}
-use Rattle.model.proofs.Groups.Origins.{Stand, FitsBlock, labelAt, fits-same}
+use Rattle.model.proofs.Walks.Places.{Ith, ith-one, ith-split}
+use Rattle.model.proofs.Labels.Following.{ithLabel, labelAt}
+use Rattle.model.proofs.Groups.Origins.{Stand, FitsBlock, fits-same}
 use Rattle.model.proofs.Groups.Ghosts.{Ghosts}
 use Rattle.model.proofs.Groups.Laying.{Laying, begins, growth, path-fits, InGroup, relabelling}
 use Rattle.model.proofs.Groups.Blocks.{Start}

@@ -15,7 +15,7 @@ use Rattle.model.proofs.Groups.Shape.{Shape, size, size-fresh, Successi
 use Rattle.model.proofs.Groups.Flip.{flipped, flip-place, flip-low, flip-courses}
 use Rattle.model.proofs.Groups.Climb.{low-path, inwards-short}
 use Rattle.model.proofs.Groups.Grown.{Growth, GrownTo, grownTo, size-x}
-use Rattle.model.proofs.Labels.Following.{Ith, here, later, InPath, ith-below}
+use Rattle.model.proofs.Walks.Places.{Ith, here, later, InPath, ith-below}
 use Rattle.model.proofs.Groups.Origins.{Origins, Aligned, offset, fits-near}
 use Rattle.model.proofs.Groups.Ghosts.{Ghosts}
 use Rattle.model.proofs.Groups.Laying.{Laying, begins, growth}
@@ -26,20 +26,20 @@ use Rattle.model.proofs.Labels.Inwards.{Inward, inward}
 use Rattle.model.proofs.Groups.Closing.{Joined, closed, size₁, Who, of-path, of-old, Stood, stood, old-below, single, missed}
 use Rattle.model.proofs.Walks.Joins.{across}
 
-trail-first : {es : List Edge} {p f q g i : ℕ} {s : Pass} {ss : List Pass} → Trail es p f ss q g → Ith s i ss → degree es f ≡ 2
-trail-first {es} {f = f} (pass t c e u) j = is-two es f c
+trail-first : {es : List Edge} {d v q w i : ℕ} {s : Pass} {ss : List Pass} → Trail es d v ss q w → Ith s i ss → degree es v ≡ 2
+trail-first {es} {v = v} (pass t c e u) j = is-two es v c
 trail-first {i = zero} done j = elim j [ ]
 trail-first {i = suc i} done j = elim j [ ]
 
 -- all regular vertices of a trail are of one block
 one-block : (es : List Edge) → Proper es → {m : Marks} {blocks : ℕ} {h : Shape} {l : Origins} → Aligned es m blocks h l
-    → {e f q z : ℕ} {ss : List Pass} → At es f e → Trail es e f ss q z → (i : ℕ) (s : Pass) → Ith s i ss → l .block (s .at) ≡ l .block f
+    → {e v q z : ℕ} {ss : List Pass} → At es v e → Trail es e v ss q z → (i : ℕ) (s : Pass) → Ith s i ss → l .block (s .at) ≡ l .block v
 one-block es pr lab a done zero s j = elim j [ ]
 one-block es pr lab a done (suc i) s j = elim j [ ]
 one-block es pr lab a (pass t c tn u) zero s here = refl
-one-block es pr lab {e} {f} a (pass t c tn u) (suc i) s (later j) =
-    let nx : Next es e f t = next-edge es e f t pr a c tn in
-    one-block es pr lab (nx .across .at) u i s j ∙ lab .along (far es t f) f t (trail-first u j) (is-two es f c) (nx .across .at) (nx .at)
+one-block es pr lab {e} {v} a (pass t c tn u) (suc i) s (later j) =
+    let nx : Next es e v t = next-edge es e v t pr a c tn in
+    one-block es pr lab (nx .across .at) u i s j ∙ lab .along (far es t v) v t (trail-first u j) (is-two es v c) (nx .across .at) (nx .at)
 
 module _ (jo : Joined) where
   open Joined jo using (ly, rf, c, path-is, cy, ac, lo, bot, eq, none-after, le)

@@ -13,7 +13,8 @@ use Rattle.model.proofs.Walks.Degree.{Proper}
 use Rattle.model.proofs.Walks.Turn.{At}
 use Rattle.model.proofs.Groups.Shape.{Shape, size, LeafAt, at-low, at-high, pick, pick-yes, pick-no, Courses, no-shape, no-courses}
 use Rattle.model.proofs.Groups.Flip.{flipped, flip-size, flip-place, keep-place, flip-low, keep-low, flip-high, flip-courses, between-flip, between-keep}
-use Rattle.model.proofs.Groups.Origins.{Origins, Fits, LowIs, labelAt, lowAt, Stand, Aligned, no-origins, no-aligned}
+use Rattle.model.proofs.Labels.Following.{labelAt, lowAt}
+use Rattle.model.proofs.Groups.Origins.{Origins, Fits, LowIs, Stand, Aligned, no-origins, no-aligned}
 
 -- The whole ghost state: some groups whose courses pay for the relabellings, and blocks in which the labels stand.
 pub record Ghosts (es : List Edge) (relabellings : ℕ) (m : Marks) (blocks : ℕ) : Type 0 where
@@ -166,11 +167,11 @@ module _ (es : List Edge) (pr : Proper es) {relabellings : ℕ} {m : Marks} {blo
       g = h .group c
 
       go : LeafAt es h y c → Dec (h .group e ≡ h .group c) → Facing es relabellings m blocks x e y c
-      go (at-low i t) d = record { high = k; lo = i; bot = t }
+      go (at-low i t) s = record { high = k; lo = i; bot = t }
       go (at-high i t) (yes s) =
           let t′ : suc (h .place c) ≡ size h (length es) (h .group e) = rw s t in
           let z : e ≡ c = w .apart e c (a .inside) (b .inside) s (omega (arith, t′, k .top)) in
-          absurd (ne (sym (k .hi) ∙ ap (λ (f : ℕ). far es f (h .low f)) z ∙ i))
+          absurd (ne (sym (k .hi) ∙ ap (λ (d : ℕ). far es d (h .low d)) z ∙ i))
       go (at-high i t) (no s) = record {
         high = record {
           ghosts = turned (k .ghosts) g;

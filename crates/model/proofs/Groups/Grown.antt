@@ -78,10 +78,10 @@ module _ (it : Growth) where
       go (no q) = stays q (pick-no g gy gx g q) (pick-no g gy _ _ q)
 
   -- the group, the place and the low end of an edge now
-  pub record Seen (e g i f : ℕ) : Type 0 where
+  pub record Seen (e g i v : ℕ) : Type 0 where
     pub group-is : h′ .group e ≡ g
     pub place-is : h′ .place e ≡ i
-    pub low-is : h′ .low e ≡ f
+    pub low-is : h′ .low e ≡ v
 
   pub seen-new : Seen (length es) gx (size h (length es) gx) x
   unfolding grown

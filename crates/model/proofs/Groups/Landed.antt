@@ -13,7 +13,8 @@ use Rattle.model.proofs.Basics.Booleans.{not-both}
 use Rattle.model.proofs.Walks.Degree.{Proper, end-first, end-second}
 use Rattle.model.proofs.Walks.Turn.{At}
 use Rattle.model.proofs.Walks.RingFree.{RingFree}
-use Rattle.model.proofs.Labels.Following.{following, no-nil}
+use Rattle.model.proofs.Walks.Places.{no-nil}
+use Rattle.model.proofs.Labels.Following.{following}
 use Rattle.model.proofs.Labels.Laid.{extendPath, mergePath, Laid, Inserted, fresh, extends, merges, fresh-none}
 use Rattle.model.proofs.Labels.WearsAfter.{LongEnough}
 use Rattle.model.proofs.Labels.Singular.{BareSingular, moves-extend, moves-merge}

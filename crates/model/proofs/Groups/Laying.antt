@@ -13,7 +13,8 @@ use Rattle.model.proofs.Walks.Turn.{At}
 use Rattle.model.proofs.Walks.Snoc.{far-old}
 use Rattle.model.proofs.Walks.NewEdge.{length-new, at-new}
 use Rattle.model.proofs.Walks.Once.{Nearby, itself, ahead, behind, at-start, at-end, nearby}
-use Rattle.model.proofs.Labels.Following.{ithLabel, Ith, InPath, ith-below}
+use Rattle.model.proofs.Walks.Places.{Ith, InPath, ith-below}
+use Rattle.model.proofs.Labels.Following.{ithLabel}
 use Rattle.model.proofs.Labels.Laid.{Laid}
 use Rattle.model.proofs.Labels.WearsAfter.{LongEnough}
 use Rattle.model.proofs.Groups.Shape.{between-or}

@@ -12,9 +12,10 @@ use Rattle.model.proofs.Walks.Turn.{At}
 use Rattle.model.proofs.Groups.Shape.{size, pick-no}
 use Rattle.model.proofs.Groups.Climb.{spot-between}
 use Rattle.model.proofs.Walks.NewEdge.{old-edge}
-use Rattle.model.proofs.Labels.Following.{ithLabel, lowOf, Ith}
+use Rattle.model.proofs.Walks.Places.{Ith}
+use Rattle.model.proofs.Labels.Following.{ithLabel, lowOf, labelAt, lowAt}
 use Rattle.model.proofs.Labels.WearsAfter.{in-path, as-was}
-use Rattle.model.proofs.Groups.Origins.{Stand, Fits, LowIs, labelAt, lowAt, Aligned, offset}
+use Rattle.model.proofs.Groups.Origins.{Stand, Fits, LowIs, Aligned, offset}
 use Rattle.model.proofs.Groups.Grown.{Growth, GrownTo, grownTo, goesTo, goesBy, seen-old, seen-y, seen-o, size-x, size-o, goes-room, open-gx, open-o, was-open}
 use Rattle.model.proofs.Groups.GrownEnds.{between-old}
 use Rattle.model.proofs.Groups.Relabel.{Relabelled, Renewed, renewed, Now, view, block-in, block-out, owned′, along′, least′, most′}

@@ -13,7 +13,8 @@ use Rattle.model.proofs.Walks.Turn.{At, some-edge}
 use Rattle.model.proofs.Groups.Shape.{size, pick, pick-yes, pick-no}
 use Rattle.model.proofs.Groups.Climb.{Spot}
 use Rattle.model.proofs.Walks.NewEdge.{old-edge}
-use Rattle.model.proofs.Labels.Following.{following, ithLabel, Ith, here, later, InPath}
+use Rattle.model.proofs.Walks.Places.{Ith, here, later, InPath}
+use Rattle.model.proofs.Labels.Following.{following, ithLabel}
 use Rattle.model.proofs.Groups.Origins.{Origins, Aligned, BlockAt, FitsBlock}
 use Rattle.model.proofs.Labels.WearsAfter.{LongEnough, WearsAfter, in-path, as-was, wears-after}
 use Rattle.model.proofs.Labels.Splits.{Bare}

@@ -13,7 +13,8 @@ use Rattle.model.proofs.Basics.Booleans.{true-or-false}
 use Rattle.model.proofs.Walks.Degree.{Proper}
 use Rattle.model.proofs.Walks.Turn.{At, TwoEdges, two-edges}
 use Rattle.model.proofs.Groups.Shape.{Shape, size, size-most, place-fits, between-one}
-use Rattle.model.proofs.Groups.Origins.{Stand, labelAt, gap, offset, fits-near, fits-same}
+use Rattle.model.proofs.Labels.Following.{labelAt}
+use Rattle.model.proofs.Groups.Origins.{Stand, gap, offset, fits-near, fits-same}
 use Rattle.model.proofs.Groups.Ghosts.{Ghosts}
 use Rattle.model.proofs.Groups.Laying.{base-least}
 use Rattle.model.proofs.Basics.Counting.{same-eq, same-ne}

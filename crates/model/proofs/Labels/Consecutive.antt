@@ -20,50 +20,50 @@ use Rattle.model.proofs.Walks.RingFree.{RingFree}
 use Rattle.model.proofs.Chains.Same.{lineChain, Line}
 use Rattle.model.proofs.Chains.Partition.{LineOf, own-line}
 use Rattle.model.proofs.Chains.Exact.{line-back, line-back-chain}
-use Rattle.model.proofs.Groups.Origins.{labelAt, lowAt}
+use Rattle.model.proofs.Labels.Following.{labelAt, lowAt}
 use Rattle.model.proofs.Labels.Rise.{Rise, up-to, down-to, Sided}
 
 -- a trail from a singular vertex passes nothing
-trail-still : {es : List Edge} {p f q g : ℕ} {ss : List Pass} → Trail es p f ss q g → isRegular es f ≡ false → ss ≡ []
+trail-still : {es : List Edge} {d v q w : ℕ} {ss : List Pass} → Trail es d v ss q w → isRegular es v ≡ false → ss ≡ []
 trail-still done j = refl
 trail-still (pass t c e u) j = absurd (not-both _ c j)
 
 module _ (es : List Edge) (pr : Proper es) (m : Marks) (s : Sided es m) where
   -- the labels and low edges of what is passed, where they rise on the way
-  record Ascends (p f : ℕ) (ss : List Pass) (q : ℕ) : Type 0 where
-    labels-are : map (labelAt m) (map atOf ss) ≡ countFrom (labelAt m f) (length ss)
-    lows-are : map (lowAt m) (map atOf ss) ++ (q ∷ []) ≡ p ∷ afters ss
+  record Ascends (d v : ℕ) (ss : List Pass) (q : ℕ) : Type 0 where
+    labels-are : map (labelAt m) (map atOf ss) ≡ countFrom (labelAt m v) (length ss)
+    lows-are : map (lowAt m) (map atOf ss) ++ (q ∷ []) ≡ d ∷ afters ss
 
-  -- from a regular vertex f along its edge t to the next one
-  rise : (f t : ℕ) → isRegular es f ≡ true → At es f t → isRegular es (far es t f) ≡ true → Rise m f (far es t f) t
-  rise f t c a c′ =
-      s .rises f (far es t f) t (is-two es f c) (is-two es (far es t f) c′) a ((across es t f pr a) .at) (λ e. far-ne es t f pr a (sym e))
+  -- from a regular vertex v along its edge t to the next one
+  rise : (v t : ℕ) → isRegular es v ≡ true → At es v t → isRegular es (far es t v) ≡ true → Rise m v (far es t v) t
+  rise v t c a c′ =
+      s .rises v (far es t v) t (is-two es v c) (is-two es (far es t v) c′) a ((across es t v pr a) .at) (λ e. far-ne es t v pr a (sym e))
 
   -- if the first low edge is the one before, so are the others
-  on-up : (f p t : ℕ) → lowAt m f ≡ p → t ≢ p → Rise m f (far es t f) t → (lowAt m (far es t f) ≡ t) × (labelAt m (far es t f) ≡ suc (labelAt m f))
-  on-up f p t l n (up-to a b e) = (b, e)
-  on-up f p t l n (down-to a b e) = absurd (n (sym a ∙ l))
+  on-up : (v d t : ℕ) → lowAt m v ≡ d → t ≢ d → Rise m v (far es t v) t → (lowAt m (far es t v) ≡ t) × (labelAt m (far es t v) ≡ suc (labelAt m v))
+  on-up v d t l n (up-to a b e) = (b, e)
+  on-up v d t l n (down-to a b e) = absurd (n (sym a ∙ l))
 
-  ascends : {p f q g : ℕ} {ss : List Pass} → At es f p → Trail es p f ss q g → (isRegular es f ≡ true → lowAt m f ≡ p) → Ascends p f ss q
+  ascends : {d v q w : ℕ} {ss : List Pass} → At es v d → Trail es d v ss q w → (isRegular es v ≡ true → lowAt m v ≡ d) → Ascends d v ss q
   unfolding countFrom afters atOf afterOf
   ascends a done l = record { labels-are = refl; lows-are = refl }
-  ascends {p} {f} {q} {g} a (pass {ss = ss} t c e u) l = go (isRegular es (far es t f)) refl (λ k. ascends (nx .across .at) u k)
+  ascends {d} {v} {q} {w} a (pass {ss = ss} t c e u) l = go (isRegular es (far es t v)) refl (λ k. ascends (nx .across .at) u k)
     where
-      nx : Next es p f t
-      nx = next-edge es p f t pr a c e
+      nx : Next es d v t
+      nx = next-edge es d v t pr a c e
 
-      goal : Ascends t (far es t f) ss q → map (labelAt m) (map atOf ss) ≡ countFrom (suc (labelAt m f)) (length ss)
-          → Ascends p f (record { before = p; at = f; after = t } ∷ ss) q
+      goal : Ascends t (far es t v) ss q → map (labelAt m) (map atOf ss) ≡ countFrom (suc (labelAt m v)) (length ss)
+          → Ascends d v (record { before = d; at = v; after = t } ∷ ss) q
       goal r k =
           record {
-            labels-are = ap (λ (ls : List ℕ). labelAt m f ∷ ls) k;
-            lows-are = rw (l c) (ap (λ (ls : List ℕ). p ∷ ls) (r .lows-are));
+            labels-are = ap (λ (ls : List ℕ). labelAt m v ∷ ls) k;
+            lows-are = rw (l c) (ap (λ (ls : List ℕ). d ∷ ls) (r .lows-are));
           }
 
-      go : (b : Bool) → isRegular es (far es t f) ≡ b → ((isRegular es (far es t f) ≡ true → lowAt m (far es t f) ≡ t) → Ascends t (far es t f) ss q)
-          → Ascends p f (record { before = p; at = f; after = t } ∷ ss) q
+      go : (b : Bool) → isRegular es (far es t v) ≡ b → ((isRegular es (far es t v) ≡ true → lowAt m (far es t v) ≡ t) → Ascends t (far es t v) ss q)
+          → Ascends d v (record { before = d; at = v; after = t } ∷ ss) q
       go true c′ ih =
-          let o = on-up f p t (l c) (nx .other) (rise f t c (nx .at) c′) in
+          let o = on-up v d t (l c) (nx .other) (rise v t c (nx .at) c′) in
           let r = ih (λ x. o .0) in
           goal r (r .labels-are ∙ ap (λ (n : ℕ). countFrom n (length ss)) (o .1))
       go false c′ ih =
@@ -71,25 +71,25 @@ module _ (es : List Edge) (pr : Proper es) (m : Marks) (s : Sided es m) where
           goal (ih (λ x. absurd (not-both _ x c′))) (rw z refl)
 
   -- if the first low edge is the one after, so is the last
-  data Falls (p f q g : ℕ) : Type 0 where
-    nothing-passed : q ≡ p → g ≡ f → Falls p f q g
-    to-last : lowAt m (far es q g) ≡ q → Falls p f q g
+  data Falls (d v q w : ℕ) : Type 0 where
+    nothing-passed : q ≡ d → w ≡ v → Falls d v q w
+    to-last : lowAt m (far es q w) ≡ q → Falls d v q w
 
-  on-down : (f t : ℕ) → lowAt m f ≡ t → Rise m f (far es t f) t → lowAt m (far es t f) ≢ t
-  on-down f t l (up-to a b e) = absurd (a l)
-  on-down f t l (down-to a b e) = b
+  on-down : (v t : ℕ) → lowAt m v ≡ t → Rise m v (far es t v) t → lowAt m (far es t v) ≢ t
+  on-down v t l (up-to a b e) = absurd (a l)
+  on-down v t l (down-to a b e) = b
 
-  falls : {p f q g : ℕ} {ss : List Pass} → At es f p → Trail es p f ss q g → (isRegular es f ≡ true → lowAt m f ≢ p) → Falls p f q g
+  falls : {d v q w : ℕ} {ss : List Pass} → At es v d → Trail es d v ss q w → (isRegular es v ≡ true → lowAt m v ≢ d) → Falls d v q w
   falls a done l = nothing-passed refl refl
-  falls {p} {f} {q} {g} a (pass t c e u) l = go (falls (nx .across .at) u (λ c′. on-down f t low-t (rise f t c (nx .at) c′)))
+  falls {d} {v} {q} {w} a (pass t c e u) l = go (falls (nx .across .at) u (λ c′. on-down v t low-t (rise v t c (nx .at) c′)))
     where
-      nx : Next es p f t
-      nx = next-edge es p f t pr a c e
+      nx : Next es d v t
+      nx = next-edge es d v t pr a c e
 
-      low-t : lowAt m f ≡ t
-      low-t = sym (turn-between es f p (lowAt m f) (two-edges es f pr (is-two es f c)) a (s .low-at f (is-two es f c)) (λ x. l c (sym x))) ∙ e
+      low-t : lowAt m v ≡ t
+      low-t = sym (turn-between es v d (lowAt m v) (two-edges es v pr (is-two es v c)) a (s .low-at v (is-two es v c)) (λ x. l c (sym x))) ∙ e
 
-      go : Falls t (far es t f) q g → Falls p f q g
+      go : Falls t (far es t v) q w → Falls d v q w
       go (nothing-passed x y) = to-last (rw (x, y, nx .across .again) low-t)
       go (to-last x) = to-last x
 

@@ -1,7 +1,7 @@
 -- The labels that follow a label, along a path: what each vertex wears then.
 use mathlib.Core.Path.{_≡_, refl, sym, _∙_}
-use mathlib.Core.Logic.{_≢_, _⊎_, inl, inr}
-use Prim.Native.Nat.{ℕ, zero, suc, _+_, _-_, _<_}
+use mathlib.Core.Logic.{_≢_}
+use Prim.Native.Nat.{ℕ, suc, _+_, _-_, _<_}
 use native.Mathlib.Omega.{arith}
 use native.Mathlib.Decide.{ℕ-discrete}
 use mathlib.Core.Bool.{Bool, true, false}
@@ -10,6 +10,14 @@ use lib.ListN.{length, getD, set, length-set}
 use lib.Seq.{getD-set-same, getD-set-other}
 use Rattle.model.specs.Graph.{Pass}
 use Rattle.model.specs.Labels.{Marks, base, labelPath, mark, next}
+use Rattle.model.proofs.Walks.Places.{Ith, here, later, no-nil, no-here}
+
+-- the label and the low edge of a vertex
+unfoldable pub labelAt : Marks → ℕ → ℕ
+labelAt m v = getD (m .labels) v 0
+
+unfoldable pub lowAt : Marks → ℕ → ℕ
+lowAt m v = getD (m .lows) v 0
 
 -- the labels that follow `label`
 unfoldable pub following : Bool → ℕ → List Pass → Marks → Marks
@@ -44,54 +52,13 @@ unfolding ithLabel
 ithLabel-suc true label i = omega arith
 ithLabel-suc false label i = omega arith
 
--- the i-th of a path, from 0
-pub data Ith (s : Pass) : ℕ → List Pass → Type 0 where
-  here : {ss : List Pass} → Ith s 0 (s ∷ ss)
-  later : {i : ℕ} {t : Pass} {ss : List Pass} → Ith s i ss → Ith s (suc i) (t ∷ ss)
-
-pub no-nil : (v i : ℕ) (s : Pass) → Ith s i [] → s .at ≢ v
-no-nil v zero s j = elim j [ ]
-no-nil v (suc i) s j = elim j [ ]
-
-pub ith-one : {s t : Pass} {i : ℕ} {path : List Pass} → Ith s i path → Ith t i path → s ≡ t
-ith-one here here = refl
-ith-one (later a) (later b) = ith-one a b
-
-pub ith-below : {s : Pass} {i : ℕ} {path : List Pass} → Ith s i path → i < length path
-ith-below here = omega arith
-ith-below (later a) = omega (arith, ith-below a)
-
-pub ith-split : {t s : Pass} {i : ℕ} {ss : List Pass} → Ith t i (s ∷ ss) → (t ≡ s) ⊎ ((j : ℕ) × Ith t j ss)
-ith-split here = inl refl
-ith-split {i = suc i} (later a) = inr (i, a)
-
-pub record Nth (path : List Pass) (i : ℕ) : Type 0 where
-  pub pass-is : Pass
-  pub ith : Ith pass-is i path
-
-pub nth : (path : List Pass) (i : ℕ) → i < length path → Nth path i
-nth [] i l = absurd (omega arith)
-nth (s ∷ ss) zero l = record { pass-is = s; ith = here }
-nth (s ∷ ss) (suc i) l = let r = nth ss i (omega arith) in record { pass-is = r .pass-is; ith = later (r .ith) }
-
--- vertex v is one of the path
-pub record InPath (path : List Pass) (v : ℕ) : Type 0 where
-  pub index : ℕ
-  pub pass-is : Pass
-  pub ith : Ith pass-is index path
-  pub at-is : pass-is .at ≡ v
-
 -- what vertex v wears then: label t, low edge l
 pub data Wears (up : Bool) (label : ℕ) (path : List Pass) (m : Marks) (v t l : ℕ) : Type 0 where
   given : (i : ℕ) (s : Pass) → Ith s i path → s .at ≡ v → t ≡ ithLabel up label i → l ≡ lowOf up s → Wears up label path m v t l
   kept : ((i : ℕ) (s : Pass) → Ith s i path → s .at ≢ v) → t ≡ getD (m .labels) v 0 → l ≡ getD (m .lows) v 0 → Wears up label path m v t l
 
-no-here : (s : Pass) (ss : List Pass) (v : ℕ) → s .at ≢ v → ((i : ℕ) (t : Pass) → Ith t i ss → t .at ≢ v) → (i : ℕ) (t : Pass) → Ith t i (s ∷ ss) → t .at ≢ v
-no-here s ss v a b zero t here = a
-no-here s ss v a b (suc i) t (later j) = b i t j
-
-set-at : (xs : List ℕ) (f v a : ℕ) → f ≡ v → v < length xs → getD (set xs f a) v 0 ≡ a
-set-at xs f v a e l = rw e (getD-set-same xs v a 0 l)
+set-at : (xs : List ℕ) (w v a : ℕ) → w ≡ v → v < length xs → getD (set xs w a) v 0 ≡ a
+set-at xs w v a e l = rw e (getD-set-same xs v a 0 l)
 
 wears-on : (up : Bool) (label : ℕ) (s : Pass) (ss : List Pass) (m : Marks) (v t l : ℕ) → v < length (m .labels) → v < length (m .lows) → Dec (s .at ≡ v)
     → Wears up (ithLabel up label 0) ss (mark (s .at) (ithLabel up label 0) (lowOf up s) m) v t l → Wears up label (s ∷ ss) m v t l

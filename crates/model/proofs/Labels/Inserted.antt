@@ -20,7 +20,7 @@ use Rattle.model.proofs.Walks.Snoc.{far-old, trail-old, trail-clear}
 use Rattle.model.proofs.Walks.RingFree.{RingFree}
 use Rattle.model.proofs.Walks.NewEdge.{at-new}
 use Rattle.model.proofs.Labels.Cases.{compact, edge-compact}
-use Rattle.model.proofs.Labels.Following.{here, later, InPath}
+use Rattle.model.proofs.Walks.Places.{here, later, InPath}
 use Rattle.model.proofs.Labels.Splits.{unlabel, Bare, splits, no-splits}
 use Rattle.model.proofs.Labels.Inwards.{trail-nil, trail-head, Inward, inward-on, inward}
 use Rattle.model.proofs.Labels.Laid.{Attached, attached, Laid, extendPath, mergePath, Inserted, fresh, extends, merges}
@@ -59,15 +59,15 @@ module _ (es : List Edge) (p : Edge) (pr : Proper es) (d : p .first ≢ p .secon
     a : At es x e
     a = (one-edge es x pr cx) .at
 
-    f : ℕ
-    f = far es e x
+    w : ℕ
+    w = far es e x
 
     an-end : (v : ℕ) → endsAt v p ≡ 1 → (v ≡ x) ⊎ (v ≡ y)
     an-end v o = two-ends p x y v ox oy xy o
 
-    laid : {path : List Pass} {m′ : Marks} {res : Labelling} {onto to : ℕ} → Bare es p m m′ → Attached es p f blocks e path m m′ res → Trail new e x path onto to → degree new to ≢ 2
+    laid : {path : List Pass} {m′ : Marks} {res : Labelling} {onto to : ℕ} → Bare es p m m′ → Attached es p w blocks e path m m′ res → Trail new e x path onto to → degree new to ≢ 2
         → ((v : ℕ) → endsAt v p ≡ 1 → degree new v ≡ 2 → InPath path v) → Laid es p blocks m res x y e path
-    unfolding f
+    unfolding w
     laid {m′ = m′} {onto = onto} {to = to} br g tr stops has = record {
       x-end = ox;
       y-end = oy;
@@ -96,26 +96,26 @@ module _ (es : List Edge) (p : Edge) (pr : Proper es) (d : p .first ≢ p .secon
 
     -- ---- extending
     module _ (m′ : Marks) (ny : degree es y ≢ 1) (br : Bare es p m m′) where
-      attached-extend : Attached es p f blocks e (extendPath es x e) m m′ (attach blocks e (onwards new e (far new e x)) (extendPath es x e) m′)
-      unfolding f
-      attached-extend = attached es p f blocks e _ _ m m′ br (λ q c. not-two new (i .to) (i .singular) (rw (← trail-nil (i .trail) q, f-is) c)) head
+      attached-extend : Attached es p w blocks e (extendPath es x e) m m′ (attach blocks e (onwards new e (far new e x)) (extendPath es x e) m′)
+      unfolding w
+      attached-extend = attached es p w blocks e _ _ m m′ br (λ q c. not-two new (i .to) (i .singular) (rw (← trail-nil (i .trail) q, w-is) c)) head
         where
           i : Inward new x e (onwards new e (far new e x))
           i = inward-on new proper-new rf′ x e (at-new es p a)
 
-          f-is : far new e x ≡ f
-          f-is = far-old es p e x (a .inside)
+          w-is : far new e x ≡ w
+          w-is = far-old es p e x (a .inside)
 
-          not-f : degree es f ≡ 1 → (f ≡ x) ⊎ (f ≡ y) → ⊥
-          not-f c (inl q) = far-ne es e x pr a q
-          not-f c (inr q) = ny (rw q at c)
+          not-w : degree es w ≡ 1 → (w ≡ x) ⊎ (w ≡ y) → ⊥
+          not-w c (inl q) = far-ne es e x pr a q
+          not-w c (inr q) = ny (rw q at c)
 
-          head : (u : Pass) (us : List Pass) → onwards new e (far new e x) ≡ u ∷ us → (u .at ≡ f) × (degree es f ≡ 2) × (endsAt f p ≡ 0)
+          head : (u : Pass) (us : List Pass) → onwards new e (far new e x) ≡ u ∷ us → (u .at ≡ w) × (degree es w ≡ 2) × (endsAt w p ≡ 0)
           head u us q =
               let h = trail-head u us (i .trail) q in
-              let c : degree new f ≡ 2 = rw f-is at (is-two new (far new e x) (h .head-regular)) in
-              let o : endsAt f p ≡ 0 = no-end p f d (λ k. not-f (omega (arith, degree-snoc es p f)) (an-end f k)) in
-              (h .head-at ∙ f-is, omega (arith, degree-snoc es p f), o)
+              let c : degree new w ≡ 2 = rw w-is at (is-two new (far new e x) (h .head-regular)) in
+              let o : endsAt w p ≡ 0 = no-end p w d (λ k. not-w (omega (arith, degree-snoc es p w)) (an-end w k)) in
+              (h .head-at ∙ w-is, omega (arith, degree-snoc es p w), o)
 
       laid-extend : Inserted es p blocks m (extend es new blocks x m′)
       unfolding extend
@@ -145,18 +145,18 @@ module _ (es : List Edge) (p : Edge) (pr : Proper es) (d : p .first ≢ p .secon
       missed : (v : ℕ) → degree es v ≡ 2 → endsAt v p ≡ 0
       missed v q = regular-no-end es p x y v d ox oy xy cx cy q
 
-      attached-merge : Attached es p f blocks e (mergePath es x y e c) m m (attach blocks e (inwards es x) (mergePath es x y e c) m)
-      unfolding f
-      attached-merge = attached es p f blocks e _ _ m m bare (λ q k. stop-new x y e (inwards es x) ox oy xy cx cy a i (rw (← trail-nil (i .trail) q) k)) head
+      attached-merge : Attached es p w blocks e (mergePath es x y e c) m m (attach blocks e (inwards es x) (mergePath es x y e c) m)
+      unfolding w
+      attached-merge = attached es p w blocks e _ _ m m bare (λ q k. stop-new x y e (inwards es x) ox oy xy cx cy a i (rw (← trail-nil (i .trail) q) k)) head
         where
           i : Inward es x e (inwards es x)
           i = inward es pr rf x e cx a
 
-          head : (u : Pass) (us : List Pass) → inwards es x ≡ u ∷ us → (u .at ≡ f) × (degree es f ≡ 2) × (endsAt f p ≡ 0)
+          head : (u : Pass) (us : List Pass) → inwards es x ≡ u ∷ us → (u .at ≡ w) × (degree es w ≡ 2) × (endsAt w p ≡ 0)
           head u us q =
               let h = trail-head u us (i .trail) q in
-              let k : degree es f ≡ 2 = is-two es f (h .head-regular) in
-              (h .head-at, k, missed f k)
+              let k : degree es w ≡ 2 = is-two es w (h .head-regular) in
+              (h .head-at, k, missed w k)
 
       laid-merge : length (inwards es y) ≤ length (inwards es x) → Inserted es p blocks m (attach blocks (onlyEdge es x) (inwards es x) (joinPath es x y) m)
       unfolding joinPath

@@ -13,25 +13,25 @@ use Rattle.model.proofs.Walks.Turn.{At, onlyEdge-is}
 use Rattle.model.proofs.Walks.Joins.{across}
 use Rattle.model.proofs.Walks.Trail.{Trail, done, pass}
 use Rattle.model.proofs.Walks.RingFree.{RingFree}
-use Rattle.model.proofs.Labels.Following.{Ith, here, later}
+use Rattle.model.proofs.Walks.Places.{Ith, here, later}
 use Rattle.model.proofs.Walks.Whole.{Onwards, onwards-ends}
 
-pub trail-nil : {es : List Edge} {p f q g : ℕ} {ss : List Pass} → Trail es p f ss q g → ss ≡ [] → f ≡ g
+pub trail-nil : {es : List Edge} {d v q w : ℕ} {ss : List Pass} → Trail es d v ss q w → ss ≡ [] → v ≡ w
 trail-nil done e = refl
 trail-nil (pass {ss = ss} t c tn u) e = absurd (let z : suc (length ss) ≡ 0 = ap length e in omega arith)
 
-pub record Head (es : List Edge) (f : ℕ) (u : Pass) : Type 0 where
-  pub head-at : u .at ≡ f
-  pub head-regular : isRegular es f ≡ true
+pub record Head (es : List Edge) (v : ℕ) (u : Pass) : Type 0 where
+  pub head-at : u .at ≡ v
+  pub head-regular : isRegular es v ≡ true
 
 cons-head : (a b : Pass) (xs ys : List Pass) → a ∷ xs ≡ b ∷ ys → a ≡ b
 cons-head a b xs ys e = cc
 
-pub trail-head : {es : List Edge} {p f q g : ℕ} {ss : List Pass} (u : Pass) (us : List Pass) → Trail es p f ss q g → ss ≡ u ∷ us → Head es f u
+pub trail-head : {es : List Edge} {d v q w : ℕ} {ss : List Pass} (u : Pass) (us : List Pass) → Trail es d v ss q w → ss ≡ u ∷ us → Head es v u
 trail-head u us done e = absurd (let z : 0 ≡ suc (length us) = ap length e in omega arith)
-trail-head {f = f} u us (pass t c tn v) e = record { head-at = ap (λ (s : Pass). s .at) (sym (cons-head _ u _ us e)); head-regular = c }
+trail-head {v = v} u us (pass t c tn r) e = record { head-at = ap (λ (s : Pass). s .at) (sym (cons-head _ u _ us e)); head-regular = c }
 
-pub trail-regular : {es : List Edge} {p f q g : ℕ} {ss : List Pass} → Trail es p f ss q g → (i : ℕ) (s : Pass) → Ith s i ss → degree es (s .at) ≡ 2
+pub trail-regular : {es : List Edge} {d v q w : ℕ} {ss : List Pass} → Trail es d v ss q w → (i : ℕ) (s : Pass) → Ith s i ss → degree es (s .at) ≡ 2
 unfolding isRegular
 trail-regular done zero s j = elim j [ ]
 trail-regular done (suc i) s j = elim j [ ]

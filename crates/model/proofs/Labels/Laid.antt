@@ -13,7 +13,8 @@ use Rattle.model.specs.Labels.{Labelling, Marks, attach, base, inwards}
 use Rattle.model.proofs.Walks.Degree.{degree-snoc, end-cases}
 use Rattle.model.proofs.Walks.Turn.{At}
 use Rattle.model.proofs.Walks.Trail.{Trail}
-use Rattle.model.proofs.Labels.Following.{following, from-base, InPath}
+use Rattle.model.proofs.Walks.Places.{InPath}
+use Rattle.model.proofs.Labels.Following.{following, from-base}
 use Rattle.model.proofs.Labels.Splits.{Bare}
 
 -- A path goes on beside a vertex with this low edge, from its edge e: downwards if that is the low edge, else upwards.
@@ -21,31 +22,31 @@ abbrev pub Direction : Bool → ℕ → ℕ → Type 0
 Direction true low e = low ≢ e
 Direction false low e = low ≡ e
 
--- From which label on a path is labelled, and in which direction, by the neighbour f of its first vertex: a new block, or on from f.
-pub data Near (es : List Edge) (p : Edge) (f blocks e : ℕ) (m : Marks) (up : Bool) (label blocks′ : ℕ) : Type 0 where
-  none-near : degree (es ++ (p ∷ [])) f ≢ 2 → up ≡ true → label ≡ base (blocks + 1) - 1 → blocks′ ≡ blocks + 1 → Near es p f blocks e m up label blocks′
-  near : degree es f ≡ 2 → endsAt f p ≡ 0 → label ≡ getD (m .labels) f 0 → blocks′ ≡ blocks → Direction up (getD (m .lows) f 0) e → Near es p f blocks e m up label blocks′
+-- From which label on a path is labelled, and in which direction, by the neighbour v of its first vertex: a new block, or on from v.
+pub data Near (es : List Edge) (p : Edge) (v blocks e : ℕ) (m : Marks) (up : Bool) (label blocks′ : ℕ) : Type 0 where
+  none-near : degree (es ++ (p ∷ [])) v ≢ 2 → up ≡ true → label ≡ base (blocks + 1) - 1 → blocks′ ≡ blocks + 1 → Near es p v blocks e m up label blocks′
+  near : degree es v ≡ 2 → endsAt v p ≡ 0 → label ≡ getD (m .labels) v 0 → blocks′ ≡ blocks → Direction up (getD (m .lows) v 0) e → Near es p v blocks e m up label blocks′
 
 -- what `attach` makes of the marks m′ after the splits
-pub record Attached (es : List Edge) (p : Edge) (f blocks e : ℕ) (path : List Pass) (m m′ : Marks) (res : Labelling) : Type 0 where
+pub record Attached (es : List Edge) (p : Edge) (v blocks e : ℕ) (path : List Pass) (m m′ : Marks) (res : Labelling) : Type 0 where
   pub up : Bool
   pub label : ℕ
   pub marks-is : res .marks ≡ following up label path m′
-  pub by : Near es p f blocks e m up label (res .blocks)
+  pub by : Near es p v blocks e m up label (res .blocks)
 
-pub attached : (es : List Edge) (p : Edge) (f blocks e : ℕ) (kept path : List Pass) (m m′ : Marks) → Bare es p m m′ → (kept ≡ [] → degree (es ++ (p ∷ [])) f ≢ 2)
-    → ((u : Pass) (us : List Pass) → kept ≡ u ∷ us → (u .at ≡ f) × (degree es f ≡ 2) × (endsAt f p ≡ 0)) → Attached es p f blocks e path m m′ (attach blocks e kept path m′)
+pub attached : (es : List Edge) (p : Edge) (v blocks e : ℕ) (kept path : List Pass) (m m′ : Marks) → Bare es p m m′ → (kept ≡ [] → degree (es ++ (p ∷ [])) v ≢ 2)
+    → ((u : Pass) (us : List Pass) → kept ≡ u ∷ us → (u .at ≡ v) × (degree es v ≡ 2) × (endsAt v p ≡ 0)) → Attached es p v blocks e path m m′ (attach blocks e kept path m′)
 unfolding attach following
-attached es p f blocks e [] path m m′ br stop head =
+attached es p v blocks e [] path m m′ br stop head =
     record { up = true; label = base (blocks + 1) - 1; marks-is = from-base blocks path m′; by = none-near (stop refl) refl refl refl }
-attached es p f blocks e (u ∷ us) path m m′ br stop head = go (ℕ-discrete (getD (m′ .lows) (u .at) 0) e)
+attached es p v blocks e (u ∷ us) path m m′ br stop head = go (ℕ-discrete (getD (m′ .lows) (u .at) 0) e)
   where
-    on : (up : Bool) → Direction up (getD (m′ .lows) (u .at) 0) e → Near es p f blocks e m up (getD (m′ .labels) (u .at) 0) blocks
+    on : (up : Bool) → Direction up (getD (m′ .lows) (u .at) 0) e → Near es p v blocks e m up (getD (m′ .labels) (u .at) 0) blocks
     on up dir =
         let h = head u us refl in
-        near (h .1) (h .2) (rw (h .0) (br .label-kept f (inr (h .2)))) refl (rw (h .0, br .low-kept f (inr (h .2))) at dir)
+        near (h .1) (h .2) (rw (h .0) (br .label-kept v (inr (h .2)))) refl (rw (h .0, br .low-kept v (inr (h .2))) at dir)
 
-    go : Dec (getD (m′ .lows) (u .at) 0 ≡ e) → Attached es p f blocks e path m m′ (attach blocks e (u ∷ us) path m′)
+    go : Dec (getD (m′ .lows) (u .at) 0 ≡ e) → Attached es p v blocks e path m m′ (attach blocks e (u ∷ us) path m′)
     go (yes q) = record { up = false; label = getD (m′ .labels) (u .at) 0; marks-is = rw (eq-eqb (getD (m′ .lows) (u .at) 0) e q); by = on false q }
     go (no q) = record { up = true; label = getD (m′ .labels) (u .at) 0; marks-is = rw (ne-eqb (getD (m′ .lows) (u .at) 0) e q); by = on true q }
 

@@ -11,10 +11,10 @@ use Rattle.model.proofs.Walks.Degree.{Proper, degree-snoc, proper-snoc,
 use Rattle.model.proofs.Walks.Turn.{At, some-edge}
 use Rattle.model.proofs.Walks.Snoc.{far-old}
 use Rattle.model.proofs.Walks.NewEdge.{at-new, old-edge}
-use Rattle.model.proofs.Labels.Following.{following, ithLabel, lowOf, Ith, ith-one}
+use Rattle.model.proofs.Walks.Places.{Ith, ith-one}
+use Rattle.model.proofs.Labels.Following.{following, ithLabel, lowOf, labelAt, lowAt}
 use Rattle.model.proofs.Labels.Laid.{Direction, Laid, Near, none-near, near}
 use Rattle.model.proofs.Labels.WearsAfter.{LongEnough, WearsAfter, in-path, as-was, wears-after}
-use Rattle.model.proofs.Groups.Origins.{labelAt, lowAt}
 use Rattle.model.proofs.Labels.Splits.{Bare}
 use Rattle.model.proofs.Labels.Inwards.{trail-regular}
 use Rattle.model.proofs.Walks.Once.{Pair, pair, at-once, Nearby, itself, ahead, behind, at-start, at-end, nearby}
@@ -137,8 +137,8 @@ module _ (es : List Edge) (p : Edge) (pr : Proper es) (d : p .first ≢ p .secon
       let b = exact (suc i) t w k tw in
       next-in-path marksAfter (la .up) (la .label) i v w e s t (a .label-is) (a .low-is) (b .label-is) (b .low-is) (pos′ w c) ((pair-of i s j) .differ) ((pair-of (suc i) t k) .differ) se te
 
-  f-is : far new e₀ x ≡ far es e₀ x
-  f-is = far-old es p e₀ x (la .e-at .inside)
+  far-is : far new e₀ x ≡ far es e₀ x
+  far-is = far-old es p e₀ x (la .e-at .inside)
 
   from-path : (i v w e : ℕ) (s : Pass) → Ith s i path → s .at ≡ v → degree new v ≡ 2 → degree new w ≡ 2 → At new v e → At new w e → v ≢ w → Rise marksAfter v w e
   unfolding labelAt lowAt
@@ -182,7 +182,7 @@ module _ (es : List Edge) (p : Edge) (pr : Proper es) (d : p .first ≢ p .secon
       go (ahead t l q r r′) = adjacent i v w e s t j l sv q cw r′ r
       go (behind k t h l q r r′) =
           rise-back marksAfter w v e (adjacent k w v e t s l (subst (λ (z : ℕ). Ith s z path) h j) q sv cv r r′)
-      go (at-start h q r r′) = start h (q ∙ f-is) r r′ (view w e cw aw)
+      go (at-start h q r r′) = start h (q ∙ far-is) r r′ (view w e cw aw)
       go (at-end q) = absurd (la .stops (rw q at cw))
 
   rises′ : (v w e : ℕ) → degree new v ≡ 2 → degree new w ≡ 2 → At new v e → At new w e → v ≢ w → Rise marksAfter v w e

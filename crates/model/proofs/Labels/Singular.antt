@@ -17,27 +17,27 @@ use Rattle.model.proofs.Labels.Inwards.{trail-regular}
 
 -- a singular vertex wears label 0
 abbrev pub BareSingular : List Edge → Marks → Type 0
-BareSingular es m = (f : ℕ) → degree es f ≢ 2 → getD (m .labels) f 0 ≡ 0
+BareSingular es m = (v : ℕ) → degree es v ≢ 2 → getD (m .labels) v 0 ≡ 0
 
 module _ (es : List Edge) (p : Edge) (d : p .first ≢ p .second) {m : Marks} (z : BareSingular es m) where
   -- after the splits
-  pub bare-split : {m′ : Marks} → Bare es p m m′ → (f : ℕ) → degree (es ++ (p ∷ [])) f ≢ 2 → getD (m′ .labels) f 0 ≡ 0
-  bare-split {m′} b f n = go (ℕ-discrete (degree es f) 2) (zero-or-one (endsAt f p) (endsAt-le f p d))
+  pub bare-split : {m′ : Marks} → Bare es p m m′ → (v : ℕ) → degree (es ++ (p ∷ [])) v ≢ 2 → getD (m′ .labels) v 0 ≡ 0
+  bare-split {m′} b v n = go (ℕ-discrete (degree es v) 2) (zero-or-one (endsAt v p) (endsAt-le v p d))
     where
-      go : Dec (degree es f ≡ 2) → (endsAt f p ≡ 0) ⊎ (endsAt f p ≡ 1) → getD (m′ .labels) f 0 ≡ 0
-      go (yes c) (inl o) = absurd (n (omega (arith, degree-snoc es p f)))
-      go (yes c) (inr o) = b .label-off f o c
-      go (no c) o = b .label-kept f (inl c) ∙ z f c
+      go : Dec (degree es v ≡ 2) → (endsAt v p ≡ 0) ⊎ (endsAt v p ≡ 1) → getD (m′ .labels) v 0 ≡ 0
+      go (yes c) (inl o) = absurd (n (omega (arith, degree-snoc es p v)))
+      go (yes c) (inr o) = b .label-off v o c
+      go (no c) o = b .label-kept v (inl c) ∙ z v c
 
   pub bare-laid : {blocks x y e : ℕ} {res : Labelling} {path : List Pass} → length (m .labels) ≡ length (m .lows) → Laid es p blocks m res x y e path → BareSingular (es ++ (p ∷ [])) (res .marks)
-  bare-laid {path = path} ll l f n = rw (l .marks-is) (go (decLt f (length (l .m′ .labels))))
+  bare-laid {path = path} ll l v n = rw (l .marks-is) (go (decLt v (length (l .m′ .labels))))
     where
-      worn : (t w : ℕ) → Wears (l .up) (l .label) path (l .m′) f t w → t ≡ 0
+      worn : (t w : ℕ) → Wears (l .up) (l .label) path (l .m′) v t w → t ≡ 0
       worn t w (given i s j q r u) = absurd (n (rw q at (trail-regular (l .trail) i s j)))
-      worn t w (kept k r u) = r ∙ bare-split (l .bare) f n
+      worn t w (kept k r u) = r ∙ bare-split (l .bare) v n
 
-      go : Dec (f < length (l .m′ .labels)) → getD ((following (l .up) (l .label) path (l .m′)) .labels) f 0 ≡ 0
-      go (yes h) = worn _ _ (wears (l .up) (l .label) path (l .m′) f h (omega (arith, h, l .bare .labels-long, l .bare .lows-long)))
+      go : Dec (v < length (l .m′ .labels)) → getD ((following (l .up) (l .label) path (l .m′)) .labels) v 0 ≡ 0
+      go (yes h) = worn _ _ (wears (l .up) (l .label) path (l .m′) v h (omega (arith, h, l .bare .labels-long, l .bare .lows-long)))
       go (no h) = List·getD-eq-default ((following (l .up) (l .label) path (l .m′)) .labels) 0 (omega (arith, h, (following-long (l .up) (l .label) path (l .m′)) .labels-long))
 
   -- how many vertices are relabelled

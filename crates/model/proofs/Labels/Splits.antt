@@ -29,48 +29,48 @@ pub record Bare (es : List Edge) (p : Edge) (m m′ : Marks) : Type 0 where
   pub no-move : relabelCount (m .labels) (m′ .labels) ≤ 0
 
 -- one split
-record Off (es : List Edge) (f : ℕ) (m m′ : Marks) : Type 0 where
-  off : (v : ℕ) → f ≡ v → degree es v ≡ 2 → getD (m′ .labels) v 0 ≡ 0
+record Off (es : List Edge) (w : ℕ) (m m′ : Marks) : Type 0 where
+  off : (v : ℕ) → w ≡ v → degree es v ≡ 2 → getD (m′ .labels) v 0 ≡ 0
   off-kept : (v : ℕ) → getD (m .labels) v 0 ≡ 0 → getD (m′ .labels) v 0 ≡ 0
-  kept-label : (v : ℕ) → degree es v ≢ 2 ⊎ (f ≢ v) → getD (m′ .labels) v 0 ≡ getD (m .labels) v 0
-  kept-low : (v : ℕ) → degree es v ≢ 2 ⊎ (f ≢ v) → getD (m′ .lows) v 0 ≡ getD (m .lows) v 0
+  kept-label : (v : ℕ) → degree es v ≢ 2 ⊎ (w ≢ v) → getD (m′ .labels) v 0 ≡ getD (m .labels) v 0
+  kept-low : (v : ℕ) → degree es v ≢ 2 ⊎ (w ≢ v) → getD (m′ .lows) v 0 ≡ getD (m .lows) v 0
   long-labels : length (m′ .labels) ≡ length (m .labels)
   long-lows : length (m′ .lows) ≡ length (m .lows)
   move : (ts : List ℕ) → relabelCount ts (m′ .labels) ≤ relabelCount ts (m .labels)
 
-set-off : (xs : List ℕ) (f : ℕ) → getD (set xs f 0) f 0 ≡ 0
-set-off xs f = go (decLt f (length xs))
+set-off : (xs : List ℕ) (v : ℕ) → getD (set xs v 0) v 0 ≡ 0
+set-off xs v = go (decLt v (length xs))
   where
-    go : Dec (f < length xs) → getD (set xs f 0) f 0 ≡ 0
-    go (yes l) = getD-set-same xs f 0 0 l
-    go (no l) = List·getD-eq-default (set xs f 0) 0 (omega (arith, length-set xs f 0))
+    go : Dec (v < length xs) → getD (set xs v 0) v 0 ≡ 0
+    go (yes l) = getD-set-same xs v 0 0 l
+    go (no l) = List·getD-eq-default (set xs v 0) 0 (omega (arith, length-set xs v 0))
 
-set-zero : (xs : List ℕ) (f v : ℕ) → getD xs v 0 ≡ 0 → getD (set xs f 0) v 0 ≡ 0
-set-zero xs f v z = go (ℕ-discrete v f)
+set-zero : (xs : List ℕ) (w v : ℕ) → getD xs v 0 ≡ 0 → getD (set xs w 0) v 0 ≡ 0
+set-zero xs w v z = go (ℕ-discrete v w)
   where
-    go : Dec (v ≡ f) → getD (set xs f 0) v 0 ≡ 0
-    go (no e) = getD-set-other xs f v 0 0 e ∙ z
-    go (yes e) = rw e (set-off xs f)
+    go : Dec (v ≡ w) → getD (set xs w 0) v 0 ≡ 0
+    go (no e) = getD-set-other xs w v 0 0 e ∙ z
+    go (yes e) = rw e (set-off xs w)
 
-not-here : (es : List Edge) (f v : ℕ) → degree es f ≡ 2 → degree es v ≢ 2 ⊎ (f ≢ v) → v ≢ f
-not-here es f v c (inl n) e = n (rw e c)
-not-here es f v c (inr n) e = n (sym e)
+not-here : (es : List Edge) (w v : ℕ) → degree es w ≡ 2 → degree es v ≢ 2 ⊎ (w ≢ v) → v ≢ w
+not-here es w v c (inl n) e = n (rw e c)
+not-here es w v c (inr n) e = n (sym e)
 
-one-off : (es : List Edge) (f : ℕ) (m : Marks) → Off es f m (unlabel es f m)
+one-off : (es : List Edge) (w : ℕ) (m : Marks) → Off es w m (unlabel es w m)
 unfolding unlabel split isRegular mark
-one-off es f m = go (ℕ-discrete (degree es f) 2)
+one-off es w m = go (ℕ-discrete (degree es w) 2)
   where
-    go : Dec (degree es f ≡ 2) → Off es f m (if eqb (degree es f) 2 then mark f 0 0 m else m)
-    go (yes c) = rw (eq-eqb (degree es f) 2 c) (record {
+    go : Dec (degree es w ≡ 2) → Off es w m (if eqb (degree es w) 2 then mark w 0 0 m else m)
+    go (yes c) = rw (eq-eqb (degree es w) 2 c) (record {
       off = λ v e q. rw e (set-off (m .labels) v);
-      off-kept = λ v z. set-zero (m .labels) f v z;
-      kept-label = λ v o. getD-set-other (m .labels) f v 0 0 (not-here es f v c o);
-      kept-low = λ v o. getD-set-other (m .lows) f v 0 0 (not-here es f v c o);
-      long-labels = length-set (m .labels) f 0;
-      long-lows = length-set (m .lows) f 0;
-      move = λ ts. let k = relabelCount-set ts (m .labels) f 0 0 (omega (arith, moved-new (getD ts f 0))) in omega (arith, k);
+      off-kept = λ v z. set-zero (m .labels) w v z;
+      kept-label = λ v o. getD-set-other (m .labels) w v 0 0 (not-here es w v c o);
+      kept-low = λ v o. getD-set-other (m .lows) w v 0 0 (not-here es w v c o);
+      long-labels = length-set (m .labels) w 0;
+      long-lows = length-set (m .lows) w 0;
+      move = λ ts. let k = relabelCount-set ts (m .labels) w 0 0 (omega (arith, moved-new (getD ts w 0))) in omega (arith, k);
     })
-    go (no c) = rw (ne-eqb (degree es f) 2 c) (record {
+    go (no c) = rw (ne-eqb (degree es w) 2 c) (record {
       off = λ v e q. absurd (c (rw e q));
       off-kept = λ v z. z;
       kept-label = λ v o. refl;
@@ -99,9 +99,9 @@ splits es p m d = record {
     t : Off es (p .second) m₁ (unlabel es (p .second) m₁)
     t = one-off es (p .second) m₁
 
-    other : (f v : ℕ) → endsAt f p ≡ 1 → degree es v ≢ 2 ⊎ (endsAt v p ≡ 0) → degree es v ≢ 2 ⊎ (f ≢ v)
-    other f v a (inl n) = inl n
-    other f v a (inr z) = inr (λ e. let a′ : endsAt v p ≡ 1 = rw e at a in omega arith)
+    other : (w v : ℕ) → endsAt w p ≡ 1 → degree es v ≢ 2 ⊎ (endsAt v p ≡ 0) → degree es v ≢ 2 ⊎ (w ≢ v)
+    other w v a (inl n) = inl n
+    other w v a (inr z) = inr (λ e. let a′ : endsAt v p ≡ 1 = rw e at a in omega arith)
 
     off : (v : ℕ) → degree es v ≡ 2 → (p .first ≡ v) ⊎ (p .second ≡ v) → getD ((unlabel es (p .second) m₁) .labels) v 0 ≡ 0
     off v c (inl e) = t .off-kept v (s .off v e c)

@@ -10,9 +10,9 @@ use Rattle.model.specs.Graph.{Edge, Pass, degree, endsAt}
 use Rattle.model.specs.Labels.{Marks}
 use Rattle.model.proofs.Walks.Degree.{degree-snoc, no-end}
 use Rattle.model.proofs.Walks.Turn.{At}
-use Rattle.model.proofs.Labels.Following.{following, ithLabel, lowOf, Ith, InPath, Wears, given, kept, wears}
+use Rattle.model.proofs.Walks.Places.{Ith, InPath}
+use Rattle.model.proofs.Labels.Following.{following, ithLabel, lowOf, Wears, given, kept, wears, labelAt, lowAt}
 use Rattle.model.proofs.Labels.Splits.{Bare}
-use Rattle.model.proofs.Groups.Origins.{labelAt, lowAt}
 
 -- the marks have a place for each vertex at an edge
 pub record LongEnough (es : List Edge) (m : Marks) : Type 0 where

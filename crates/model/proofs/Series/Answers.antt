@@ -21,7 +21,7 @@ use Rattle.model.proofs.Walks.Degree.{Proper, is-two}
 use Rattle.model.proofs.Walks.RingFree.{RingFree}
 use Rattle.model.proofs.Chains.Own.{own-chain, only-chain}
 use Rattle.model.proofs.Chains.Reaches.{reaches-sum}
-use Rattle.model.proofs.Groups.Origins.{lowAt}
+use Rattle.model.proofs.Labels.Following.{lowAt}
 use Rattle.model.proofs.Series.Labelled.{Labelled, labels-unique, regular-landed}
 use Rattle.model.proofs.Series.Kept.{Kept}
 

@@ -20,11 +20,10 @@ use Rattle.model.proofs.Walks.RingFree.{RingFree, ring-free}
 use Rattle.model.proofs.Walks.Ring.{no-ring}
 use Rattle.model.proofs.Walks.Sound.{Sound, empty-sound}
 use Rattle.model.proofs.Walks.NewEdge.{length-new, at-old, last-at, Which, is-new, is-old, which}
-use Rattle.model.proofs.Labels.Following.{Long, following-long}
+use Rattle.model.proofs.Labels.Following.{Long, following-long, labelAt}
 use Rattle.model.proofs.Labels.Laid.{Laid, Inserted, fresh, extends, merges}
 use Rattle.model.proofs.Labels.WearsAfter.{LongEnough}
 use Rattle.model.proofs.Labels.Inserted.{inserted}
-use Rattle.model.proofs.Groups.Origins.{labelAt}
 use Rattle.model.proofs.Labels.Singular.{BareSingular, bare-split, bare-laid}
 use Rattle.model.proofs.Groups.Bound.{bound}
 use Rattle.model.proofs.Groups.Ghosts.{Ghosts, no-ghosts}
@@ -46,7 +45,7 @@ pub record Labelled (r : Register) : Type 0 where
 
 module _ (es : List Edge) (p : Edge) (d : p .first ≢ p .second) (blocks : ℕ) (m : Marks) (z : BareSingular es m) (res : Labelling) (even : length (m .labels) ≡ length (m .lows)) where
   bare-after : Inserted es p blocks m res → BareSingular (es ++ (p ∷ [])) (res .marks)
-  bare-after (fresh ca cb e b) = λ f n. bare-split es p d z b f n
+  bare-after (fresh ca cb e b) = λ v n. bare-split es p d z b v n
   bare-after (extends x y e ny l) = bare-laid es p d z even l
   bare-after (merges x y e c cy b le l) = bare-laid es p d z even l
 
@@ -127,16 +126,16 @@ labelled-vertex r c h = record {
   ghosts = c .ghosts;
 }
 
-zeros : (n f : ℕ) → _≡_ {A = ℕ} (getD (replicate n 0) f 0) 0
-zeros zero f = refl
+zeros : (n v : ℕ) → _≡_ {A = ℕ} (getD (replicate n 0) v 0) 0
+zeros zero v = refl
 zeros (suc n) zero = refl
-zeros (suc n) (suc f) = zeros n f
+zeros (suc n) (suc v) = zeros n v
 
 pub labelled-empty : Labelled empty
 unfolding empty marksOf
 labelled-empty = record {
   sound = empty-sound;
-  bare = λ f n. zeros maxVertices f;
+  bare = λ v n. zeros maxVertices v;
   labels-long = length-replicate {A = ℕ} maxVertices 0;
   lows-long = length-replicate {A = ℕ} maxVertices 0;
   few = omega arith;

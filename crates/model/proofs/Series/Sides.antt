@@ -12,7 +12,7 @@ use Rattle.model.proofs.Walks.Degree.{Proper}
 use Rattle.model.proofs.Labels.Laid.{Inserted, fresh, extends, merges, fresh-none}
 use Rattle.model.proofs.Labels.WearsAfter.{LongEnough}
 use Rattle.model.proofs.Labels.Rise.{Sided, sided-fresh, sided-laid}
-use Rattle.model.proofs.Groups.Origins.{labelAt}
+use Rattle.model.proofs.Labels.Following.{labelAt}
 use Rattle.model.proofs.Series.Accepted.{Accepted}
 use Rattle.model.proofs.Series.Labelled.{Labelled, labelled-edge, label-not-zero, edge-inserted, long-marks}
 

@@ -11,7 +11,7 @@ use Rattle.model.proofs.Walks.Turn.{At, TwoEdges, two-edges, turn-betwe
 use Rattle.model.proofs.Walks.Trail.{Trail, done, pass, Next, next-edge, afters, Front, front, first, nothing}
 use Rattle.model.proofs.Walks.Joins.{other-end}
 use Rattle.model.proofs.Walks.Ended.{fresh}
-use Rattle.model.proofs.Labels.Following.{Ith, here, later}
+use Rattle.model.proofs.Walks.Places.{Ith, here, later}
 
 -- ---- a walk that ends passes no regular vertex twice
 
@@ -24,96 +24,96 @@ pub record Pair (es : List Edge) (t : ℕ) (ss : List Pass) (s : Pass) : Type 0 
   pub differ : s .before ≢ s .after
 
 module _ (es : List Edge) (pr : Proper es) where
-  pub pair : {e f q z : ℕ} {ss : List Pass} → At es f e → Trail es e f ss q z → (i : ℕ) (s : Pass) → Ith s i ss → Pair es e ss s
+  pub pair : {e v q z : ℕ} {ss : List Pass} → At es v e → Trail es e v ss q z → (i : ℕ) (s : Pass) → Ith s i ss → Pair es e ss s
   unfolding afters afterOf
   pair a done zero s j = elim j [ ]
   pair a done (suc i) s j = elim j [ ]
-  pair {e} {f} a (pass t c tn u) zero s here =
-      let nx : Next es e f t = next-edge es e f t pr a c tn in
+  pair {e} {v} a (pass t c tn u) zero s here =
+      let nx : Next es e v t = next-edge es e v t pr a c tn in
       record { before-in = at-head refl; after-in = in-tail (at-head refl); before-at = a; after-at = nx .at; differ = λ q. nx .other (sym q) }
-  pair {e} {f} a (pass t c tn u) (suc i) s (later j) =
-      let nx : Next es e f t = next-edge es e f t pr a c tn in
+  pair {e} {v} a (pass t c tn u) (suc i) s (later j) =
+      let nx : Next es e v t = next-edge es e v t pr a c tn in
       let r = pair (nx .across .at) u i s j in
       record { before-in = in-tail (r .before-in); after-in = in-tail (r .after-in); before-at = r .before-at; after-at = r .after-at; differ = r .differ }
 
-  first-once : {e f q z t : ℕ} {ss : List Pass} → At es f e → isRegular es f ≡ true → turn es e f ≡ t → Trail es t (far es t f) ss q z → isRegular es z ≡ false
-      → (i : ℕ) (s : Pass) → Ith s i ss → s .at ≡ f → ⊥
-  first-once {e} {f} {q} {z} {t} {ss} a c tn u jn i s j at-f = go (ℕ-discrete (s .before) e) (ℕ-discrete (s .after) e)
+  first-once : {e v q z t : ℕ} {ss : List Pass} → At es v e → isRegular es v ≡ true → turn es e v ≡ t → Trail es t (far es t v) ss q z → isRegular es z ≡ false
+      → (i : ℕ) (s : Pass) → Ith s i ss → s .at ≡ v → ⊥
+  first-once {e} {v} {q} {z} {t} {ss} a c tn u jn i s j at-v = go (ℕ-discrete (s .before) e) (ℕ-discrete (s .after) e)
     where
-      nx : Next es e f t
-      nx = next-edge es e f t pr a c tn
+      nx : Next es e v t
+      nx = next-edge es e v t pr a c tn
 
       r : Pair es t ss s
       r = pair (nx .across .at) u i s j
 
-      tp : TwoEdges es f
-      tp = two-edges es f pr (is-two es f c)
+      tp : TwoEdges es v
+      tp = two-edges es v pr (is-two es v c)
 
-      b : At es f (s .before)
-      b = rw at-f at (r .before-at)
+      b : At es v (s .before)
+      b = rw at-v at (r .before-at)
 
-      d : At es f (s .after)
-      d = rw at-f at (r .after-at)
+      d : At es v (s .after)
+      d = rw at-v at (r .after-at)
 
       go : Dec (s .before ≡ e) → Dec (s .after ≡ e) → ⊥
-      go (yes p) k = fresh es pr e f q z t ss a c tn u jn (subst (λ (o : ℕ). Mem o (t ∷ afters ss)) p (r .before-in))
-      go (no p) (yes k) = fresh es pr e f q z t ss a c tn u jn (subst (λ (o : ℕ). Mem o (t ∷ afters ss)) k (r .after-in))
+      go (yes p) k = fresh es pr e v q z t ss a c tn u jn (subst (λ (o : ℕ). Mem o (t ∷ afters ss)) p (r .before-in))
+      go (no p) (yes k) = fresh es pr e v q z t ss a c tn u jn (subst (λ (o : ℕ). Mem o (t ∷ afters ss)) k (r .after-in))
       go (no p) (no k) =
-          let x : turn es e f ≡ s .before = turn-between es f e (s .before) tp a b (λ o. p (sym o)) in
-          let y : turn es e f ≡ s .after = turn-between es f e (s .after) tp a d (λ o. k (sym o)) in
+          let x : turn es e v ≡ s .before = turn-between es v e (s .before) tp a b (λ o. p (sym o)) in
+          let y : turn es e v ≡ s .after = turn-between es v e (s .after) tp a d (λ o. k (sym o)) in
           r .differ (sym x ∙ y)
 
-  pub at-once : {e f q z : ℕ} {ss : List Pass} → At es f e → Trail es e f ss q z → isRegular es z ≡ false → (i j : ℕ) (s t : Pass) → Ith s i ss → Ith t j ss → s .at ≡ t .at → i ≡ j
+  pub at-once : {e v q z : ℕ} {ss : List Pass} → At es v e → Trail es e v ss q z → isRegular es z ≡ false → (i j : ℕ) (s t : Pass) → Ith s i ss → Ith t j ss → s .at ≡ t .at → i ≡ j
   at-once a done jn zero j s t m n q = elim m [ ]
   at-once a done jn (suc i) j s t m n q = elim m [ ]
   at-once a (pass o c tn u) jn zero zero s t here here q = refl
   at-once a (pass o c tn u) jn zero (suc j) s t here (later n) q = absurd (first-once a c tn u jn j t n (sym q))
   at-once a (pass o c tn u) jn (suc i) zero s t (later m) here q = absurd (first-once a c tn u jn i s m q)
-  at-once {e} {f} a (pass o c tn u) jn (suc i) (suc j) s t (later m) (later n) q =
-      let nx : Next es e f o = next-edge es e f o pr a c tn in
+  at-once {e} {v} a (pass o c tn u) jn (suc i) (suc j) s t (later m) (later n) q =
+      let nx : Next es e v o = next-edge es e v o pr a c tn in
       ap suc (at-once (nx .across .at) u jn i j s t m n q)
 
 -- ---- what shares edge c with the i-th of a walk
-pub data Nearby (path : List Pass) (e f z i c w : ℕ) (s : Pass) : Type 0 where
-  itself : w ≡ s .at → Nearby path e f z i c w s
-  ahead : (t : Pass) → Ith t (suc i) path → t .at ≡ w → t .before ≡ c → s .after ≡ c → Nearby path e f z i c w s
-  behind : (k : ℕ) (t : Pass) → i ≡ suc k → Ith t k path → t .at ≡ w → t .after ≡ c → s .before ≡ c → Nearby path e f z i c w s
-  at-start : i ≡ 0 → w ≡ f → c ≡ e → s .before ≡ c → Nearby path e f z i c w s
-  at-end : w ≡ z → Nearby path e f z i c w s
+pub data Nearby (path : List Pass) (e v z i c w : ℕ) (s : Pass) : Type 0 where
+  itself : w ≡ s .at → Nearby path e v z i c w s
+  ahead : (t : Pass) → Ith t (suc i) path → t .at ≡ w → t .before ≡ c → s .after ≡ c → Nearby path e v z i c w s
+  behind : (k : ℕ) (t : Pass) → i ≡ suc k → Ith t k path → t .at ≡ w → t .after ≡ c → s .before ≡ c → Nearby path e v z i c w s
+  at-start : i ≡ 0 → w ≡ v → c ≡ e → s .before ≡ c → Nearby path e v z i c w s
+  at-end : w ≡ z → Nearby path e v z i c w s
 
 module _ (es : List Edge) (pr : Proper es) where
-  lift : (s₀ : Pass) (ss : List Pass) (e f t f′ z i c w : ℕ) (s : Pass) → s₀ .at ≡ f′ → s₀ .after ≡ t → Nearby ss t f′ z i c w s → Nearby (s₀ ∷ ss) e f z (suc i) c w s
-  lift s₀ ss e f t f′ z i c w s a b (itself q) = itself q
-  lift s₀ ss e f t f′ z i c w s a b (ahead o j q r k) = ahead o (later j) q r k
-  lift s₀ ss e f t f′ z i c w s a b (behind n o g j q r k) = behind (suc n) o (ap suc g) (later j) q r k
-  lift s₀ ss e f t f′ z i c w s a b (at-start g q r k) = behind 0 s₀ (ap suc g) here (a ∙ sym q) (b ∙ sym r) k
-  lift s₀ ss e f t f′ z i c w s a b (at-end q) = at-end q
+  lift : (s₀ : Pass) (ss : List Pass) (e v t v′ z i c w : ℕ) (s : Pass) → s₀ .at ≡ v′ → s₀ .after ≡ t → Nearby ss t v′ z i c w s → Nearby (s₀ ∷ ss) e v z (suc i) c w s
+  lift s₀ ss e v t v′ z i c w s a b (itself q) = itself q
+  lift s₀ ss e v t v′ z i c w s a b (ahead o j q r k) = ahead o (later j) q r k
+  lift s₀ ss e v t v′ z i c w s a b (behind n o g j q r k) = behind (suc n) o (ap suc g) (later j) q r k
+  lift s₀ ss e v t v′ z i c w s a b (at-start g q r k) = behind 0 s₀ (ap suc g) here (a ∙ sym q) (b ∙ sym r) k
+  lift s₀ ss e v t v′ z i c w s a b (at-end q) = at-end q
 
-  pub nearby : {e f q z : ℕ} {ss : List Pass} → At es f e → Trail es e f ss q z → (i : ℕ) (s : Pass) → Ith s i ss → (c w : ℕ) → At es (s .at) c → At es w c
-      → Nearby ss e (far es e f) z i c w s
+  pub nearby : {e v q z : ℕ} {ss : List Pass} → At es v e → Trail es e v ss q z → (i : ℕ) (s : Pass) → Ith s i ss → (c w : ℕ) → At es (s .at) c → At es w c
+      → Nearby ss e (far es e v) z i c w s
   nearby a done zero s j c w b d = elim j [ ]
   nearby a done (suc i) s j c w b d = elim j [ ]
-  nearby {e} {f} {q} {z} a (pass {ss = ss} t k tn u) zero s here c w b d = go (ℕ-discrete w f) (ℕ-discrete c e)
+  nearby {e} {v} {q} {z} a (pass {ss = ss} t k tn u) zero s here c w b d = go (ℕ-discrete w v) (ℕ-discrete c e)
     where
-      nx : Next es e f t
-      nx = next-edge es e f t pr a k tn
+      nx : Next es e v t
+      nx = next-edge es e v t pr a k tn
 
       now : Pass
-      now = record { before = e; at = f; after = t }
+      now = record { before = e; at = v; after = t }
 
-      last : Front es t (far es t f) ss z → c ≡ t → w ≡ far es t f → Nearby (now ∷ ss) e (far es e f) z 0 c w now
+      last : Front es t (far es t v) ss z → c ≡ t → w ≡ far es t v → Nearby (now ∷ ss) e (far es e v) z 0 c w now
       last (first r rest l b a k) y x = ahead r (rw l (later here)) (a ∙ sym x) (b ∙ sym y) (sym y)
       last (nothing l y) k x = at-end (x ∙ y)
 
-      go : Dec (w ≡ f) → Dec (c ≡ e) → Nearby (now ∷ ss) e (far es e f) z 0 c w now
+      go : Dec (w ≡ v) → Dec (c ≡ e) → Nearby (now ∷ ss) e (far es e v) z 0 c w now
       go (yes x) y = itself x
-      go (no x) (yes y) = at-start refl (let d′ : At es w e = rw y at d in other-end es e f w pr a d′ x) y (sym y)
+      go (no x) (yes y) = at-start refl (let d′ : At es w e = rw y at d in other-end es e v w pr a d′ x) y (sym y)
       go (no x) (no y) =
-          let ct : turn es e f ≡ c = turn-between es f e c (two-edges es f pr (is-two es f k)) a b (λ g. y (sym g)) in
+          let ct : turn es e v ≡ c = turn-between es v e c (two-edges es v pr (is-two es v k)) a b (λ g. y (sym g)) in
           let c-is : c ≡ t = sym ct ∙ tn in
           let d′ : At es w t = rw c-is at d in
-          last (front u) c-is (other-end es t f w pr (nx .at) d′ x)
-  nearby {e} {f} {q} {z} a (pass {ss = ss} t k tn u) (suc i) s (later j) c w b d =
-      let nx : Next es e f t = next-edge es e f t pr a k tn in
-      let r : Nearby ss t (far es t (far es t f)) z i c w s = nearby (nx .across .at) u i s j c w b d in
-      lift _ ss e (far es e f) t (far es t (far es t f)) z i c w s (sym (nx .across .again)) refl r
+          last (front u) c-is (other-end es t v w pr (nx .at) d′ x)
+  nearby {e} {v} {q} {z} a (pass {ss = ss} t k tn u) (suc i) s (later j) c w b d =
+      let nx : Next es e v t = next-edge es e v t pr a k tn in
+      let r : Nearby ss t (far es t (far es t v)) z i c w s = nearby (nx .across .at) u i s j c w b d in
+      lift _ ss e (far es e v) t (far es t (far es t v)) z i c w s (sym (nx .across .again)) refl r

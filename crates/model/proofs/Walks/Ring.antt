@@ -25,23 +25,23 @@ use Rattle.model.proofs.Walks.Whole.{Onwards, onwards-ends}
 
 -- ---- a ring is a trail that comes back
 
-trail-onto : {es : List Edge} {p f q g : ℕ} {ss : List Pass} → Trail es p f ss q g → ontoOf p ss ≡ q
+trail-onto : {es : List Edge} {d v q w : ℕ} {ss : List Pass} → Trail es d v ss q w → ontoOf d ss ≡ q
 unfolding ontoOf
 trail-onto done = refl
 trail-onto (pass t c e u) = trail-onto u
 
 -- a trail of n regular vertices is the walk of n steps
-trail-steps : {es : List Edge} {p f q g : ℕ} {ss : List Pass} → Trail es p f ss q g → walk (length ss) es p f ≡ ss
+trail-steps : {es : List Edge} {d v q w : ℕ} {ss : List Pass} → Trail es d v ss q w → walk (length ss) es d v ≡ ss
 unfolding walk
 trail-steps done = refl
-trail-steps {es} {p} {f} (pass {ss = ss} t c e u) =
-    walk-on (length ss) es p f c ∙ rw e (ap (λ (l : List Pass). record { before = p; at = f; after = t } ∷ l) (trail-steps u))
+trail-steps {es} {d} {v} (pass {ss = ss} t c e u) =
+    walk-on (length ss) es d v c ∙ rw e (ap (λ (l : List Pass). record { before = d; at = v; after = t } ∷ l) (trail-steps u))
 
-ring-of-trail : {es : List Edge} {p f : ℕ} {ss : List Pass} → At es f p → Trail es p f ss p f → 1 ≤ length ss → Ring es
-ring-of-trail {es} {p} {f} {ss} a u h =
+ring-of-trail : {es : List Edge} {d v : ℕ} {ss : List Pass} → At es v d → Trail es d v ss d v → 1 ≤ length ss → Ring es
+ring-of-trail {es} {d} {v} {ss} a u h =
     record {
-      edge = p;
-      vertex = f;
+      edge = d;
+      vertex = v;
       steps = length ss;
       inside = a .inside;
       meets = a .meets;
@@ -58,7 +58,7 @@ trail-of-ring es k =
     let a : w .onto ≡ k .edge = sym (trail-onto (w .trail)) ∙ k .same-edge in
     let b : w .to ≡ k .vertex = sym (trail-endOf (w .trail)) ∙ k .same-vertex in
     subst (λ (q : ℕ). Trail es (k .edge) (k .vertex) ss q (k .vertex)) a
-    (subst (λ (g : ℕ). Trail es (k .edge) (k .vertex) ss (w .onto) g) b (w .trail))
+    (subst (λ (z : ℕ). Trail es (k .edge) (k .vertex) ss (w .onto) z) b (w .trail))
 
 -- ---- where every walk ends there is none: once more round the ring would be another walk that ends
 
@@ -73,7 +73,7 @@ ring-none es rf k =
 -- ---- an edge that the test lets pass closes none
 
 -- a walk of enough steps along a trail to a singular vertex ends there
-walk-ends : {es : List Edge} {p f q g : ℕ} {ss : List Pass} (n : ℕ) → Trail es p f ss q g → isRegular es g ≡ false → length ss ≤ n → endOf es f (walk n es p f) ≡ g
+walk-ends : {es : List Edge} {d v q w : ℕ} {ss : List Pass} (n : ℕ) → Trail es d v ss q w → isRegular es w ≡ false → length ss ≤ n → endOf es v (walk n es d v) ≡ w
 walk-ends n u j h = rw (trail-walk n u j h) (trail-endOf u)
 
 module _ (es : List Edge) (pr : Proper es) where
@@ -86,15 +86,15 @@ module _ (es : List Edge) (pr : Proper es) where
       and-intro (and-intro (eq-eqb (degree es a) 1 ha) (eq-eqb (degree es b) 1 hb))
       (rw (onlyEdge-is es a e pr ha at) (eq-eqb _ b (walk-ends _ u j (omega (arith, trail-short es pr (x .at) u j)))))
 
-pub no-ring : (es : List Edge) (n : Edge) → Proper es → closesRing es (n .first) (n .second) ≡ false
-    → (x y e q : ℕ) (ss : List Pass) → endsAt x n ≡ 1 → endsAt y n ≡ 1 → degree es x ≡ 1 → degree es y ≡ 1
+pub no-ring : (es : List Edge) (p : Edge) → Proper es → closesRing es (p .first) (p .second) ≡ false
+    → (x y e q : ℕ) (ss : List Pass) → endsAt x p ≡ 1 → endsAt y p ≡ 1 → degree es x ≡ 1 → degree es y ≡ 1
     → At es y e → Trail es e (far es e y) ss q x → x ≢ y → ⊥
-no-ring es n pr t x y e q ss ox oy hx hy a u d = go (end-cases n x ox) (end-cases n y oy)
+no-ring es p pr t x y e q ss ox oy hx hy a u d = go (end-cases p x ox) (end-cases p y oy)
   where
     back : Trail es q (far es q x) (backwards ss) e y
     back = let c = across es e y pr a in rw (c .again) at (trail-back pr (c .at) u)
 
-    go : (n .first ≡ x) ⊎ (n .second ≡ x) → (n .first ≡ y) ⊎ (n .second ≡ y) → ⊥
+    go : (p .first ≡ x) ⊎ (p .second ≡ x) → (p .first ≡ y) ⊎ (p .second ≡ y) → ⊥
     go (inl i) (inl k) = d (sym i ∙ k)
     go (inr i) (inr k) = d (sym i ∙ k)
     go (inr i) (inl k) = true≢false (sym (rw (i, k) (ring-found es pr y x e q ss hy hx a u)) ∙ t)
@@ -114,19 +114,19 @@ refuses-of es a b e =
     let g = and-true (eqb (degree es a) 1) (eqb (degree es b) 1) (h .0) in
     record { a-leaf = eqb-true _ _ (g .0); b-leaf = eqb-true _ _ (g .1); arrives = eqb-true _ _ (h .1) }
 
-module _ (es : List Edge) (n : Edge) (pr : Proper es) (rf : RingFree es) (d : n .first ≢ n .second) where
+module _ (es : List Edge) (p : Edge) (pr : Proper es) (rf : RingFree es) (d : p .first ≢ p .second) where
   abbrev new : List Edge
-  new = es ++ (n ∷ [])
+  new = es ++ (p ∷ [])
 
-  pub ring-closed : closesRing es (n .first) (n .second) ≡ true → Ring (es ++ (n ∷ []))
+  pub ring-closed : closesRing es (p .first) (p .second) ≡ true → Ring (es ++ (p ∷ []))
   unfolding endOnwards
-  ring-closed t = ring-of-trail (at-last es n (end-first n d)) round (omega arith)
+  ring-closed t = ring-of-trail (at-last es p (end-first p d)) round (omega arith)
     where
       a : ℕ
-      a = n .first
+      a = p .first
 
       b : ℕ
-      b = n .second
+      b = p .second
 
       h : Refuses es a b
       h = refuses-of es a b t
@@ -155,21 +155,21 @@ module _ (es : List Edge) (n : Edge) (pr : Proper es) (rf : RingFree es) (d : n 
       at-b : At es b (w .onto)
       at-b = trail-at pr (x .at) inside
 
-      clear : (v : ℕ) → degree es v ≡ 2 → endsAt v n ≡ 0
-      clear v two = regular-no-end es n a b v d (end-first n d) (end-second n d) d (h .a-leaf) (h .b-leaf) two
+      clear : (v : ℕ) → degree es v ≡ 2 → endsAt v p ≡ 0
+      clear v two = regular-no-end es p a b v d (end-first p d) (end-second p d) d (h .a-leaf) (h .b-leaf) two
 
       inside-new : Trail new e (far new e a) ss (w .onto) b
-      inside-new = rw (far-old es n e a (one .at .inside)) (trail-old n pr (x .at) (trail-clear n clear inside) inside)
+      inside-new = rw (far-old es p e a (one .at .inside)) (trail-old p pr (x .at) (trail-clear p clear inside) inside)
 
-      ta : NewTurn es n a e
-      ta = new-turn es n pr d a e (end-first n d) (h .a-leaf) (one .at)
+      ta : NewTurn es p a e
+      ta = new-turn es p pr d a e (end-first p d) (h .a-leaf) (one .at)
 
-      tb : NewTurn es n b (w .onto)
-      tb = new-turn es n pr d b (w .onto) (end-second n d) (h .b-leaf) at-b
+      tb : NewTurn es p b (w .onto)
+      tb = new-turn es p pr d b (w .onto) (end-second p d) (h .b-leaf) at-b
 
       last : Trail new (w .onto) b (record { before = w .onto; at = b; after = length es } ∷ []) (length es) a
       last =
-          let v : Trail new (length es) (far new (length es) b) [] (length es) a = rw (far-last es n pr d b a (end-second n d) (end-first n d) (λ z. d (sym z))) done in
+          let v : Trail new (length es) (far new (length es) b) [] (length es) a = rw (far-last es p pr d b a (end-second p d) (end-first p d) (λ z. d (sym z))) done in
           pass (length es) (tb .regular) (tb .out) v
 
       round : Trail new (length es) a (record { before = length es; at = a; after = e } ∷ (ss ++ (record { before = w .onto; at = b; after = length es } ∷ []))) (length es) a

@@ -17,70 +17,70 @@ use Rattle.model.proofs.Walks.NewEdge.{at-old, at-last, last-at, Which,
 use Rattle.model.proofs.Walks.Ended.{leaf-once}
 use Rattle.model.proofs.Walks.NewTurn.{NewTurn, new-turn}
 
-pub record Ended (es : List Edge) (p f : ℕ) : Type 0 where
+pub record Ended (es : List Edge) (d v : ℕ) : Type 0 where
   pub passes : List Pass
   pub onto : ℕ
   pub to : ℕ
-  pub trail : Trail es p f passes onto to
+  pub trail : Trail es d v passes onto to
   pub singular : isRegular es to ≡ false
 
 abbrev pub RingFree : List Edge → Type 0
-RingFree es = (p f : ℕ) → At es f p → Ended es p f
+RingFree es = (d v : ℕ) → At es v d → Ended es d v
 
 -- a walk that ends still ends with a regular vertex in front
-ended-on : (es : List Edge) (p f t : ℕ) → isRegular es f ≡ true → turn es p f ≡ t → Ended es t (far es t f) → Ended es p f
-ended-on es p f t c e r = record { passes = _; onto = r .onto; to = r .to; trail = pass t c e (r .trail); singular = r .singular }
+ended-on : (es : List Edge) (d v t : ℕ) → isRegular es v ≡ true → turn es d v ≡ t → Ended es t (far es t v) → Ended es d v
+ended-on es d v t c e r = record { passes = _; onto = r .onto; to = r .to; trail = pass t c e (r .trail); singular = r .singular }
 
-module _ (es : List Edge) (n : Edge) (pr : Proper es) (d : n .first ≢ n .second) where
+module _ (es : List Edge) (p : Edge) (pr : Proper es) (ne : p .first ≢ p .second) where
   abbrev new : List Edge
-  new = es ++ (n ∷ [])
+  new = es ++ (p ∷ [])
 
   proper-new : Proper new
-  proper-new = proper-snoc es n pr d
+  proper-new = proper-snoc es p pr ne
 
-  stop-here : (p f : ℕ) → degree es f + endsAt f n ≢ 2 → Ended new p f
-  stop-here p f h =
-      record { passes = []; onto = p; to = f; trail = done; singular = not-regular new f (λ e. h (omega (arith, degree-snoc es n f))) }
+  stop-here : (d v : ℕ) → degree es v + endsAt v p ≢ 2 → Ended new d v
+  stop-here d v h =
+      record { passes = []; onto = d; to = v; trail = done; singular = not-regular new v (λ e. h (omega (arith, degree-snoc es p v))) }
 
   -- an old walk in the new list: it stops at an end of the new edge that was regular, or goes on from where it ended
-  through : {p f q g : ℕ} {ss : List Pass} → At es f p → Trail es p f ss q g → Ended new q g → Ended new p f
+  through : {d v q w : ℕ} {ss : List Pass} → At es v d → Trail es d v ss q w → Ended new q w → Ended new d v
   through a done r = r
-  through {p} {f} a (pass t c e u) r = go (zero-or-one (endsAt f n) (endsAt-le f n d)) (through (nx .across .at) u r)
+  through {d} {v} a (pass t c e u) r = go (zero-or-one (endsAt v p) (endsAt-le v p ne)) (through (nx .across .at) u r)
     where
-      nx : Next es p f t
-      nx = next-edge es p f t pr a c e
+      nx : Next es d v t
+      nx = next-edge es d v t pr a c e
 
-      go : (endsAt f n ≡ 0) ⊎ (endsAt f n ≡ 1) → Ended new t (far es t f) → Ended new p f
-      go (inl z) s = ended-on new p f t (regular-old es n f z ∙ c) (turn-old es n f p pr z ∙ e) (rw (far-old es n t f (nx .at .inside)) s)
-      go (inr o) s = stop-here p f (λ x. omega (arith, is-two es f c))
+      go : (endsAt v p ≡ 0) ⊎ (endsAt v p ≡ 1) → Ended new t (far es t v) → Ended new d v
+      go (inl z) s = ended-on new d v t (regular-old es p v z ∙ c) (turn-old es p v d pr z ∙ e) (rw (far-old es p t v (nx .at .inside)) s)
+      go (inr o) s = stop-here d v (λ x. omega (arith, is-two es v c))
 
   module _ (rf : RingFree es)
-      (no-ring : (x y e q : ℕ) (ss : List Pass) → endsAt x n ≡ 1 → endsAt y n ≡ 1 → degree es x ≡ 1 → degree es y ≡ 1
+      (no-ring : (x y e q : ℕ) (ss : List Pass) → endsAt x p ≡ 1 → endsAt y p ≡ 1 → degree es x ≡ 1 → degree es y ≡ 1
       → At es y e → Trail es e (far es e y) ss q x → x ≢ y → ⊥) where
     -- an old walk in the new list ends, if it does so from a leaf that the new edge meets
-    follow : (p f : ℕ) → At es f p
-        → ((q g : ℕ) (ss : List Pass) → Trail es p f ss q g → degree es g ≡ 1 → endsAt g n ≡ 1 → Ended new q g) → Ended new p f
-    follow p f a on = through a (r .trail) (last (ℕ-discrete (degree es (r .to) + endsAt (r .to) n) 2))
+    follow : (d v : ℕ) → At es v d
+        → ((q w : ℕ) (ss : List Pass) → Trail es d v ss q w → degree es w ≡ 1 → endsAt w p ≡ 1 → Ended new q w) → Ended new d v
+    follow d v a on = through a (r .trail) (last (ℕ-discrete (degree es (r .to) + endsAt (r .to) p) 2))
       where
-        r : Ended es p f
-        r = rf p f a
+        r : Ended es d v
+        r = rf d v a
 
-        last : Dec (degree es (r .to) + endsAt (r .to) n ≡ 2) → Ended new (r .onto) (r .to)
+        last : Dec (degree es (r .to) + endsAt (r .to) p ≡ 2) → Ended new (r .onto) (r .to)
         last (yes q) =
-            let k : degree es (r .to) ≡ 1 = omega (arith, not-two es (r .to) (r .singular), endsAt-le (r .to) n d) in
+            let k : degree es (r .to) ≡ 1 = omega (arith, not-two es (r .to) (r .singular), endsAt-le (r .to) p ne) in
             on (r .onto) (r .to) (r .passes) (r .trail) k (omega arith)
         last (no h) = stop-here (r .onto) (r .to) h
 
     -- from such a leaf y inwards: the walk comes to none, neither to y again nor to the other
-    inwards : (y e : ℕ) → endsAt y n ≡ 1 → degree es y ≡ 1 → At es y e → Ended new e (far es e y)
-    inwards y e o h a = follow e (far es e y) ((across es e y pr a) .at) (λ q g ss u k o′. absurd (neither q g ss u k o′ (ℕ-discrete g y)))
+    inwards : (y e : ℕ) → endsAt y p ≡ 1 → degree es y ≡ 1 → At es y e → Ended new e (far es e y)
+    inwards y e o h a = follow e (far es e y) ((across es e y pr a) .at) (λ q w ss u k o′. absurd (neither q w ss u k o′ (ℕ-discrete w y)))
       where
-        neither : (q g : ℕ) (ss : List Pass) → Trail es e (far es e y) ss q g → degree es g ≡ 1 → endsAt g n ≡ 1 → Dec (g ≡ y) → ⊥
-        neither q g ss u k o′ (yes i) = leaf-once es pr y e q ss h a (rw i at u)
-        neither q g ss u k o′ (no i) = no-ring g y e q ss o′ o k h a u i
+        neither : (q w : ℕ) (ss : List Pass) → Trail es e (far es e y) ss q w → degree es w ≡ 1 → endsAt w p ≡ 1 → Dec (w ≡ y) → ⊥
+        neither q w ss u k o′ (yes i) = leaf-once es pr y e q ss h a (rw i at u)
+        neither q w ss u k o′ (no i) = no-ring w y e q ss o′ o k h a u i
 
     -- along the new edge to its end y
-    enter : (y : ℕ) → endsAt y n ≡ 1 → Ended new (length es) y
+    enter : (y : ℕ) → endsAt y p ≡ 1 → Ended new (length es) y
     enter y o = go (ℕ-discrete (degree es y) 1)
       where
         go : Dec (degree es y ≡ 1) → Ended new (length es) y
@@ -88,16 +88,16 @@ module _ (es : List Edge) (n : Edge) (pr : Proper es) (d : n .first ≢ n .secon
         go (yes k) =
             let one : OneEdge es y = one-edge es y pr k in
             let e = one .edge in
-            let t : NewTurn es n y e = new-turn es n pr d y e o k (one .at) in
-            let r : Ended new e (far new e y) = rw (far-old es n e y (one .at .inside)) (inwards y e o k (one .at)) in
+            let t : NewTurn es p y e = new-turn es p pr ne y e o k (one .at) in
+            let r : Ended new e (far new e y) = rw (far-old es p e y (one .at .inside)) (inwards y e o k (one .at)) in
             ended-on new (length es) y e (t .regular) (t .back) r
 
-    pub ring-free : RingFree (es ++ (n ∷ []))
-    ring-free p f a = go (which es n p (a .inside))
+    pub ring-free : RingFree (es ++ (p ∷ []))
+    ring-free d v a = go (which es p d (a .inside))
       where
-        go : Which es n p → Ended new p f
-        go (is-old h) = follow p f (at-old es n h a) (λ q g ss u k o.
-            let t : NewTurn es n g q = new-turn es n pr d g q o k (trail-at pr (at-old es n h a) u) in
-            let x : Across new (length es) g = across new (length es) g proper-new (at-last es n o) in
-            ended-on new q g (length es) (t .regular) (t .out) (enter (far new (length es) g) (last-at es n (x .at))))
-        go (is-new e) = rw e (enter f (last-at es n (rw e at a)))
+        go : Which es p d → Ended new d v
+        go (is-old h) = follow d v (at-old es p h a) (λ q w ss u k o.
+            let t : NewTurn es p w q = new-turn es p pr ne w q o k (trail-at pr (at-old es p h a) u) in
+            let x : Across new (length es) w = across new (length es) w proper-new (at-last es p o) in
+            ended-on new q w (length es) (t .regular) (t .out) (enter (far new (length es) w) (last-at es p (x .at))))
+        go (is-new e) = rw e (enter v (last-at es p (rw e at a)))

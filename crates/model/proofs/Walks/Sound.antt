@@ -10,4 +10,4 @@ pub record Sound (r : Register) : Type 0 where
 
 pub empty-sound : Sound empty
 unfolding empty
-empty-sound = record { proper = tt; rings = λ p f a. absurd (not-suc-le-zero (a .inside)) }
+empty-sound = record { proper = tt; rings = λ d v a. absurd (not-suc-le-zero (a .inside)) }

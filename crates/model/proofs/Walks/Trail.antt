@@ -12,15 +12,15 @@ use Rattle.model.proofs.Walks.Degree.{Proper, is-two}
 use Rattle.model.proofs.Walks.Turn.{At, two-edges, Turned, turned}
 use Rattle.model.proofs.Walks.Joins.{Across, across}
 
--- Coming along edge p to vertex f and passing the regular vertices `ss`, one is on edge q and comes to vertex g.
+-- Coming along edge d to vertex v and passing the regular vertices `ss`, one is on edge q and comes to vertex w.
 pub data Trail (es : List Edge) : ℕ → ℕ → List Pass → ℕ → ℕ → Type 0 where
-  done : {p f : ℕ} → Trail es p f [] p f
-  pass : {p f q g : ℕ} {ss : List Pass} (t : ℕ) → isRegular es f ≡ true → turn es p f ≡ t → Trail es t (far es t f) ss q g
-      → Trail es p f (record { before = p; at = f; after = t } ∷ ss) q g
+  done : {d v : ℕ} → Trail es d v [] d v
+  pass : {d v q w : ℕ} {ss : List Pass} (t : ℕ) → isRegular es v ≡ true → turn es d v ≡ t → Trail es t (far es t v) ss q w
+      → Trail es d v (record { before = d; at = v; after = t } ∷ ss) q w
 
-pub trail-append : {es : List Edge} {p f q g r h : ℕ} {ss ts : List Pass} → Trail es p f ss q g → Trail es q g ts r h → Trail es p f (ss ++ ts) r h
-trail-append done v = v
-trail-append (pass t c e u) v = pass t c e (trail-append u v)
+pub trail-append : {es : List Edge} {d v q w r x : ℕ} {ss ts : List Pass} → Trail es d v ss q w → Trail es q w ts r x → Trail es d v (ss ++ ts) r x
+trail-append done u′ = u′
+trail-append (pass t c e u) u′ = pass t c e (trail-append u u′)
 
 -- what a trail begins with
 pub data Front (es : List Edge) (d v : ℕ) (ss : List Pass) (z : ℕ) : Type 0 where
@@ -32,24 +32,24 @@ front done = nothing refl refl
 front (pass t c e u) = first _ _ refl refl refl c
 
 -- the next edge of a regular vertex, with its facts
-pub record Next (es : List Edge) (p f t : ℕ) : Type 0 where
-  pub at : At es f t
-  pub other : t ≢ p
-  pub again : turn es t f ≡ p
-  pub across : Across es t f
+pub record Next (es : List Edge) (d v t : ℕ) : Type 0 where
+  pub at : At es v t
+  pub other : t ≢ d
+  pub again : turn es t v ≡ d
+  pub across : Across es t v
 
-pub next-edge : (es : List Edge) (p f t : ℕ) → Proper es → At es f p → isRegular es f ≡ true → turn es p f ≡ t → Next es p f t
-next-edge es p f t pr a c e =
-    let tu : Turned es f p = turned es f p (two-edges es f pr (is-two es f c)) a in
-    let at : At es f t = rw e at (tu .at) in
-    record { at = at; other = rw e at (tu .other); again = rw e at (tu .again); across = across es t f pr at }
+pub next-edge : (es : List Edge) (d v t : ℕ) → Proper es → At es v d → isRegular es v ≡ true → turn es d v ≡ t → Next es d v t
+next-edge es d v t pr a c e =
+    let tu : Turned es v d = turned es v d (two-edges es v pr (is-two es v c)) a in
+    let at : At es v t = rw e at (tu .at) in
+    record { at = at; other = rw e at (tu .other); again = rw e at (tu .again); across = across es t v pr at }
 
 -- at the end of a trail one is at the end of its last edge
-pub trail-at : {es : List Edge} {p f q g : ℕ} {ss : List Pass} → Proper es → At es f p → Trail es p f ss q g → At es g q
+pub trail-at : {es : List Edge} {d v q w : ℕ} {ss : List Pass} → Proper es → At es v d → Trail es d v ss q w → At es w q
 trail-at pr a done = a
-trail-at {es} {p} {f} pr a (pass t c e u) = trail-at pr ((next-edge es p f t pr a c e) .across .at) u
+trail-at {es} {d} {v} pr a (pass t c e u) = trail-at pr ((next-edge es d v t pr a c e) .across .at) u
 
-pub trail-endOf : {es : List Edge} {p f q g : ℕ} {ss : List Pass} → Trail es p f ss q g → endOf es f ss ≡ g
+pub trail-endOf : {es : List Edge} {d v q w : ℕ} {ss : List Pass} → Trail es d v ss q w → endOf es v ss ≡ w
 unfolding endOf
 trail-endOf done = refl
 trail-endOf (pass t c e u) = trail-endOf u
@@ -63,13 +63,13 @@ unfolding flip
 backwards [] = []
 backwards (s ∷ ss) = backwards ss ++ (flip s ∷ [])
 
-pub trail-back : {es : List Edge} {p f q g : ℕ} {ss : List Pass} → Proper es → At es f p → Trail es p f ss q g
-    → Trail es q (far es q g) (backwards ss) p (far es p f)
+pub trail-back : {es : List Edge} {d v q w : ℕ} {ss : List Pass} → Proper es → At es v d → Trail es d v ss q w
+    → Trail es q (far es q w) (backwards ss) d (far es d v)
 unfolding backwards flip
 trail-back pr a done = done
-trail-back {es} {p} {f} pr a (pass t c e u) =
-    let nx : Next es p f t = next-edge es p f t pr a c e in
-    trail-append (trail-back pr (nx .across .at) u) (rw (nx .across .again) (pass p c (nx .again) done))
+trail-back {es} {d} {v} pr a (pass t c e u) =
+    let nx : Next es d v t = next-edge es d v t pr a c e in
+    trail-append (trail-back pr (nx .across .at) u) (rw (nx .across .again) (pass d c (nx .again) done))
 
 pub length-backwards : (ss : List Pass) → length (backwards ss) ≡ length ss
 unfolding backwards
@@ -81,89 +81,89 @@ unfoldable pub afters : List Pass → List ℕ
 unfolding afterOf
 afters ss = map afterOf ss
 
-pub afters-back : {es : List Edge} {p f q g : ℕ} {ss : List Pass} → Trail es p f ss q g → q ∷ afters (backwards ss) ≡ reverse (p ∷ afters ss)
+pub afters-back : {es : List Edge} {d v q w : ℕ} {ss : List Pass} → Trail es d v ss q w → q ∷ afters (backwards ss) ≡ reverse (d ∷ afters ss)
 unfolding afters backwards flip afterOf
 afters-back done = refl
-afters-back {p = p} {q = q} (pass {ss = ss} t c e u) =
-    simp map-append (ap (λ (l : List ℕ). l ++ (p ∷ [])) (afters-back u) ∙ sym (reverse-cons p (t ∷ map afterOf ss)))
+afters-back {d = d} {q = q} (pass {ss = ss} t c e u) =
+    simp map-append (ap (λ (l : List ℕ). l ++ (d ∷ [])) (afters-back u) ∙ sym (reverse-cons d (t ∷ map afterOf ss)))
 
 -- the two cases of a step of `walk`
-pub walk-on : (n : ℕ) (es : List Edge) (p f : ℕ) → isRegular es f ≡ true
-    → walk (suc n) es p f ≡ record { before = p; at = f; after = turn es p f } ∷ walk n es (turn es p f) (far es (turn es p f) f)
+pub walk-on : (n : ℕ) (es : List Edge) (d v : ℕ) → isRegular es v ≡ true
+    → walk (suc n) es d v ≡ record { before = d; at = v; after = turn es d v } ∷ walk n es (turn es d v) (far es (turn es d v) v)
 unfolding walk
-walk-on n es p f c = rw (c, walk)
+walk-on n es d v c = rw (c, walk)
 
-pub walk-stop : (n : ℕ) (es : List Edge) (p f : ℕ) → isRegular es f ≡ false → walk n es p f ≡ []
+pub walk-stop : (n : ℕ) (es : List Edge) (d v : ℕ) → isRegular es v ≡ false → walk n es d v ≡ []
 unfolding walk
-walk-stop zero es p f c = refl
-walk-stop (suc n) es p f c = rw (c, walk)
+walk-stop zero es d v c = refl
+walk-stop (suc n) es d v c = rw (c, walk)
 
 -- a trail that ends at a singular vertex is the walk, if the walk's bound allows it
-pub trail-walk : {es : List Edge} {p f q g : ℕ} {ss : List Pass} (n : ℕ) → Trail es p f ss q g → isRegular es g ≡ false → length ss ≤ n → walk n es p f ≡ ss
-trail-walk {es} {p} {f} n done j h = walk-stop n es p f j
+pub trail-walk : {es : List Edge} {d v q w : ℕ} {ss : List Pass} (n : ℕ) → Trail es d v ss q w → isRegular es w ≡ false → length ss ≤ n → walk n es d v ≡ ss
+trail-walk {es} {d} {v} n done j h = walk-stop n es d v j
 trail-walk zero (pass t c e u) j h = absurd (not-suc-le-zero h)
-trail-walk {es} {p} {f} (suc n) (pass {ss = ss} t c e u) j h =
-    walk-on n es p f c ∙ rw e (ap (λ (l : List Pass). record { before = p; at = f; after = t } ∷ l) (trail-walk n u j (omega arith)))
+trail-walk {es} {d} {v} (suc n) (pass {ss = ss} t c e u) j h =
+    walk-on n es d v c ∙ rw e (ap (λ (l : List Pass). record { before = d; at = v; after = t } ∷ l) (trail-walk n u j (omega arith)))
 
 -- a walk is a trail, to a singular vertex or to its bound
-pub record Walked (n : ℕ) (es : List Edge) (p f : ℕ) : Type 0 where
+pub record Walked (n : ℕ) (es : List Edge) (d v : ℕ) : Type 0 where
   pub onto : ℕ
   pub to : ℕ
-  pub trail : Trail es p f (walk n es p f) onto to
-  pub ends : (isRegular es to ≡ false) ⊎ (length (walk n es p f) ≡ n)
+  pub trail : Trail es d v (walk n es d v) onto to
+  pub ends : (isRegular es to ≡ false) ⊎ (length (walk n es d v) ≡ n)
 
-pub walked : (n : ℕ) (es : List Edge) (p f : ℕ) → Walked n es p f
+pub walked : (n : ℕ) (es : List Edge) (d v : ℕ) → Walked n es d v
 unfolding walk
-walked zero es p f = record { onto = p; to = f; trail = done; ends = inr refl }
-walked (suc n) es p f = go (isRegular es f) refl (walked n es (turn es p f) (far es (turn es p f) f))
+walked zero es d v = record { onto = d; to = v; trail = done; ends = inr refl }
+walked (suc n) es d v = go (isRegular es v) refl (walked n es (turn es d v) (far es (turn es d v) v))
   where
-    go : (b : Bool) → isRegular es f ≡ b → Walked n es (turn es p f) (far es (turn es p f) f) → Walked (suc n) es p f
-    go false c w = record { onto = p; to = f; trail = rw (walk-stop (suc n) es p f c) done; ends = inl c }
+    go : (b : Bool) → isRegular es v ≡ b → Walked n es (turn es d v) (far es (turn es d v) v) → Walked (suc n) es d v
+    go false c w = record { onto = d; to = v; trail = rw (walk-stop (suc n) es d v c) done; ends = inl c }
     go true c w = record {
       onto = w .onto;
       to = w .to;
-      trail = rw (walk-on n es p f c) (pass (turn es p f) c refl (w .trail));
-      ends = rw (walk-on n es p f c) (up (w .ends));
+      trail = rw (walk-on n es d v c) (pass (turn es d v) c refl (w .trail));
+      ends = rw (walk-on n es d v c) (up (w .ends));
     }
       where
-        up : (isRegular es (w .to) ≡ false) ⊎ (length (walk n es (turn es p f) (far es (turn es p f) f)) ≡ n)
-            → (isRegular es (w .to) ≡ false) ⊎ (suc (length (walk n es (turn es p f) (far es (turn es p f) f))) ≡ suc n)
+        up : (isRegular es (w .to) ≡ false) ⊎ (length (walk n es (turn es d v) (far es (turn es d v) v)) ≡ n)
+            → (isRegular es (w .to) ≡ false) ⊎ (suc (length (walk n es (turn es d v) (far es (turn es d v) v))) ≡ suc n)
         up (inl j) = inl j
         up (inr e) = inr (ap suc e)
 
 -- where an edge stands on a trail, the trail can be cut
-pub record Cut (es : List Edge) (p f : ℕ) (ss : List Pass) (q g k : ℕ) : Type 0 where
+pub record Cut (es : List Edge) (d v : ℕ) (ss : List Pass) (q w k : ℕ) : Type 0 where
   pub to : ℕ
   pub front : List Pass
   pub rest : List Pass
   pub parts : ss ≡ front ++ rest
-  pub before : Trail es p f front k to
-  pub behind : Trail es k to rest q g
+  pub before : Trail es d v front k to
+  pub behind : Trail es k to rest q w
 
-cut-here : {es : List Edge} {p f q g : ℕ} {ss : List Pass} (k : ℕ) → k ≡ p → Trail es p f ss q g → Cut es p f ss q g k
-cut-here {f = f} {ss = ss} k e u = rw e (record { to = f; front = []; rest = ss; parts = refl; before = done; behind = u })
+cut-here : {es : List Edge} {d v q w : ℕ} {ss : List Pass} (k : ℕ) → k ≡ d → Trail es d v ss q w → Cut es d v ss q w k
+cut-here {v = v} {ss = ss} k e u = rw e (record { to = v; front = []; rest = ss; parts = refl; before = done; behind = u })
 
-cut-on : {es : List Edge} {p f q g : ℕ} {ss : List Pass} (k t : ℕ) → isRegular es f ≡ true → turn es p f ≡ t
-    → Cut es t (far es t f) ss q g k → Cut es p f (record { before = p; at = f; after = t } ∷ ss) q g k
-cut-on {p = p} {f = f} k t c e r = record {
+cut-on : {es : List Edge} {d v q w : ℕ} {ss : List Pass} (k t : ℕ) → isRegular es v ≡ true → turn es d v ≡ t
+    → Cut es t (far es t v) ss q w k → Cut es d v (record { before = d; at = v; after = t } ∷ ss) q w k
+cut-on {d = d} {v = v} k t c e r = record {
   to = r .to;
-  front = record { before = p; at = f; after = t } ∷ r .front;
+  front = record { before = d; at = v; after = t } ∷ r .front;
   rest = r .rest;
-  parts = ap (λ (l : List Pass). record { before = p; at = f; after = t } ∷ l) (r .parts);
+  parts = ap (λ (l : List Pass). record { before = d; at = v; after = t } ∷ l) (r .parts);
   before = pass t c e (r .before);
   behind = r .behind;
 }
 
-pub cut : {es : List Edge} {p f q g : ℕ} {ss : List Pass} (k : ℕ) → Trail es p f ss q g → Mem k (p ∷ afters ss) → Cut es p f ss q g k
+pub cut : {es : List Edge} {d v q w : ℕ} {ss : List Pass} (k : ℕ) → Trail es d v ss q w → Mem k (d ∷ afters ss) → Cut es d v ss q w k
 unfolding afters
-cut {es} {p} {f} k done m = go (mem-cases m)
+cut {es} {d} {v} k done m = go (mem-cases m)
   where
-    go : (k ≡ p) ⊎ Mem k [] → Cut es p f [] p f k
+    go : (k ≡ d) ⊎ Mem k [] → Cut es d v [] d v k
     go (inl e) = cut-here k e done
     go (inr n) = absurd (mem-nil n)
-cut {es} {p} {f} {q} {g} k (pass {ss = ss} t c e u) m = go (λ n. cut k u n) (mem-cases m)
+cut {es} {d} {v} {q} {w} k (pass {ss = ss} t c e u) m = go (λ n. cut k u n) (mem-cases m)
   where
-    go : (Mem k (t ∷ afters ss) → Cut es t (far es t f) ss q g k) → (k ≡ p) ⊎ Mem k (t ∷ afters ss)
-        → Cut es p f (record { before = p; at = f; after = t } ∷ ss) q g k
+    go : (Mem k (t ∷ afters ss) → Cut es t (far es t v) ss q w k) → (k ≡ d) ⊎ Mem k (t ∷ afters ss)
+        → Cut es d v (record { before = d; at = v; after = t } ∷ ss) q w k
     go below (inl h) = cut-here k h (pass t c e u)
     go below (inr n) = cut-on k t c e (below n)
