@@ -9,7 +9,7 @@ use Rattle.model.specs.Tables.{Tables, Counts, fits, cleared, held}
 use Rattle.model.specs.Calls.{Call, Lent, allFit, bars, gate, registerFor, scratchAfter}
 use Rattle.model.proofs.Basics.Booleans.{not-both}
 use Rattle.model.specs.Notions.{HeldOf}
-use Rattle.model.proofs.Series.OnlyHeld.{only-held}
+use Rattle.model.proofs.Registers.OnlyHeld.{only-held}
 use Rattle.tables.specs.Steps.{stored, zeroed}
 use Rattle.admission.specs.Lent.{lent}
 use Rattle.holding.specs.Replay.{Regrows}

@@ -13,7 +13,7 @@ use Rattle.tables.specs.Steps.{stored}
 use Rattle.admission.specs.Lent.{outcome}
 use Rattle.admission.specs.Gate.{barred}
 use Rattle.admission.proofs.GateLaws.{gate-bars, opened}
-use Rattle.model.proofs.Series.Kept.{outcomeOf, scratch-cleared, step-fits}
+use Rattle.model.proofs.Series.Calls.{outcomeOf, scratch-cleared, step-fits}
 
 -- what a call on the register that tables and counts hold leaves in its slice and answers; it leaves the register
 abbrev pub Answers : Call → Tables → Counts → List ℕ → Reply → Type 0

@@ -21,7 +21,7 @@ use Rattle.model.proofs.Walks.Degree.{end-first, end-second}
 use Rattle.model.proofs.Walks.Turn.{At}
 use Rattle.model.proofs.Walks.Joins.{proper-at}
 use Rattle.model.proofs.Walks.Trail.{walk-on, walk-stop, Next, next-edge}
-use Rattle.model.proofs.Series.ReadBack.{length-read}
+use Rattle.model.proofs.Registers.ReadBack.{length-read}
 use Rattle.agreement.proofs.Lockstep.{Shows, shows-regular, shows-singular, shows-turn}
 use Rattle.agreement.proofs.Tables.{far-is, shows}
 use Rattle.agreement.proofs.Reached.{lawful, proper, room}

@@ -24,9 +24,9 @@ use Rattle.queries.specs.Finding.{findIn, lengthToIn, reachIn}
 use Rattle.model.proofs.Walks.Degree.{is-two, two-is}
 use Rattle.model.proofs.Walks.Turn.{At, Turned, TwoEdges, turned, two-edges}
 use Rattle.model.proofs.Walks.Joins.{across}
-use Rattle.model.proofs.Series.Labelled.{Labelled, label-not-zero, regular-landed}
-use Rattle.model.proofs.Series.Answers.{find-none, find-own}
-use Rattle.model.proofs.Series.Small.{reaches-small}
+use Rattle.model.proofs.Registers.Labelled.{Labelled, label-not-zero, regular-landed}
+use Rattle.model.proofs.Registers.Answers.{find-none, find-own}
+use Rattle.model.proofs.Registers.Small.{reaches-small}
 use Rattle.agreement.proofs.Lists.{PairAt}
 use Rattle.agreement.proofs.Tables.{degrees-read, far-is, sides-linked}
 use Rattle.agreement.proofs.Reached.{few, labelled, labels-long, low-at, no-label, proper}

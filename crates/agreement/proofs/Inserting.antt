@@ -25,7 +25,7 @@ use Rattle.model.proofs.Walks.Degree.{end-first, end-second, endsAt-le, two-end
 use Rattle.model.proofs.Labels.Relabellings.{relabelCount-bare}
 use Rattle.model.proofs.Labels.Cases.{compact, edge-compact}
 use Rattle.model.proofs.Labels.Splits.{splits, unlabel}
-use Rattle.model.proofs.Series.Small.{blocks-small, labels-small}
+use Rattle.model.proofs.Registers.Small.{blocks-small, labels-small}
 use Rattle.agreement.proofs.Cases.{byLeaves, leaf-ends, place-leaves}
 use Rattle.agreement.proofs.Lockstep.{Shows}
 use Rattle.agreement.proofs.Laying.{Everywhere, kept-where}

@@ -17,12 +17,12 @@ use Rattle.model.specs.Tables.{Counts, Tables, countsOf, tablesOf}
 use Rattle.model.specs.Notions.{Reachable}
 use Rattle.tables.specs.Steps.{more16, setPair, sum32}
 use Rattle.tables.proofs.Sums.{more16-is, sum32-is}
-use Rattle.model.proofs.Series.Equality.{counts-parts, tables-parts}
+use Rattle.model.proofs.Registers.Equality.{counts-parts, tables-parts}
 use Rattle.insertion.specs.Placing.{Placed, placedBy}
 use Rattle.insertion.specs.Insertion.{CheckIn, LandingIn, checkIn, counts, done, failed, insertIn, landChecked, landIn, landingIn, refusedIn}
 use Rattle.model.proofs.Basics.Booleans.{and-true}
 use Rattle.model.proofs.Walks.NewEdge.{length-new}
-use Rattle.model.proofs.Series.Small.{total-small}
+use Rattle.model.proofs.Registers.Small.{total-small}
 use Rattle.agreement.proofs.Lists.{ends-stored, lengths-stored}
 use Rattle.agreement.proofs.Relabelled.{relabelled-most}
 use Rattle.agreement.proofs.Tables.{degrees-are, linked-sides}

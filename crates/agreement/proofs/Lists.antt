@@ -13,7 +13,7 @@ use Rattle.model.specs.Register.{Register}
 use Rattle.model.specs.Tables.{edgeLengths, endsOf, highSide, lowSide, padded, sidesOf}
 use Rattle.tables.specs.Steps.{setPair}
 use Rattle.model.proofs.Basics.Lists.{length-upTo, getD-counted}
-use Rattle.model.proofs.Series.ReadBack.{length-ends, length-lengths}
+use Rattle.model.proofs.Registers.ReadBack.{length-ends, length-lengths}
 
 -- ---- a map of 0, 1, ..
 

@@ -17,7 +17,7 @@ use Rattle.tables.specs.Steps.{farIn, turnIn}
 use Rattle.queries.specs.Chains.{isNameIn, noLowerIn}
 use Rattle.model.proofs.Walks.Turn.{At}
 use Rattle.model.proofs.Walks.Trail.{walk-on, walk-stop}
-use Rattle.model.proofs.Series.ReadBack.{first-read, second-read}
+use Rattle.model.proofs.Registers.ReadBack.{first-read, second-read}
 use Rattle.agreement.proofs.Chaining.{Step, at-first, at-second, steps, stops}
 use Rattle.agreement.proofs.Lowest.{lower, lower-min, lower-most, name-is}
 

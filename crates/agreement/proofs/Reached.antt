@@ -15,10 +15,10 @@ use Rattle.model.proofs.Walks.Degree.{Proper, AllLawful}
 use Rattle.model.proofs.Walks.Turn.{At}
 use Rattle.model.proofs.Walks.RingFree.{RingFree}
 use Rattle.model.proofs.Labels.Following.{lowAt}
-use Rattle.model.proofs.Series.Held.{GrowsAgain}
-use Rattle.model.proofs.Series.Labelled.{Labelled, ends-landed}
-use Rattle.model.proofs.Series.Kept.{kept-held}
-use Rattle.model.proofs.Series.Lawful.{edges-lawful}
+use Rattle.model.proofs.Registers.Held.{GrowsAgain}
+use Rattle.model.proofs.Registers.Labelled.{Labelled, ends-landed}
+use Rattle.model.proofs.Registers.Kept.{kept-held}
+use Rattle.model.proofs.Registers.Lawful.{edges-lawful}
 use Rattle.model.proofs.Series.Reachable as reachable
 
 module _ (r : Register) (g : Reachable r) where

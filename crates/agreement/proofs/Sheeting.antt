@@ -15,8 +15,8 @@ use Rattle.model.specs.Notions.{Reachable}
 use Rattle.tables.proofs.Sums.{sum32-is}
 use Rattle.queries.specs.Chains.{namesIn, rowIn, rowsIn, sheetIn}
 use Rattle.model.proofs.Basics.Lists.{sum-around}
-use Rattle.model.proofs.Series.ReadBack.{first-read, second-read}
-use Rattle.model.proofs.Series.Small.{chains-small}
+use Rattle.model.proofs.Registers.ReadBack.{first-read, second-read}
+use Rattle.model.proofs.Registers.Small.{chains-small}
 use Rattle.agreement.proofs.Chaining.{at-first, at-second, length-is, walk-agrees}
 use Rattle.agreement.proofs.Naming.{is-name-agrees}
 

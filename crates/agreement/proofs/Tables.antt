@@ -21,7 +21,7 @@ use Rattle.agreement.proofs.Lockstep.{Shows}
 use Rattle.agreement.proofs.Reached.{landed-below, low-at}
 use Rattle.model.proofs.Basics.Counting.{same-eq, same-most, same-ne}
 use Rattle.model.proofs.Basics.Lists.{length-upTo}
-use Rattle.model.proofs.Series.ReadBack.{first-read, length-sides, second-read}
+use Rattle.model.proofs.Registers.ReadBack.{first-read, length-sides, second-read}
 
 -- ---- the two sides of a vertex, by its degree
 

@@ -11,7 +11,7 @@ use Rattle.model.specs.Queries.{Reply, read, refuses}
 use Rattle.model.specs.Tables.{Tables, Counts, fits, cleared, noCounts, storedOf}
 use Rattle.model.specs.Calls.{Call, grows, lands, allFit, registerFor, scratchAfter, effect, readEffect, lentSlice, step}
 use Rattle.model.proofs.Basics.Booleans.{and-true}
-use Rattle.model.proofs.Series.OnlyHeld.{held-counts, held-tables}
+use Rattle.model.proofs.Registers.OnlyHeld.{held-counts, held-tables}
 use Rattle.register.specs.Records.{ReadingIn, landListIn}
 use Rattle.register.proofs.ListAgrees.{shownRead, list-agrees}
 use Rattle.register.proofs.Growing.{list-leaves}
@@ -19,7 +19,7 @@ use Rattle.admission.specs.Lent.{lent, outcome}
 use Rattle.admission.specs.Gate.{barred, zeroedIf}
 use Rattle.admission.proofs.SizeLaws.{zeroed-cleared}
 use Rattle.admission.proofs.GateLaws.{opened}
-use Rattle.model.proofs.Series.Kept.{outcomeOf, scratch-cleared, step-admits, step-fits, step-refused}
+use Rattle.model.proofs.Series.Calls.{outcomeOf, scratch-cleared, step-admits, step-fits, step-refused}
 
 module _ (t : Tables) (c : Counts) (s : Tables) (bs : List ℕ) where
   -- a list that was read into the register r, with the counts and the answer that were made of the reading

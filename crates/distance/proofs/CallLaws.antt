@@ -9,7 +9,7 @@ use Rattle.model.specs.Basics.{maxVertices}
 use Rattle.model.specs.Queries.{Reply, measure}
 use Rattle.model.specs.Tables.{Counts, Tables, cleared}
 use Rattle.model.specs.Calls.{answers, effect, measures, scratchAfter, step}
-use Rattle.model.proofs.Series.OnlyHeld.{held-counts, held-tables}
+use Rattle.model.proofs.Registers.OnlyHeld.{held-counts, held-tables}
 use Rattle.tables.specs.Steps.{zeroed}
 use Rattle.admission.specs.Lent.{lent, outcome}
 use Rattle.admission.specs.Gate.{barred}
@@ -19,7 +19,8 @@ use Rattle.admission.proofs.QueryLaws.{Answers, query-answered}
 use Rattle.distance.specs.Measure.{Measurable, measureIn}
 use Rattle.distance.proofs.Registers.{measurable}
 use Rattle.distance.proofs.Measuring.{measure-agrees}
-use Rattle.model.proofs.Series.Kept.{cleared-fits, scratch-cleared}
+use Rattle.model.proofs.Registers.Kept.{cleared-fits}
+use Rattle.model.proofs.Series.Calls.{scratch-cleared}
 
 module _ (t : Tables) (c : Counts) (s s′ : Tables) (h : none ≡ barred (lent t c s)) (e : s′ ≡ scratchAfter (lent t c s)) where
   scratch-is : s′ ≡ cleared

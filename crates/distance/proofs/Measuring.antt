@@ -8,7 +8,7 @@ use Rattle.model.specs.Distance.{Distance, distance}
 use Rattle.model.specs.Queries.{Reply, measure, measured, refuses}
 use Rattle.model.specs.Register.{Register}
 use Rattle.model.specs.Tables.{Tables, Counts, countsOf, edgesIn, tablesOf}
-use Rattle.model.proofs.Series.ReadBack.{edges-read}
+use Rattle.model.proofs.Registers.ReadBack.{edges-read}
 use Rattle.distance.specs.Measure.{measureIn}
 
 module _ (t : Tables) (c : Counts) (v w : ℕ) where

@@ -7,10 +7,10 @@ use Rattle.model.specs.Basics.{inFront, maxEdges}
 use Rattle.model.specs.Register.{Register}
 use Rattle.model.specs.Notions.{HeldOf, Reachable}
 use Rattle.model.specs.Tables.{Stored, countsOf, edgeLengths, endsOf, padded, storedOf, tablesOf}
-use Rattle.model.proofs.Series.ReadBack.{first-read, second-read, length-read, length-ends, length-lengths}
-use Rattle.model.proofs.Series.Labelled.{Labelled}
-use Rattle.model.proofs.Series.Lawful.{edges-lawful}
-use Rattle.model.proofs.Series.Reachable.{labelled}
+use Rattle.model.proofs.Registers.ReadBack.{first-read, second-read, length-read, length-ends, length-lengths}
+use Rattle.model.proofs.Registers.Labelled.{Labelled}
+use Rattle.model.proofs.Registers.Lawful.{edges-lawful}
+use Rattle.model.proofs.Registers.Reachable.{labelled}
 use Rattle.search.specs.Search.{Searchable}
 use Rattle.distance.specs.Measure.{Measurable}
 

@@ -15,14 +15,14 @@ use Rattle.model.specs.Notions.{Reachable, with-edge}
 use Rattle.model.proofs.Computing.{computing}
 use Rattle.tables.specs.Steps.{edgeOf, stored}
 use Rattle.insertion.specs.Insertion.{LandingIn, counts, done, landingIn, refusedIn}
-use Rattle.model.proofs.Series.Held.{grow-again, grown-from, onVertices, vertices-grow}
-use Rattle.model.proofs.Series.OnlyHeld.{grow-reaches, held-counts, held-tables, only-held, vertices-reach}
-use Rattle.model.proofs.Series.Reachable.{reachable-empty}
+use Rattle.model.proofs.Registers.Held.{grow-again, grown-from, onVertices, vertices-grow}
+use Rattle.model.proofs.Registers.OnlyHeld.{grow-reaches, held-counts, held-tables, only-held, vertices-reach}
+use Rattle.model.proofs.Registers.Reachable.{reachable-empty}
 use Rattle.agreement.proofs.Reached.{stored-held, regrows}
 use Rattle.agreement.proofs.Landing.{edge-parts, shownIn}
 use Rattle.holding.specs.Replay.{regrowIn, replayIn}
 use Rattle.holding.proofs.ReplayLaws.{done-is, refused-done}
-use Rattle.model.proofs.Series.Accepted.{vertex-lands}
+use Rattle.model.proofs.Registers.Accepted.{vertex-lands}
 
 -- ---- edges one after the other
 

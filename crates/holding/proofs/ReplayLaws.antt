@@ -11,7 +11,7 @@ use lib.Dec.{eqb}
 use borrow.Author.Tests.{le-leb, lt-leb, eqb-true, eq-eqb}
 use Rattle.model.specs.Basics.{maxVertices}
 use Rattle.model.specs.Tables.{Tables, Counts, edgeIn}
-use Rattle.model.proofs.Series.Equality.{counts-parts}
+use Rattle.model.proofs.Registers.Equality.{counts-parts}
 use Rattle.tables.specs.Steps.{edgeOf, tables, zeroed, Tells}
 use Rattle.tables.proofs.Lists.{differ}
 use Rattle.insertion.specs.Insertion.{AnswerIn, done, refusedIn, LandingIn, landingIn, counts, landIn}

@@ -13,7 +13,7 @@ use Rattle.model.specs.Tables.{Tables, Counts, tablesOf}
 use Rattle.model.specs.Calls.{finds, reaches, sheets, answers, effect, sheetEffect}
 use Rattle.model.specs.Notions.{Reachable}
 use Rattle.model.proofs.Chains.Sheet.{sheet-length}
-use Rattle.model.proofs.Series.OnlyHeld.{held-counts, held-tables}
+use Rattle.model.proofs.Registers.OnlyHeld.{held-counts, held-tables}
 use Rattle.tables.specs.Steps.{tables}
 use Rattle.queries.specs.Chains.{sheetIn}
 use Rattle.queries.specs.Finding.{findIn, reachIn}

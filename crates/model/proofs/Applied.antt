@@ -15,7 +15,7 @@ use Rattle.model.specs.Tables.{cleared, held}
 use Rattle.model.specs.Calls.{Call, Outcome, effect, finds, measures, reaches, sheets}
 use Rattle.model.specs.Series.{AtEnd, Demand3, Made, after, lengthColumn, makes, series, since, start}
 use Rattle.model.proofs.Computed.{called, calls, pairs, pairwise}
-use Rattle.model.proofs.Series.Kept.{cleared-fits}
+use Rattle.model.proofs.Registers.Kept.{cleared-fits}
 use Rattle.model.proofs.Series.Whole.{demand3}
 
 -- ---- lists that stop, refused calls, clearings in between

@@ -1,6 +1,6 @@
 -- What holds of every register that landing leaves: seven theorems, each a record of claims in the words of specs/, and its proof. Such
 -- registers are what growing leaves, what landing a list in one of them and what a series of calls leave (`reachable-grown`, `-list` and
--- `-after` in Series/Reachable), and what lent tables hold (`only-held` in Series/OnlyHeld).
+-- `-after` in Series/Landings), and what lent tables hold (`only-held` in Registers/OnlyHeld).
 -- docs/THEORY.md has the argument, and the files on which each proof rests.
 use mathlib.Core.Path.{_≡_}
 use mathlib.Core.Logic.{_≢_, _⊎_}
@@ -34,14 +34,14 @@ use Rattle.model.proofs.Labels.Consecutive.{chain-upwards}
 use Rattle.model.proofs.Groups.FloorLog.{floorLog-fits, floorLog-most}
 use Rattle.model.proofs.Distances.Distance.{is-distance}
 use Rattle.model.proofs.Distances.Hops.{chains-distance, loose-distance}
-use Rattle.model.proofs.Series.Labelled.{Labelled, labelled-bound, labels-unique, zero-then}
-use Rattle.model.proofs.Series.Kept.{kept-held}
+use Rattle.model.proofs.Registers.Labelled.{Labelled, labelled-bound, labels-unique, zero-then}
+use Rattle.model.proofs.Registers.Kept.{kept-held}
 use Rattle.model.proofs.Series.Told.{history-told}
-use Rattle.model.proofs.Series.Reachable.{either-order, kept, labelled, same-contents}
-use Rattle.model.proofs.Series.OnlyHeld.{only-held}
-use Rattle.model.proofs.Series.Small.{chains-small, distances-small, labels-small}
-use Rattle.model.proofs.Series.RingTest.{refused-closes, ring-decides}
-use Rattle.model.proofs.Series.Answers.{find-none, finds-chain, measure-is, reach-chain, reach-of, reaches-add, reaches-own}
+use Rattle.model.proofs.Registers.Reachable.{either-order, kept, labelled, same-contents}
+use Rattle.model.proofs.Registers.OnlyHeld.{only-held}
+use Rattle.model.proofs.Registers.Small.{chains-small, distances-small, labels-small}
+use Rattle.model.proofs.Registers.RingTest.{refused-closes, ring-decides}
+use Rattle.model.proofs.Registers.Answers.{find-none, finds-chain, measure-is, reach-chain, reach-of, reaches-add, reaches-own}
 
 -- ---- 1. No ring
 

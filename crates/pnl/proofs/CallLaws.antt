@@ -12,8 +12,8 @@ use Rattle.model.specs.Queries.{Reply, listed, find, reach, measure, sheet, she
 use Rattle.model.specs.Calls.{Effect, answers, effect}
 use Rattle.model.specs.Tables.{Tables, Counts, cleared, noCounts, storedOf}
 use Rattle.model.specs.Notions.{HeldOf}
-use Rattle.model.proofs.Series.OnlyHeld.{held-counts, held-tables}
-use Rattle.model.proofs.Series.Reachable.{reachable-grown}
+use Rattle.model.proofs.Registers.OnlyHeld.{held-counts, held-tables}
+use Rattle.model.proofs.Series.Landings.{reachable-grown}
 use Rattle.tables.specs.Steps.{stored, tables}
 use Rattle.queries.specs.Chains.{rowsIn, sheetIn}
 use Rattle.queries.specs.Finding.{findIn, reachIn}

@@ -12,7 +12,7 @@ use Rattle.model.specs.Format.{Read, Stop, growList}
 use Rattle.model.specs.Tables.{Counts, tablesOf, countsOf, cleared, noCounts}
 use Rattle.model.specs.Printing.{ascii, line, lines, listing, printed, stopLine}
 use Rattle.model.specs.Notions.{Reachable}
-use Rattle.model.proofs.Series.Reachable.{reachable-grown}
+use Rattle.model.proofs.Series.Landings.{reachable-grown}
 use Rattle.queries.specs.Chains.{sheetIn}
 use Rattle.agreement.proofs.Reached.{room}
 use Rattle.agreement.proofs.Sheeting.{sheet-agrees}

@@ -6,7 +6,7 @@ use Rattle.model.specs.Register.{empty}
 use Rattle.model.specs.Format.{growList}
 use Rattle.model.specs.Tables.{tablesOf, countsOf, cleared, noCounts}
 use Rattle.model.proofs.Computing.{computing}
-use Rattle.model.proofs.Series.Reachable.{reachable-empty}
+use Rattle.model.proofs.Registers.Reachable.{reachable-empty}
 use Rattle.register.specs.Records.{landListIn}
 use Rattle.register.proofs.ListAgrees.{list-agrees, shownRead}
 

@@ -19,7 +19,7 @@ use Rattle.list.specs.Reading.{badRecord, edgeTo, ends, headerAt, recordAt, rec
 use Rattle.tables.proofs.Sums.{more16-is}
 use Rattle.agreement.proofs.Landing.{edge-parts, shownIn}
 use Rattle.register.specs.Records.{ReadingIn, landListIn, landRecordIn, landRecordsIn, landVertexIn, readingIn}
-use Rattle.model.proofs.Series.Accepted.{added}
+use Rattle.model.proofs.Registers.Accepted.{added}
 
 -- what the definition leaves, as tables, counts and answer
 abbrev pub shownRead : Read → ReadingIn

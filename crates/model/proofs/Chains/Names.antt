@@ -1,4 +1,4 @@
--- The name of a chain, and the rows of the sheet: one for each chain, by rising name.
+-- The rows of the sheet: one for each chain, by rising name.
 use mathlib.Core.Path.{_≡_, refl, ap, _∙_, subst}
 use mathlib.Core.Logic.{_⊎_, inl, inr}
 use Prim.Native.Nat.{ℕ, zero, suc, _+_, _≤_, _<_}

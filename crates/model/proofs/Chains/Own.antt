@@ -1,4 +1,4 @@
--- A regular vertex is one of the regular vertices of the chain that its label finds, and of no other.
+-- A regular vertex is one of the regular vertices of the chain on which its edges lie, and of no other.
 use mathlib.Core.Path.{_≡_, sym, _∙_, subst}
 use mathlib.Core.Logic.{_⊎_, inl, inr}
 use Prim.Native.Nat.{ℕ, _<_}

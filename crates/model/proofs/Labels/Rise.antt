@@ -1,4 +1,5 @@
--- Along a chain the labels rise by 1: an edge between two regular vertices is the low edge of the one with the greater label.
+-- `Sided`: a regular vertex has its low edge, and an edge between two of them is the low edge of the one whose label is greater, by 1. One
+-- more edge keeps that.
 use mathlib.Core.Path.{_≡_, sym, ap, _∙_, subst}
 use mathlib.Core.Logic.{_≢_, inr}
 use Prim.Native.Nat.{ℕ, suc, _≤_}

@@ -20,11 +20,13 @@ use Rattle.model.proofs.Walks.RingFree.{RingFree}
 use Rattle.model.proofs.Chains.Sheet.{sheet-sum, sheet-length, sheet-into}
 use Rattle.model.proofs.Distances.Distance.{is-distance}
 use Rattle.model.proofs.Distances.Hops.{chains-distance, loose-distance}
-use Rattle.model.proofs.Series.Labelled.{labelled-bound}
-use Rattle.model.proofs.Series.Answers.{finds-chain, measure-is}
+use Rattle.model.proofs.Registers.Labelled.{labelled-bound}
+use Rattle.model.proofs.Registers.Answers.{finds-chain, measure-is}
 use Rattle.model.proofs.Series.Told.{Told, told, edges-count}
-use Rattle.model.proofs.Series.Kept.{Kept, kept-held, start-is, outcomeOf, makes-fits, makes-refused}
-use Rattle.model.proofs.Series.Reachable.{kept, reachable-after, reachable-empty}
+use Rattle.model.proofs.Registers.Kept.{Kept, kept-held}
+use Rattle.model.proofs.Series.Calls.{start-is, outcomeOf, makes-fits, makes-refused}
+use Rattle.model.proofs.Registers.Reachable.{kept, reachable-empty}
+use Rattle.model.proofs.Series.Landings.{reachable-after}
 
 -- ---- a series does to what is stored what it does to the register
 

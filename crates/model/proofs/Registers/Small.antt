@@ -21,16 +21,16 @@ use Rattle.model.proofs.Basics.Booleans.{if-either}
 use Rattle.model.proofs.Basics.Lists.{sum-around}
 use Rattle.model.proofs.Basics.Counting.{occurs}
 use Rattle.model.proofs.Walks.Degree.{Proper, AllLawful}
-use Rattle.model.proofs.Series.Accepted.{Accepted}
+use Rattle.model.proofs.Registers.Accepted.{Accepted}
 use Rattle.model.proofs.Walks.NewEdge.{length-new}
 use Rattle.model.proofs.Walks.RingFree.{RingFree}
 use Rattle.model.proofs.Basics.Total.{total-const, total-le}
 use Rattle.model.proofs.Chains.Sums.{length-occurs, once}
 use Rattle.model.proofs.Groups.FloorLog.{floorLog-mono}
 use Rattle.model.proofs.Distances.Nearer.{distance-most}
-use Rattle.model.proofs.Series.Labelled.{Labelled, label-small, labelled-bound}
-use Rattle.model.proofs.Series.Lawful.{edges-lawful}
-use Rattle.model.proofs.Series.Reachable.{labelled, reachable-keeps}
+use Rattle.model.proofs.Registers.Labelled.{Labelled, label-small, labelled-bound}
+use Rattle.model.proofs.Registers.Lawful.{edges-lawful}
+use Rattle.model.proofs.Registers.Reachable.{labelled, reachable-keeps}
 
 -- ---- a chain's length
 

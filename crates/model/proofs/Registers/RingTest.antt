@@ -7,7 +7,7 @@ use Rattle.model.specs.Cases.{closesRing}
 use Rattle.model.specs.Register.{Register, landEdge, landed, refused, withEdge}
 use Rattle.model.specs.Notions.{Admissible, Ring}
 use Rattle.model.proofs.Walks.Degree.{Proper}
-use Rattle.model.proofs.Series.Accepted.{edge-lands, edge-refused, refused-24}
+use Rattle.model.proofs.Registers.Accepted.{edge-lands, edge-refused, refused-24}
 use Rattle.model.proofs.Walks.RingFree.{RingFree, ring-free}
 use Rattle.model.proofs.Walks.Sound.{Sound}
 use Rattle.model.proofs.Walks.Ring.{ring-none, ring-closed, no-ring}

@@ -1,4 +1,5 @@
--- The labels of every register that landing leaves: the bound of the relabellings, and no label twice.
+-- The invariant `Labelled`, which every landing keeps, and what follows from it: the bound of the relabellings, no label twice, none 0,
+-- all small.
 use mathlib.Core.Path.{_≡_, refl, sym, _∙_}
 use mathlib.Core.Logic.{_≢_, _⊎_, inl, inr}
 use Prim.Native.Nat.{ℕ, zero, suc, _+_, _*_, _≤_, _<_}
@@ -15,7 +16,7 @@ use Rattle.model.specs.Register.{Register, empty, labelOf, marksOf, with
 use Rattle.model.proofs.Basics.Booleans.{true-or-false}
 use Rattle.model.proofs.Walks.Degree.{is-two, proper-snoc, end-cases}
 use Rattle.model.proofs.Walks.Turn.{At, TwoEdges, two-edges}
-use Rattle.model.proofs.Series.Accepted.{Accepted}
+use Rattle.model.proofs.Registers.Accepted.{Accepted}
 use Rattle.model.proofs.Walks.RingFree.{RingFree, ring-free}
 use Rattle.model.proofs.Walks.Ring.{no-ring}
 use Rattle.model.proofs.Walks.Sound.{Sound, empty-sound}

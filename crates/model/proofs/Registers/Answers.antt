@@ -22,8 +22,8 @@ use Rattle.model.proofs.Walks.RingFree.{RingFree}
 use Rattle.model.proofs.Chains.Own.{own-chain, only-chain}
 use Rattle.model.proofs.Chains.Reaches.{reaches-sum}
 use Rattle.model.proofs.Labels.Following.{lowAt}
-use Rattle.model.proofs.Series.Labelled.{Labelled, labels-unique, regular-landed}
-use Rattle.model.proofs.Series.Kept.{Kept}
+use Rattle.model.proofs.Registers.Labelled.{Labelled, labels-unique, regular-landed}
+use Rattle.model.proofs.Registers.Kept.{Kept}
 
 -- ---- find
 

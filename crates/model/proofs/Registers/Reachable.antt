@@ -6,32 +6,17 @@ use mathlib.Core.List.{List}
 use Rattle.model.specs.Basics.{maxVertices}
 use Rattle.model.specs.Graph.{Edge}
 use Rattle.model.specs.Register.{Register, empty, landEdge, landVertex, landed, withEdge, withVertex}
-use Rattle.model.specs.Format.{growList, landList}
 use Rattle.model.specs.Tables.{landEdges}
-use Rattle.model.specs.Series.{Made, after}
-use Rattle.model.specs.Notions.{Reachable, from-empty, with-edge, with-vertex, history}
-use Rattle.model.proofs.Series.Accepted.{Accepted, accepted, added, landed-is, vertex-lands}
-use Rattle.model.proofs.Series.Landings.{left-after, left-list}
-use Rattle.model.proofs.Series.Held.{GrowsAgain, lands-more, onVertices}
-use Rattle.model.proofs.Series.Labelled.{Labelled}
-use Rattle.model.proofs.Series.Kept.{Kept, kept-empty, kept-vertex, kept-edge}
+use Rattle.model.specs.Notions.{Reachable, from-empty, with-edge, with-vertex}
+use Rattle.model.proofs.Registers.Accepted.{Accepted, accepted, added, landed-is, vertex-lands}
+use Rattle.model.proofs.Registers.Held.{GrowsAgain, lands-more, onVertices}
+use Rattle.model.proofs.Registers.Labelled.{Labelled}
+use Rattle.model.proofs.Registers.Kept.{Kept, kept-empty, kept-vertex, kept-edge}
 
 -- ---- which registers these are
 
 pub reachable-empty : Reachable empty
 reachable-empty = from-empty refl
-
--- what a list leaves, stopped or not
-pub reachable-list : (r : Register) (bs : List ℕ) → Reachable r → Reachable ((landList r bs) .register)
-reachable-list r bs k = (left-list r bs (history k) (record { reachable = k; history-is = refl })) .reachable
-
-pub reachable-grown : (bs : List ℕ) → Reachable ((growList bs) .register)
-unfolding growList
-reachable-grown bs = reachable-list empty bs reachable-empty
-
--- what a series of calls leaves
-pub reachable-after : (ms : List Made) (r : Register) → Reachable r → Reachable (after ms r)
-reachable-after ms r k = (left-after ms r (history k) (record { reachable = k; history-is = refl })) .reachable
 
 -- ---- what every landing keeps holds of each of them
 

@@ -1,4 +1,4 @@
--- In every register that landing leaves the labels rise by 1 along each chain, from its low end to its high end.
+-- Landing an edge keeps `Sided` (Labels/Rise): low edges at regular vertices, and labels that rise by 1 along an edge between two of them.
 use mathlib.Core.Path.{_≡_}
 use mathlib.Core.Logic.{_≢_}
 use Prim.Native.Nat.{ℕ, _≤_}
@@ -13,8 +13,8 @@ use Rattle.model.proofs.Labels.Laid.{Inserted, fresh, extends, merges, 
 use Rattle.model.proofs.Labels.WearsAfter.{LongEnough}
 use Rattle.model.proofs.Labels.Rise.{Sided, sided-fresh, sided-laid}
 use Rattle.model.proofs.Labels.Following.{labelAt}
-use Rattle.model.proofs.Series.Accepted.{Accepted}
-use Rattle.model.proofs.Series.Labelled.{Labelled, labelled-edge, label-not-zero, edge-inserted, long-marks}
+use Rattle.model.proofs.Registers.Accepted.{Accepted}
+use Rattle.model.proofs.Registers.Labelled.{Labelled, labelled-edge, label-not-zero, edge-inserted, long-marks}
 
 sided-on : (es : List Edge) (p : Edge) → Proper es → p .first ≢ p .second → {blocks : ℕ} {m : Marks} {res : Labelling} → Sided es m → LongEnough (es ++ (p ∷ [])) m
     → ((v : ℕ) → degree (es ++ (p ∷ [])) v ≡ 2 → 1 ≤ labelAt (res .marks) v) → Inserted es p blocks m res → Sided (es ++ (p ∷ [])) (res .marks)

@@ -11,9 +11,9 @@ use Rattle.model.specs.Basics.{maxVertices}
 use Rattle.model.specs.Graph.{Edge}
 use Rattle.model.specs.Register.{Landed, Register, empty, landEdge, landVertex, landed, marksOf, refused, withEdge, withVertex}
 use Rattle.model.specs.Tables.{Stored, countsOf, edgesIn, eqStored, growFrom, held, landEdges, landVertices, storedOf}
-use Rattle.model.proofs.Series.Accepted.{Accepted, accepted, edge-lands, landed-is, lawful-more, not-refused, vertex-lands}
-use Rattle.model.proofs.Series.ReadBack.{edges-read}
-use Rattle.model.proofs.Series.Equality.{eqStored-refl}
+use Rattle.model.proofs.Registers.Accepted.{Accepted, accepted, edge-lands, landed-is, lawful-more, not-refused, vertex-lands}
+use Rattle.model.proofs.Registers.ReadBack.{edges-read}
+use Rattle.model.proofs.Registers.Equality.{eqStored-refl}
 
 -- a register of n vertices alone
 unfoldable pub onVertices : ℕ → Register

@@ -7,11 +7,11 @@ use Rattle.model.specs.Basics.{maxVertices}
 use Rattle.model.specs.Graph.{Edge, edgeAt}
 use Rattle.model.specs.Register.{Register, empty, withEdge, withVertex}
 use Rattle.model.specs.Notions.{Lawful, Reachable}
-use Rattle.model.proofs.Series.Accepted.{Accepted, lawful-more}
+use Rattle.model.proofs.Registers.Accepted.{Accepted, lawful-more}
 use Rattle.model.proofs.Walks.Degree.{AllLawful}
 use Rattle.model.proofs.Walks.NewEdge.{Which, is-new, is-old, which, edgeAt-last}
 use Rattle.model.proofs.Walks.Snoc.{edgeAt-old}
-use Rattle.model.proofs.Series.Reachable.{reachable-keeps}
+use Rattle.model.proofs.Registers.Reachable.{reachable-keeps}
 
 lawful-snoc : (n : ℕ) (es : List Edge) (e : Edge) → AllLawful n es → Lawful n e → AllLawful n (es ++ (e ∷ []))
 lawful-snoc n es e f g d l = go (which es e d l)

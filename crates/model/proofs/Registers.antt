@@ -1,0 +1,13 @@
+pub mod Accepted
+pub mod Labelled
+pub mod Sides
+pub mod ReadBack
+pub mod Equality
+pub mod Held
+pub mod Kept
+pub mod Reachable
+pub mod Lawful
+pub mod RingTest
+pub mod Answers
+pub mod Small
+pub mod OnlyHeld
