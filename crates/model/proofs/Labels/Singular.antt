@@ -32,9 +32,9 @@ module _ (es : List Edge) (p : Edge) (d : p .first ≢ p .second) {m : Marks} (z
   pub bare-laid : {blocks x y e : ℕ} {res : Labelling} {path : List Pass} → length (m .labels) ≡ length (m .lows) → Laid es p blocks m res x y e path → BareSingular (es ++ (p ∷ [])) (res .marks)
   bare-laid {path = path} ll l v n = rw (l .marks-is) (go (decLt v (length (l .m′ .labels))))
     where
-      worn : (t w : ℕ) → Wears (l .up) (l .label) path (l .m′) v t w → t ≡ 0
-      worn t w (given i s j q r u) = absurd (n (rw q at (trail-regular (l .trail) i s j)))
-      worn t w (kept k r u) = r ∙ bare-split (l .bare) v n
+      worn : (t low : ℕ) → Wears (l .up) (l .label) path (l .m′) v t low → t ≡ 0
+      worn t low (given i s j q r u) = absurd (n (rw q at (trail-regular (l .trail) i s j)))
+      worn t low (kept k r u) = r ∙ bare-split (l .bare) v n
 
       go : Dec (v < length (l .m′ .labels)) → getD ((following (l .up) (l .label) path (l .m′)) .labels) v 0 ≡ 0
       go (yes h) = worn _ _ (wears (l .up) (l .label) path (l .m′) v h (omega (arith, h, l .bare .labels-long, l .bare .lows-long)))
