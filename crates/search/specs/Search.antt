@@ -6,11 +6,12 @@ use mathlib.Core.List.{List, []}
 use lib.ListN.{length, getD, set}
 use Rattle.model.specs.Basics.{sum, maxVertices, maxEdges, maxLength}
 use Rattle.model.specs.Graph.{Edge}
-use Rattle.model.specs.Distance.{Joins, Distance, joined, notJoined}
+use Rattle.model.specs.Distance as model
+use Rattle.model.specs.Distance.{Joins}
 use Rattle.model.specs.Tables.{edgeIn, edgesIn}
 use Rattle.tables.specs.Steps.{tables}
-use Rattle.search.specs.declared.shortest.Measured.{Measured}
-use Rattle.search.specs.declared.shortest.Measured.the-variants.{Joined, NotJoined}
+use Rattle.search.specs.declared.shortest.Distance.{Distance}
+use Rattle.search.specs.declared.shortest.Distance.the-variants.{Joined, NotJoined}
 
 -- edge e of the tables, and the first m: the other tables do not matter
 abbrev pub edge : List ℕ → List ℕ → ℕ → Edge
@@ -103,6 +104,6 @@ pub record Settled (ends lengths : List ℕ) (m from : ℕ) (distances distances
   pub still : (e : ℕ) → e < m → Still ends lengths distances′ (getD distances′ from 0) e
 
 -- a distance as the code answers it
-abbrev pub measuredIn : Measured → Distance
-measuredIn (Joined d) = joined d
-measuredIn NotJoined = notJoined
+abbrev pub distanceIn : Distance → model.Distance
+distanceIn (Joined d) = model.joined d
+distanceIn NotJoined = model.notJoined
