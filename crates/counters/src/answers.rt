@@ -7,7 +7,7 @@ pub enum Stop {
     Stopped(usize, Refusal),
 }
 
-// The list was read; or the call itself was refused.
+// The list was read, and how far it was landed; or the call itself was refused.
 pub enum ListAnswer {
     Read(Stop),
     Refused(Refusal),

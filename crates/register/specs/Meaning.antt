@@ -1,4 +1,4 @@
--- What the enums and structs of this crate mean.
+-- What the enum and the struct of this crate mean.
 use Rattle.model.specs.Tables.{Tables}
 use Rattle.counters.specs.Refusals.{numberOf}
 use Rattle.counters.specs.Answers.{countsIn, stopIn}
