@@ -1,6 +1,5 @@
 // Grow: a list landed on the cleared register.
 use crate::landing::Landing;
-use crate::landing::landing_of;
 use admission::gate::clear_if_fit;
 use counters::answers::ListAnswer;
 use counters::counts::Counts;
@@ -53,7 +52,12 @@ fn grow_with(
         };
     }
     let reading = grow_list(degrees, sides, ends, lengths, labels, list);
-    landing_of(reading)
+    let counts = reading.counts;
+    let stop = reading.stop;
+    Landing {
+        counts,
+        answer: ListAnswer::Read(stop),
+    }
 }
 
 // What outsiders call: the head counters are updated in the caller's copy.

@@ -1,6 +1,5 @@
 // Land: a list landed on the register as it is, once it has passed its replay.
 use crate::landing::Landing;
-use crate::landing::landing_of;
 use admission::gate::Gate;
 use admission::gate::pass_gate;
 use counters::answers::ListAnswer;
@@ -50,7 +49,12 @@ fn land_with(
     match passed {
         Gate::Open => {
             let reading = land_list(degrees, sides, ends, lengths, labels, counts, list);
-            landing_of(reading)
+            let counts = reading.counts;
+            let stop = reading.stop;
+            Landing {
+                counts,
+                answer: ListAnswer::Read(stop),
+            }
         }
         Gate::Refused(refusal) => Landing {
             counts,

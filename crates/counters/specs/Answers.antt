@@ -1,15 +1,20 @@
 -- Document 01's values of the answers to grow and land, and of the head.
-use Rattle.model.specs.Format.{whole, stopped}
+use Rattle.model.specs.Format as format
 use Rattle.model.specs.Queries.{Reply, read, refuses}
 use Rattle.model.specs.Tables as T
 use Rattle.counters.specs.Refusals.{numberOf}
+use Rattle.counters.specs.declared.answers.Stop.{Stop}
+use Rattle.counters.specs.declared.answers.Stop.the-variants.{Whole, Stopped}
 use Rattle.counters.specs.declared.answers.ListAnswer.{ListAnswer}
-use Rattle.counters.specs.declared.answers.ListAnswer.the-variants.{Whole, Stopped, Refused}
+use Rattle.counters.specs.declared.answers.ListAnswer.the-variants.{Read, Refused}
 use Rattle.counters.specs.declared.counts.Counts.{Counts}
 
+abbrev pub stopIn : Stop → format.Stop
+stopIn Whole = format.whole
+stopIn (Stopped k x) = format.stopped k (numberOf x)
+
 abbrev pub listReply : ListAnswer → Reply
-listReply Whole = read whole
-listReply (Stopped k x) = read (stopped k (numberOf x))
+listReply (Read s) = read (stopIn s)
 listReply (Refused x) = refuses (numberOf x)
 
 abbrev pub countsIn : Counts → T.Counts

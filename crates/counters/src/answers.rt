@@ -1,9 +1,14 @@
-// What grow and land answer: the whole list was landed; it stopped in a record (from 0), inside it with a refusal; or the call itself
-// was refused. A definition, `listReply`, gives document 01's values of each case.
+// What grow and land answer. Definitions, `stopIn` and `listReply`, give document 01's values of each case.
 use crate::refusals::Refusal;
 
-pub enum ListAnswer {
+// How far a list was landed: whole, or up to a record (from 0) that was refused.
+pub enum Stop {
     Whole,
     Stopped(usize, Refusal),
+}
+
+// The list was read, and how far it was landed; or the call itself was refused.
+pub enum ListAnswer {
+    Read(Stop),
     Refused(Refusal),
 }

@@ -2,7 +2,7 @@
 use counters::counts::Counts;
 use counters::numbers::Vertex;
 use counters::refusals::Refusal;
-use search::shortest::Measured;
+use search::shortest::Distance;
 use search::shortest::search;
 use tables::whole::clear_tables;
 ghost use mathlib.Core.Path.{_≡_};
@@ -10,27 +10,15 @@ ghost use mathlib.Core.List.{List};
 ghost use Prim.Native.Nat.{ℕ, _≤_};
 ghost use lib.ListN.{length};
 ghost use Rattle.model.specs.Basics.{maxVertices};
-ghost use Rattle.model.specs.Queries as queries;
 ghost use Rattle.counters.specs.Answers.{countsIn};
 ghost use Rattle.tables.specs.Steps.{tables, zeroed};
-ghost use Rattle.search.specs.Search.{measuredIn};
-ghost use Rattle.distance.specs.Meaning.{distanceReply};
+ghost use Rattle.distance.specs.Meaning.{measuredReply};
 ghost use Rattle.distance.specs.Measure.{Measurable, measureIn};
 
 // What outsiders are answered.
-pub enum Distance {
-    Joined(u32),
-    NotJoined,
+pub enum Measured {
+    Distance(Distance),
     Refused(Refusal),
-}
-
-fn distance_of(measured: Measured) -> Distance
-    ensures { λ r. ⌜ distanceReply r ≡ queries.measured (measuredIn measured) ⌝ }
-{
-    match measured {
-        Measured::Joined(millimetres) => Distance::Joined(millimetres),
-        Measured::NotJoined => Distance::NotJoined,
-    }
 }
 
 // What the scratch holds at the end is of no use to the caller.
@@ -45,21 +33,21 @@ fn measure_in(
     keys: &mut [u32],
     from: Vertex,
     to: Vertex,
-) -> Distance
+) -> Measured
     requires { ⌜ Measurable (now ends) (now lengths) (countsIn counts) × (maxVertices ≤ length (now distances)) ⌝ }
-    ensures { λ r. ⌜ ((degrees sides labels : List ℕ) → distanceReply r
+    ensures { λ r. ⌜ ((degrees sides labels : List ℕ) → measuredReply r
         ≡ measureIn (tables degrees sides (now (ends .entry)) (now (lengths .entry)) labels) (countsIn counts) (from .0) (to .0)) ⌝ }
 {
     let v = from.0;
     let w = to.0;
     if counts.vertices <= v {
-        return Distance::Refused(Refusal::NotLanded);
+        return Measured::Refused(Refusal::NotLanded);
     }
     if counts.vertices <= w {
-        return Distance::Refused(Refusal::NotLanded);
+        return Measured::Refused(Refusal::NotLanded);
     }
     let edges = counts.edges;
-    let measured = search(
+    let distance = search(
         ends,
         lengths,
         edges,
@@ -71,7 +59,7 @@ fn measure_in(
         distances,
         keys,
     );
-    distance_of(measured)
+    Measured::Distance(distance)
 }
 
 // The tables are those of a register: a replay has shown it, or the call grew them. The scratch tables serve the search as heads, heap,
@@ -87,11 +75,11 @@ pub fn measure(
     slabels: &mut [u32],
     from: Vertex,
     to: Vertex,
-) -> Distance
+) -> Measured
     requires { ⌜ Measurable (now ends) (now lengths) (countsIn counts) × (maxVertices ≤ length (now slengths)) ⌝ }
     ensures { λ r. ⌜ (tables (now (sdegrees .exit)) (now (ssides .exit)) (now (sends .exit)) (now (slengths .exit)) (now (slabels .exit))
         ≡ zeroed (tables (now (sdegrees .entry)) (now (ssides .entry)) (now (sends .entry)) (now (slengths .entry)) (now (slabels .entry))))
-        × ((degrees sides labels : List ℕ) → distanceReply r
+        × ((degrees sides labels : List ℕ) → measuredReply r
         ≡ measureIn (tables degrees sides (now (ends .entry)) (now (lengths .entry)) labels) (countsIn counts) (from .0) (to .0)) ⌝ }
 {
     let answer = measure_in(

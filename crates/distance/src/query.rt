@@ -1,6 +1,6 @@
 // What outsiders call: the distance between two vertices over lent tables. The register stays as it is; scratch ends all zero. It asks
 // nothing of its caller: 25 and 21 stand before the search, then 5.
-use crate::measure::Distance;
+use crate::measure::Measured;
 use crate::measure::measure;
 use admission::gate::Gate;
 use admission::gate::pass_gate;
@@ -12,7 +12,7 @@ ghost use Rattle.model.specs.Calls.{measures, step};
 ghost use Rattle.counters.specs.Answers.{countsIn};
 ghost use Rattle.tables.specs.Steps.{tables};
 ghost use Rattle.admission.specs.Lent.{lent, outcome};
-ghost use Rattle.distance.specs.Meaning.{distanceReply};
+ghost use Rattle.distance.specs.Meaning.{measuredReply};
 
 pub fn distance(
     degrees: &[u16],
@@ -28,9 +28,9 @@ pub fn distance(
     slabels: &mut [u32],
     from: Vertex,
     to: Vertex,
-) -> Distance
+) -> Measured
     ensures { λ r. ⌜ outcome (tables (now (degrees .entry)) (now (sides .entry)) (now (ends .entry)) (now (lengths .entry)) (now (labels .entry))) (countsIn counts)
-        (tables (now (sdegrees .exit)) (now (ssides .exit)) (now (sends .exit)) (now (slengths .exit)) (now (slabels .exit))) [] (distanceReply r)
+        (tables (now (sdegrees .exit)) (now (ssides .exit)) (now (sends .exit)) (now (slengths .exit)) (now (slabels .exit))) [] (measuredReply r)
         ≡ step (measures (from .0) (to .0))
         (lent (tables (now (degrees .entry)) (now (sides .entry)) (now (ends .entry)) (now (lengths .entry)) (now (labels .entry))) (countsIn counts)
         (tables (now (sdegrees .entry)) (now (ssides .entry)) (now (sends .entry)) (now (slengths .entry)) (now (slabels .entry)))) ⌝ }
@@ -61,6 +61,6 @@ pub fn distance(
             from,
             to,
         ),
-        Gate::Refused(refusal) => Distance::Refused(refusal),
+        Gate::Refused(refusal) => Measured::Refused(refusal),
     }
 }

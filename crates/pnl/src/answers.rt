@@ -1,9 +1,10 @@
 // What a call from C answers: 32-bit numbers in the answer slice and the count of their bytes, or a refusal's number made negative.
 use counters::refusals::Refusal;
-use distance::measure::Distance;
+use distance::measure::Measured;
 use lookups::find::FoundChain;
 use lookups::reach::Reached;
 use queries::numbers::wide;
+use search::shortest::Distance;
 use tables::access::at32;
 use text::writing::put_byte;
 ghost use mathlib.Core.Path.{_≡_};
@@ -14,7 +15,7 @@ ghost use Rattle.model.specs.Register.{Register};
 ghost use Rattle.model.specs.FromC.{bytes4, bytesOf, returnsNumbers, returnsReply};
 ghost use Rattle.counters.specs.Refusals.{numberOf};
 ghost use Rattle.lookups.specs.Meaning.{foundReply, reachedReply};
-ghost use Rattle.distance.specs.Meaning.{distanceReply};
+ghost use Rattle.distance.specs.Meaning.{measuredReply};
 ghost use Rattle.text.specs.Pages.{page, write};
 ghost use Rattle.pnl.specs.FromC.{returned};
 
@@ -95,12 +96,14 @@ pub fn answer_reached(answer: &mut [u8], reached: Reached) -> i32
 // What stands for a distance where there is no way.
 pub const NOT_JOINED: u32 = 4294967295;
 
-pub fn answer_distance(answer: &mut [u8], distance: Distance) -> i32
-    ensures { λ r. ⌜ ((register : Register) → returned (now (answer .exit)) r ≡ returnsReply register (now (answer .entry)) (distanceReply distance)) ⌝ }
+pub fn answer_distance(answer: &mut [u8], measured: Measured) -> i32
+    ensures { λ r. ⌜ ((register : Register) → returned (now (answer .exit)) r ≡ returnsReply register (now (answer .entry)) (measuredReply measured)) ⌝ }
 {
-    match distance {
-        Distance::Joined(millimetres) => answer_numbers(answer, &[millimetres]),
-        Distance::NotJoined => answer_numbers(answer, &[NOT_JOINED]),
-        Distance::Refused(refusal) => refused(refusal),
+    match measured {
+        Measured::Distance(distance) => match distance {
+            Distance::Joined(millimetres) => answer_numbers(answer, &[millimetres]),
+            Distance::NotJoined => answer_numbers(answer, &[NOT_JOINED]),
+        },
+        Measured::Refused(refusal) => refused(refusal),
     }
 }

@@ -4,7 +4,7 @@ use counters::counts::Counts;
 use counters::numbers::CheckedVertex;
 use counters::numbers::Vertex;
 use counters::refusals::Refusal;
-use distance::measure::Distance;
+use distance::measure::Measured;
 use lookups::reach::Reached;
 use lookups::reach::reach_in;
 ghost use mathlib.Core.Path.{_≡_};
@@ -15,7 +15,7 @@ ghost use Rattle.counters.specs.Answers.{countsIn};
 ghost use Rattle.tables.specs.Steps.{tables};
 ghost use Rattle.queries.specs.Finding.{reachIn};
 ghost use Rattle.lookups.specs.Meaning.{reachedReply};
-ghost use Rattle.distance.specs.Meaning.{distanceReply};
+ghost use Rattle.distance.specs.Meaning.{measuredReply};
 ghost use Rattle.distance.specs.Measure.{Measurable, measureIn};
 
 pub fn reach_checked(
@@ -38,15 +38,15 @@ pub fn reach_checked(
 }
 
 // The first is checked.
-fn measure_to(ends: &[u16], lengths: &[u32], counts: Counts, from: Vertex, to: u32) -> Distance
+fn measure_to(ends: &[u16], lengths: &[u32], counts: Counts, from: Vertex, to: u32) -> Measured
     requires { ⌜ Measurable (now ends) (now lengths) (countsIn counts) ⌝ }
-    ensures { λ r. ⌜ ((degrees sides labels : List ℕ) → distanceReply r
+    ensures { λ r. ⌜ ((degrees sides labels : List ℕ) → measuredReply r
         ≡ measureIn (tables degrees sides (now (ends .entry)) (now (lengths .entry)) labels) (countsIn counts) (from .0) to) ⌝ }
 {
     let checked = Vertex::new(to);
     match checked {
         CheckedVertex::Is(v) => distance_in(ends, lengths, counts, from, v),
-        CheckedVertex::OutOfRange => Distance::Refused(Refusal::NotLanded),
+        CheckedVertex::OutOfRange => Measured::Refused(Refusal::NotLanded),
     }
 }
 
@@ -56,14 +56,14 @@ pub fn measure_checked(
     counts: Counts,
     from: u32,
     to: u32,
-) -> Distance
+) -> Measured
     requires { ⌜ Measurable (now ends) (now lengths) (countsIn counts) ⌝ }
-    ensures { λ r. ⌜ ((degrees sides labels : List ℕ) → distanceReply r
+    ensures { λ r. ⌜ ((degrees sides labels : List ℕ) → measuredReply r
         ≡ measureIn (tables degrees sides (now (ends .entry)) (now (lengths .entry)) labels) (countsIn counts) from to) ⌝ }
 {
     let checked = Vertex::new(from);
     match checked {
         CheckedVertex::Is(v) => measure_to(ends, lengths, counts, v, to),
-        CheckedVertex::OutOfRange => Distance::Refused(Refusal::NotLanded),
+        CheckedVertex::OutOfRange => Measured::Refused(Refusal::NotLanded),
     }
 }

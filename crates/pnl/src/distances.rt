@@ -4,14 +4,14 @@ use counters::numbers::Vertex;
 use counters::sizes::ENDS;
 use counters::sizes::SIDES;
 use counters::sizes::VERTICES;
-use distance::measure::Distance;
+use distance::measure::Measured;
 use distance::measure::measure;
 ghost use mathlib.Core.Path.{_≡_};
 ghost use mathlib.Core.List.{List};
 ghost use Prim.Native.Nat.{ℕ};
 ghost use Rattle.counters.specs.Answers.{countsIn};
 ghost use Rattle.tables.specs.Steps.{tables};
-ghost use Rattle.distance.specs.Meaning.{distanceReply};
+ghost use Rattle.distance.specs.Meaning.{measuredReply};
 ghost use Rattle.distance.specs.Measure.{Measurable, measureIn};
 
 // The arrays are the scratch of the search.
@@ -21,9 +21,9 @@ pub fn distance_in(
     counts: Counts,
     from: Vertex,
     to: Vertex,
-) -> Distance
+) -> Measured
     requires { ⌜ Measurable (now ends) (now lengths) (countsIn counts) ⌝ }
-    ensures { λ r. ⌜ ((degrees sides labels : List ℕ) → distanceReply r
+    ensures { λ r. ⌜ ((degrees sides labels : List ℕ) → measuredReply r
         ≡ measureIn (tables degrees sides (now (ends .entry)) (now (lengths .entry)) labels) (countsIn counts) (from .0) (to .0)) ⌝ }
 {
     let mut heads = [0u16; VERTICES];

@@ -1,4 +1,5 @@
 // The bytes that the printing program prints, built in a lent slice.
+use counters::answers::Stop;
 use counters::counts::Counts;
 use counters::sizes::EDGES;
 use counters::sizes::ENDS;
@@ -7,7 +8,6 @@ use counters::sizes::VERTICES;
 use queries::names::is_name;
 use queries::rows::count_rows;
 use queries::rows::row_at;
-use register::records::Stop;
 use register::records::grow_list;
 use text::lines::put_line2;
 use text::lines::put_line4;
@@ -19,9 +19,8 @@ ghost use Prim.Native.Nat.{_+_, _*_, _≤_};
 ghost use lib.ListN.{length, take};
 ghost use Rattle.model.specs.Basics.{upTo};
 ghost use Rattle.model.specs.Printing.{lines, printed, stopLine};
-ghost use Rattle.counters.specs.Answers.{countsIn};
+ghost use Rattle.counters.specs.Answers.{countsIn, stopIn};
 ghost use Rattle.queries.specs.Chains.{rowsIn};
-ghost use Rattle.register.specs.Meaning.{stopMeans};
 ghost use Rattle.io.specs.Counts.{Counts as Counted};
 ghost use Rattle.text.specs.Pages.{page, write};
 ghost use Rattle.print.specs.Listing.{listingIn, headBytes, rowBytes, stopBytes, roomBytes};
@@ -94,7 +93,7 @@ fn put_sheet(
 
 // The line of a list that stopped.
 fn put_stop(out: &mut [u8], at: usize, stop: Stop) -> usize
-    ensures { λ r. ⌜ (page (now (out .exit)) r ≡ write (stopLine (stopMeans stop)) (page (now (out .entry)) at)) × (r ≤ at + stopBytes) ⌝ }
+    ensures { λ r. ⌜ (page (now (out .exit)) r ≡ write (stopLine (stopIn stop)) (page (now (out .entry)) at)) × (r ≤ at + stopBytes) ⌝ }
 {
     match stop {
         Stop::Whole => at,
@@ -118,7 +117,7 @@ fn put_listing(
 ) -> usize
     ensures { λ r. ⌜ (page (now (out .exit)) r
         ≡ write (listingIn (countsIn counts)
-        (rowsIn (now (degrees .entry)) (now (sides .entry)) (now (ends .entry)) (now (lengths .entry)) (counts .edges) (upTo (counts .edges))) (stopMeans stop))
+        (rowsIn (now (degrees .entry)) (now (sides .entry)) (now (ends .entry)) (now (lengths .entry)) (counts .edges) (upTo (counts .edges))) (stopIn stop))
         (page (now (out .entry)) 0)) × (r ≤ headBytes + rowBytes * counts .edges + stopBytes) ⌝ }
 {
     let vertices = counts.vertices;

@@ -1,4 +1,5 @@
 // A list landed on the tables, record by record.
+use counters::answers::Stop;
 use counters::counts::Counts;
 use counters::numbers::Vertex;
 use counters::refusals::Refusal;
@@ -25,12 +26,6 @@ pub enum Step {
     End,
     Landed(Counts, Cursor),
     Refused(Refusal),
-}
-
-// How far a list was landed: whole, or up to a record (from 0) that was refused.
-pub enum Stop {
-    Whole,
-    Stopped(usize, Refusal),
 }
 
 // The counts that a list leaves, and how far it was landed.

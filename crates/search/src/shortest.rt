@@ -11,10 +11,10 @@ ghost use Rattle.model.specs.Basics.{maxVertices};
 ghost use Rattle.model.specs.Tables.{edgesIn};
 ghost use Rattle.model.specs.Distance.{distance};
 ghost use Rattle.tables.specs.Steps.{tables};
-ghost use Rattle.search.specs.Search.{Searchable, Started, unreached, measuredIn};
+ghost use Rattle.search.specs.Search.{Searchable, Started, unreached, distanceIn};
 
 // A distance in millimetres, or that there is no way.
-pub enum Measured {
+pub enum Distance {
     Joined(u32),
     NotJoined,
 }
@@ -36,13 +36,13 @@ pub fn start(distances: &mut [u32], goal: u16)
 }
 
 // The answer for a settled distance.
-fn answer_of(distance: u32) -> Measured
-    ensures { λ r. ⌜ (distance < unreached → r ≡ Measured.Joined distance) × (unreached ≤ distance → r ≡ Measured.NotJoined) ⌝ }
+fn answer_of(distance: u32) -> Distance
+    ensures { λ r. ⌜ (distance < unreached → r ≡ Distance.Joined distance) × (unreached ≤ distance → r ≡ Distance.NotJoined) ⌝ }
 {
     if distance < UNREACHED {
-        Measured::Joined(distance)
+        Distance::Joined(distance)
     } else {
-        Measured::NotJoined
+        Distance::NotJoined
     }
 }
 
@@ -58,9 +58,9 @@ pub fn search(
     next: &mut [u16],
     distances: &mut [u32],
     keys: &mut [u32],
-) -> Measured
+) -> Distance
     requires { ⌜ Searchable (now ends) (now lengths) edges × ((from < maxVertices) × ((goal < maxVertices) × (maxVertices ≤ length (now distances)))) ⌝ }
-    ensures { λ r. ⌜ ((degrees sides labels : List ℕ) → measuredIn r
+    ensures { λ r. ⌜ ((degrees sides labels : List ℕ) → distanceIn r
         ≡ distance (edgesIn (tables degrees sides (now (ends .entry)) (now (lengths .entry)) labels) edges) from goal) ⌝ }
 {
     start(distances, goal);

@@ -28,7 +28,7 @@ use Rattle.lookups.specs.Meaning.{foundReply, listedReply, reachedReply}
 use Rattle.lookups.proofs.find.find as find
 use Rattle.lookups.proofs.reach.reach as reach
 use Rattle.lookups.proofs.sheet.sheet as sheet
-use Rattle.distance.specs.Meaning.{distanceReply}
+use Rattle.distance.specs.Meaning.{measuredReply}
 use Rattle.distance.proofs.query.distance as distance
 
 -- ---- the parameters of a call
@@ -85,7 +85,7 @@ module _ {M : Type 1} (𝓤 : URA M) (H : Heap 𝓤) (A : Atoms 𝓤) (mem : Mem
 
   pub distance-steps : (κs : Lfts 10) (a : Args distance.signature κs)
       → distance.clauses 𝓤 H A mem run κs a
-      ≡ Ensures distance.ended κs (λ r z. Steps a z [] (distanceReply r) (measures (own a .0 .0) (own a .1 .0 .0)))
+      ≡ Ensures distance.ended κs (λ r z. Steps a z [] (measuredReply r) (measures (own a .0 .0) (own a .1 .0 .0)))
   distance-steps κs a = refl
 
   -- with the arguments a, and z at its end, a landing leaves and answers what `step` has at call c

@@ -4,6 +4,7 @@ mod lists;
 
 use calls::grow::grow_from;
 use counters::answers::ListAnswer;
+use counters::answers::Stop;
 use counters::counts::Counts;
 use counters::sizes::EDGES;
 use counters::sizes::ENDS;
@@ -17,16 +18,20 @@ use text::writing::put_byte;
 
 fn record_of(answer: ListAnswer) -> u64 {
     match answer {
-        ListAnswer::Whole => 0,
-        ListAnswer::Stopped(record, refusal) => record as u64,
+        ListAnswer::Read(stop) => match stop {
+            Stop::Whole => 0,
+            Stop::Stopped(record, refusal) => record as u64,
+        },
         ListAnswer::Refused(refusal) => 0,
     }
 }
 
 fn refusal_of(answer: ListAnswer) -> u64 {
     match answer {
-        ListAnswer::Whole => 0,
-        ListAnswer::Stopped(record, refusal) => refusal.number() as u64,
+        ListAnswer::Read(stop) => match stop {
+            Stop::Whole => 0,
+            Stop::Stopped(record, refusal) => refusal.number() as u64,
+        },
         ListAnswer::Refused(refusal) => refusal.number() as u64,
     }
 }

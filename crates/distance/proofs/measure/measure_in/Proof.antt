@@ -19,10 +19,10 @@ search-requires c κs =
 
 returns-3 : tie.Need-returns-3
 returns-3 c =
-    let at-search = c .before .before .before .before .before .before .before .before .before .before .before in
+    let at-search = c .before .before .before .before .before .before .before .before .before .before in
     let at-if2 = at-search .before .before .before .before .before .before in
     let at-if1 = at-if2 .before .before in
-    λ degrees sides labels. measure-landed _ _ _ _ _ _ (omega (arith, at-if1 .if1 .left)) (omega (arith, at-if2 .if2 .left)) (at-search .search .ensures degrees sides labels) (c .distance-of .ensures)
+    λ degrees sides labels. measure-landed _ _ _ _ _ (omega (arith, at-if1 .if1 .left)) (omega (arith, at-if2 .if2 .left)) (at-search .search .ensures degrees sides labels)
 
 -- the needs in the order of the code
 pub measure-in-spec : {M : Type 1} → statement M
@@ -32,7 +32,6 @@ measure-in-spec =
     returns
     returns-2
     search-requires
-    (λ c κs. search needs)
     (λ c. search needs)
     (λ c. search needs)
     (λ c. search needs)
