@@ -1,5 +1,5 @@
 // Grow: a list landed on the cleared register.
-use crate::landing::Landing;
+use crate::answered::Answered;
 use admission::gate::clear_if_fit;
 use counters::answers::ListAnswer;
 use counters::counts::Counts;
@@ -27,7 +27,7 @@ fn grow_with(
     slengths: &mut [u32],
     slabels: &mut [u32],
     list: &[u8],
-) -> Landing
+) -> Answered
     ensures { λ r. ⌜ outcome (tables (now (degrees .exit)) (now (sides .exit)) (now (ends .exit)) (now (lengths .exit)) (now (labels .exit))) (countsIn (r .counts))
         (tables (now (sdegrees .exit)) (now (ssides .exit)) (now (sends .exit)) (now (slengths .exit)) (now (slabels .exit))) [] (listReply (r .answer))
         ≡ step (grows (now (list .entry)))
@@ -46,7 +46,7 @@ fn grow_with(
         slengths,
         slabels,
     ) {
-        return Landing {
+        return Answered {
             counts,
             answer: ListAnswer::Refused(Refusal::WrongSize),
         };
@@ -54,7 +54,7 @@ fn grow_with(
     let reading = grow_list(degrees, sides, ends, lengths, labels, list);
     let counts = reading.counts;
     let stop = reading.stop;
-    Landing {
+    Answered {
         counts,
         answer: ListAnswer::Read(stop),
     }
@@ -115,7 +115,7 @@ pub fn grow_from(
     slengths: &mut [u32],
     slabels: &mut [u32],
     list: &[u8],
-) -> Landing
+) -> Answered
     ensures { λ r. ⌜ outcome (tables (now (degrees .exit)) (now (sides .exit)) (now (ends .exit)) (now (lengths .exit)) (now (labels .exit))) (countsIn (r .counts))
         (tables (now (sdegrees .exit)) (now (ssides .exit)) (now (sends .exit)) (now (slengths .exit)) (now (slabels .exit))) [] (listReply (r .answer))
         ≡ step (grows (now (list .entry)))
@@ -137,5 +137,5 @@ pub fn grow_from(
         slabels,
         list,
     );
-    Landing { counts, answer }
+    Answered { counts, answer }
 }

@@ -1,5 +1,5 @@
 // Land: a list landed on the register as it is, once it has passed its replay.
-use crate::landing::Landing;
+use crate::answered::Answered;
 use admission::gate::Gate;
 use admission::gate::pass_gate;
 use counters::answers::ListAnswer;
@@ -26,7 +26,7 @@ fn land_with(
     slengths: &mut [u32],
     slabels: &mut [u32],
     list: &[u8],
-) -> Landing
+) -> Answered
     ensures { λ r. ⌜ outcome (tables (now (degrees .exit)) (now (sides .exit)) (now (ends .exit)) (now (lengths .exit)) (now (labels .exit))) (countsIn (r .counts))
         (tables (now (sdegrees .exit)) (now (ssides .exit)) (now (sends .exit)) (now (slengths .exit)) (now (slabels .exit))) [] (listReply (r .answer))
         ≡ step (lands (now (list .entry)))
@@ -51,12 +51,12 @@ fn land_with(
             let reading = land_list(degrees, sides, ends, lengths, labels, counts, list);
             let counts = reading.counts;
             let stop = reading.stop;
-            Landing {
+            Answered {
                 counts,
                 answer: ListAnswer::Read(stop),
             }
         }
-        Gate::Refused(refusal) => Landing {
+        Gate::Refused(refusal) => Answered {
             counts,
             answer: ListAnswer::Refused(refusal),
         },

@@ -1,6 +1,6 @@
 // Grow and land, as outsiders call them, over lent tables, counts and scratch (admission says which) and a list.
 // Neither asks anything of its caller: what is lent is tested first.
 // `grow` and `land` are thin: they take the counts apart, and `grow_with` and `land_with` do the work.
+pub mod answered;
 pub mod grow;
 pub mod land;
-pub mod landing;

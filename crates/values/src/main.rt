@@ -51,7 +51,7 @@ fn put_result(out: &mut [u8], at: usize, bytes: &[u8], n: usize) -> usize {
     let mut sends = [0u16; ENDS];
     let mut slengths = [0u32; EDGES];
     let mut slabels = [0u32; VERTICES];
-    let landing = grow_from(
+    let answered = grow_from(
         Counts::none(),
         &mut degrees,
         &mut sides,
@@ -65,8 +65,8 @@ fn put_result(out: &mut [u8], at: usize, bytes: &[u8], n: usize) -> usize {
         &mut slabels,
         &bytes[..n],
     );
-    let counts = landing.counts;
-    let answer = landing.answer;
+    let counts = answered.counts;
+    let answer = answered.answer;
     let vertices = counts.vertices;
     let edges = counts.edges;
     put_line4(

@@ -45,13 +45,13 @@ use denote.Triple.Clauses.{Lasts, atExit, ensured, lasts}
 use denote.Triple.Table.{entered, cited}
 use denote.Triple.Walked.{says, Stays, walkOf, Walks, ends-at, walked, walk-meets}
 use Rattle.counters.specs.declared.counts.Counts.{Counts}
-use Rattle.calls.specs.declared.landing.Landing.{Landing}
+use Rattle.calls.specs.declared.answered.Answered.{Answered}
 use Rattle.counters.specs.declared.answers.ListAnswer.{ListAnswer}
 use Rattle.list.proofs.Passed.{tailOf, all-passed, all-fit, all-passed-go, gone, lies-in, lies-out}
 use Rattle.counters.proofs.counts.Counts as T
 use Rattle.counters.proofs.counts.Counts.Laws as T′
-use Rattle.calls.proofs.landing.Landing as L
-use Rattle.calls.proofs.landing.Landing.Laws as L′
+use Rattle.calls.proofs.answered.Answered as L
+use Rattle.calls.proofs.answered.Answered.Laws as L′
 use Rattle.counters.proofs.answers.ListAnswer as O
 use Rattle.counters.proofs.answers.ListAnswer.Laws as O′
 use Rattle.calls.proofs.grow.grow as callee
@@ -109,7 +109,7 @@ module _ {M : Type 1} (𝓤 : URA M) (H : Heap 𝓤) (A : Atoms 𝓤) (W : Given
   goes : (l ν : ℕ) (γ : GName) → ent 𝓤 (sep 𝓤 (sem 𝓤 H A (fsep (MutRef (named 0) (ν ∷ []) T.the-row .own (lent l γ) (vptr l 0 ∷ [])) Rest)) (sep 𝓤 (A .lft (ν ∷ []) fullShare) Toks)) (Callee 𝓤 H A at-mem run .pre (to l ν γ))
   goes l ν γ = qed W (‵ (fsep (MutRef (named 0) (ν ∷ []) T.the-row .own (lent l γ) (vptr l 0 ∷ [])) Rest) ∷ (‵ (flft (ν ∷ []) fullShare) ⊛ raw Toks) ∷ []) ∵ move ! (1 ∷ 0 ∷ []) $ join ! $ frame ! $ done !
 
-  abbrev made : ListAnswer → Counts → Landing
+  abbrev made : ListAnswer → Counts → Answered
   made x c = record { counts = c; answer = x }
 
   -- the outcome's relation at its machine value written out

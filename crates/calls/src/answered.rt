@@ -3,7 +3,7 @@ use counters::answers::ListAnswer;
 use counters::counts::Counts;
 
 // The counts, and the answer.
-pub struct Landing {
+pub struct Answered {
     pub counts: Counts,
     pub answer: ListAnswer,
 }
