@@ -12,9 +12,9 @@ ghost use Rattle.counters.specs.Answers.{countsIn, listReply};
 ghost use Rattle.tables.specs.Steps.{tables};
 ghost use Rattle.admission.specs.Lent.{lent, outcome};
 
-// The counts go in and come back by value: `grow` takes its counts apart for it, and its proof cites this contract. `grow_from` promises
-// the same and goes through `grow`.
-fn grow_with(
+// The counts go in and come back by value: `grow` takes its counts apart for it. `grow_from` promises the same and goes through `grow`.
+// It is open, since the proof that `grow` and `land` share names its contract.
+pub fn grow_with(
     counts: Counts,
     degrees: &mut [u16],
     sides: &mut [u16],

@@ -12,7 +12,7 @@ ghost use Rattle.counters.specs.Answers.{countsIn, listReply};
 ghost use Rattle.tables.specs.Steps.{tables};
 ghost use Rattle.admission.specs.Lent.{lent, outcome};
 
-// The counts go in and come back by value: `land` takes its counts apart for it, and its proof cites this contract.
+// The counts go in and come back by value: `land` takes its counts apart for it.
 fn land_with(
     counts: Counts,
     degrees: &mut [u16],
