@@ -85,7 +85,7 @@ renewed re =
 
 module _ (re : Relabelled) where
   open Relabelled re using (it, m, m′, br, lg, blocks′, l, lab, path, up, label, now, path-group, path-beside, path-block, path-has)
-  open Growth it using (es, p, pr, d, gy, k, s)
+  open Growth it using (es, p, pr, d, gy, s)
   open GrownTo (grownTo it) using (new, h′)
   open Renewed (renewed re) using (l′, marksAfter)
 
