@@ -102,12 +102,12 @@ no-ring es p pr t x y e q ss ox oy hx hy a u d = go (end-cases p x ox) (end-case
 
 -- ---- the edge that the test refuses closes one
 
-record Refuses (es : List Edge) (a b : ℕ) : Type 0 where
-  a-leaf : degree es a ≡ 1
-  b-leaf : degree es b ≡ 1
-  arrives : endOnwards es (onlyEdge es a) (far es (onlyEdge es a) a) ≡ b
+pub record Refuses (es : List Edge) (a b : ℕ) : Type 0 where
+  pub a-leaf : degree es a ≡ 1
+  pub b-leaf : degree es b ≡ 1
+  pub arrives : endOnwards es (onlyEdge es a) (far es (onlyEdge es a) a) ≡ b
 
-refuses-of : (es : List Edge) (a b : ℕ) → closesRing es a b ≡ true → Refuses es a b
+pub refuses-of : (es : List Edge) (a b : ℕ) → closesRing es a b ≡ true → Refuses es a b
 unfolding closesRing isLeaf
 refuses-of es a b e =
     let h = and-true (eqb (degree es a) 1 && eqb (degree es b) 1) _ e in
