@@ -18,11 +18,12 @@ use Rattle.labels.proofs.Merges.{join-law}
 use Rattle.model.proofs.Walks.Degree.{Proper, is-two}
 use Rattle.model.proofs.Walks.Turn.{At}
 use Rattle.model.proofs.Walks.Joins.{across}
+use Rattle.model.proofs.Walks.Trail.{trail-cons}
 use Rattle.model.proofs.Walks.Ended.{trail-short}
 use Rattle.model.proofs.Walks.RingFree.{RingFree}
 use Rattle.model.proofs.Walks.Places.{Ith, here, later}
 use Rattle.model.proofs.Labels.Relabellings.{relabelCount-bare, relabelCount-same}
-use Rattle.model.proofs.Labels.Inwards.{Inward, inward, trail-head, trail-regular}
+use Rattle.model.proofs.Labels.Inwards.{Inward, inward, trail-regular}
 use Rattle.model.proofs.Walks.Once.{at-once}
 use Rattle.agreement.proofs.Linked.{Linked, linked-old, off-ends, turn-agrees}
 use Rattle.agreement.proofs.Lockstep.{Shows}
@@ -192,9 +193,9 @@ module _ {es : List Edge} {n : Edge} {degrees sides ends labels : List ℕ} {m :
           → let j = joinIn degrees sides ends labels x y (length es) (length es) in
           MergedAs new labels (merged false (j .sides) (j .labels) blocks (j .count)) (attach blocks dx (inwards es x) path m)
       go (u, us, e) =
-          let hd = trail-head u us ((inward es pr (k .rings) x dx lx ax) .trail) e in
-          let c : isRegular es (u .at) ≡ true = rw (hd .head-at) (hd .head-regular) in
-          rw (join-lays (u .at) (hd .head-at) c, e, attach-some blocks dx u us path m) (record {
+          let hd = trail-cons (rw e at ((inward es pr (k .rings) x dx lx ax) .trail)) in
+          let c : isRegular es (u .at) ≡ true = rw (hd .0) (hd .1) in
+          rw (join-lays (u .at) (hd .0) c, e, attach-some blocks dx u us path m) (record {
             ring = refl;
             holds = record { kept = laid-kept (up (u .at)) (label (u .at)); blocks-are = refl };
             counts = laid-counts (up (u .at)) (label (u .at));

@@ -4,18 +4,18 @@ use mathlib.Core.Logic.{_≢_}
 use Prim.Native.Nat.{ℕ, zero, suc, _+_, _-_, _*_, _≤_, _<_}
 use native.Mathlib.Omega.{arith}
 use native.Mathlib.Decide.{decLt, decLe}
-use mathlib.Core.List.{List}
+use mathlib.Core.List.{List, [], _∷_}
 use lib.ListN.{length}
 use Rattle.model.specs.Graph.{Edge, Pass, degree, far}
 use Rattle.model.specs.Labels.{Marks, inwards}
 use Rattle.model.proofs.Walks.Degree.{Proper, is-two, degree-snoc}
 use Rattle.model.proofs.Walks.Turn.{At}
-use Rattle.model.proofs.Walks.Trail.{Trail, done, pass, Next, next-edge}
+use Rattle.model.proofs.Walks.Trail.{Trail, done, pass, trail-cons, Next, next-edge}
 use Rattle.model.proofs.Groups.Shape.{Shape, size, size-fresh, Successive, Courses}
 use Rattle.model.proofs.Groups.Flip.{flipped, flip-place, flip-low, flip-courses}
 use Rattle.model.proofs.Groups.Climb.{low-path, inwards-short}
 use Rattle.model.proofs.Groups.Grown.{Growth, GrownTo, grownTo, size-x}
-use Rattle.model.proofs.Walks.Places.{Ith, here, later, InPath, ith-below}
+use Rattle.model.proofs.Walks.Places.{Ith, here, later, no-nil, InPath, ith-below}
 use Rattle.model.proofs.Groups.Origins.{Origins, Aligned, offset, fits-near}
 use Rattle.model.proofs.Groups.Ghosts.{Ghosts}
 use Rattle.model.proofs.Groups.Laying.{Laying, begins, growth}
@@ -27,9 +27,8 @@ use Rattle.model.proofs.Groups.Closing.{Joined, closed, size₁, Who, o
 use Rattle.model.proofs.Walks.Joins.{across}
 
 trail-first : {es : List Edge} {d v q w i : ℕ} {s : Pass} {ss : List Pass} → Trail es d v ss q w → Ith s i ss → degree es v ≡ 2
-trail-first {es} {v = v} (pass t c e u) j = is-two es v c
-trail-first {i = zero} done j = elim j [ ]
-trail-first {i = suc i} done j = elim j [ ]
+trail-first {ss = []} u j = absurd (no-nil _ _ _ j refl)
+trail-first {es} {v = v} {ss = t ∷ ss} u j = is-two es v (trail-cons u .1)
 
 -- all regular vertices of a trail are of one block
 one-block : (es : List Edge) → Proper es → {m : Marks} {blocks : ℕ} {h : Shape} {l : Origins} → Aligned es m blocks h l

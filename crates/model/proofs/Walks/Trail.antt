@@ -31,6 +31,12 @@ pub front : {es : List Edge} {d v q z : ℕ} {ss : List Pass} → Trail es d v s
 front done = nothing refl refl
 front (pass t c e u) = first _ _ refl refl refl c
 
+pub trail-nil : {es : List Edge} {d v q z : ℕ} → Trail es d v [] q z → v ≡ z
+trail-nil done = refl
+
+pub trail-cons : {es : List Edge} {d v q z : ℕ} {s : Pass} {ss : List Pass} → Trail es d v (s ∷ ss) q z → (s .at ≡ v) × (isRegular es v ≡ true)
+trail-cons (pass t c e u) = (refl, c)
+
 -- the next edge of a regular vertex, with its facts
 pub record Next (es : List Edge) (d v t : ℕ) : Type 0 where
   pub at : At es v t
