@@ -20,9 +20,9 @@ use Rattle.model.proofs.Walks.Joins.{across, far-ne}
 use Rattle.model.proofs.Walks.Trail.{walk-on, walk-stop}
 use Rattle.model.proofs.Walks.Snoc.{far-old}
 use Rattle.model.proofs.Walks.NewEdge.{at-last, at-new, length-new}
-use Rattle.model.proofs.Walks.Places.{here}
+use Rattle.model.proofs.Walks.Places.{Off, here}
 use Rattle.agreement.proofs.Linked.{Linked}
-use Rattle.agreement.proofs.Passes.{Between, Off, between}
+use Rattle.agreement.proofs.Passes.{Between, between}
 use Rattle.agreement.proofs.Laying.{Everywhere, HoldsMarks, kept-where, lay-kept, layIn}
 use Rattle.agreement.proofs.Opening.{OpenedBoth}
 

@@ -19,11 +19,11 @@ use Rattle.labels.proofs.Labels.{relabel-end, relabel-on}
 use Rattle.model.proofs.Walks.Degree.{Proper}
 use Rattle.model.proofs.Walks.Turn.{At}
 use Rattle.model.proofs.Walks.Trail.{Trail, done, pass, Next, next-edge}
-use Rattle.model.proofs.Walks.Places.{Ith, here, later, no-nil}
+use Rattle.model.proofs.Walks.Places.{Ith, here, later, no-ith, Off, Once, off-cons, once-head, once-tail}
 use Rattle.agreement.proofs.Lists.{length-pair, pair-other}
 use Rattle.agreement.proofs.Relabelled.{relabelled-set}
 use Rattle.agreement.proofs.Linked.{Linked, linked-here, linked-other}
-use Rattle.agreement.proofs.Passes.{AllBetween, Between, Off, Once, off-cons, once-head, once-tail}
+use Rattle.agreement.proofs.Passes.{AllBetween, Between}
 use Rattle.agreement.proofs.Lockstep.{Shows, shows-regular, shows-singular}
 use Rattle.model.proofs.Labels.Relabellings.{moved}
 
@@ -79,7 +79,7 @@ pub lay-kept : (es : List Edge) → ((v d : ℕ) → At es v d → v < maxVertic
     → AllBetween es path → HoldsMarks es (Off path) sides labels m
     → HoldsMarks es Everywhere (layIn up label path sides labels .sides) (layIn up label path sides labels .labels) (labelPath up label path m)
 unfolding layIn labelPath countAhead
-lay-kept es below up label [] sides labels m b k = kept-where Everywhere (λ v _. no-nil v) k
+lay-kept es below up label [] sides labels m b k = kept-where Everywhere (λ v _ i s j. absurd (no-ith j)) k
 lay-kept es below up label (s ∷ ss) sides labels m b k =
     let w = labelVertexIn sides labels (s .at) label (s .before) (s .after) up in
     lay-kept es below up (next up label) ss (w .sides) (w .labels) (mark (s .at) label (if up then s .before else s .after) m) (b .1)

@@ -1,8 +1,7 @@
--- The passes of a path: each vertex is regular and between two edges; none stands on it twice.
-use mathlib.Core.Path.{_≡_, refl, sym, ap, _∙_}
+-- The passes of a path: each vertex is regular and between two edges.
+use mathlib.Core.Path.{_≡_, sym, _∙_}
 use mathlib.Core.Logic.{_≢_}
 use Prim.Native.Nat.{ℕ, zero, suc}
-use native.Mathlib.Omega.{arith}
 use mathlib.Core.List.{List, [], _∷_, _++_}
 use Rattle.model.specs.Graph.{Edge, Pass, degree, endsAt, turn}
 use Rattle.model.proofs.Walks.Degree.{Proper, is-two}
@@ -10,7 +9,7 @@ use Rattle.model.proofs.Walks.Turn.{At, two-edges, turn-between}
 use Rattle.model.proofs.Walks.Trail.{Trail, done, pass, Next, next-edge}
 use Rattle.model.proofs.Walks.Snoc.{turn-old}
 use Rattle.model.proofs.Walks.NewEdge.{at-new}
-use Rattle.model.proofs.Walks.Places.{Ith, here, later}
+use Rattle.model.proofs.Walks.Places.{Ith, here, later, no-ith}
 use Rattle.agreement.proofs.Linked.{degree-old}
 
 -- ---- a regular vertex between two edges
@@ -47,8 +46,7 @@ trail-between {es} {d} {v} pr a (pass t r e u) =
     (record { regular = is-two es v r; before-at = a; after-at = x .at; forth = e; back = x .again }, trail-between pr (x .across .at) u)
 
 pub between-ith : {es : List Edge} (ss : List Pass) → AllBetween es ss → (i : ℕ) (s : Pass) → Ith s i ss → Between es (s .at) (s .before) (s .after)
-between-ith [] b zero s j = elim j [ ]
-between-ith [] b (suc i) s j = elim j [ ]
+between-ith [] b i s j = absurd (no-ith j)
 between-ith (t ∷ ss) b zero s here = b .0
 between-ith (t ∷ ss) b (suc i) s (later j) = between-ith ss (b .1) i s j
 
@@ -68,28 +66,3 @@ module _ (es : List Edge) (n : Edge) (pr : Proper es) (apart : (v : ℕ) → deg
   pub all-old : (ss : List Pass) → AllBetween es ss → AllBetween (es ++ (n ∷ [])) ss
   all-old [] b = tt
   all-old (s ∷ ss) b = (between-old (s .at) (s .before) (s .after) (b .0), all-old ss (b .1))
-
--- ---- off the path, and once on it
-
-abbrev pub Off : List Pass → ℕ → Type 0
-Off path v = (i : ℕ) (s : Pass) → Ith s i path → s .at ≢ v
-
-pub off-cons : (s : Pass) (ss : List Pass) (v : ℕ) → Off ss v → v ≢ s .at → Off (s ∷ ss) v
-off-cons s ss v o n zero t here = λ q. n (sym q)
-off-cons s ss v o n (suc i) t (later j) = o i t j
-
--- no vertex stands on the path twice
-abbrev pub Once : List Pass → Type 0
-Once path = (i j : ℕ) (s t : Pass) → Ith s i path → Ith t j path → s .at ≡ t .at → i ≡ j
-
-pub once-head : (s : Pass) (ss : List Pass) → Once (s ∷ ss) → (i : ℕ) (t : Pass) → Ith t i ss → t .at ≢ s .at
-once-head s ss o i t j q = let z : suc i ≡ 0 = o (suc i) 0 t s (later j) here q in omega arith
-
-pub once-tail : (s : Pass) (ss : List Pass) → Once (s ∷ ss) → Once ss
-once-tail s ss o i j t u m n q = let z : suc i ≡ suc j = o (suc i) (suc j) t u (later m) (later n) q in omega arith
-
-pub once-cons : (s : Pass) (ss : List Pass) → ((i : ℕ) (t : Pass) → Ith t i ss → t .at ≢ s .at) → Once ss → Once (s ∷ ss)
-once-cons s ss h o zero zero t u here here q = refl
-once-cons s ss h o zero (suc j) t u here (later n) q = absurd (h j u n (sym q))
-once-cons s ss h o (suc i) zero t u (later m) here q = absurd (h i t m q)
-once-cons s ss h o (suc i) (suc j) t u (later m) (later n) q = ap suc (o i j t u m n q)

@@ -15,7 +15,7 @@ use Rattle.model.proofs.Walks.Trail.{Trail, done, pass}
 use Rattle.model.proofs.Walks.RingFree.{RingFree}
 use Rattle.model.proofs.Groups.Shape.{Shape, size, LeafAt, at-low, at-high, Successive, between-differ, between-or, Courses, place-fits}
 use Rattle.model.proofs.Groups.Flip.{flipped, flip-size, flip-low, flip-courses}
-use Rattle.model.proofs.Walks.Places.{Ith, here, later, InPath, Nth, nth}
+use Rattle.model.proofs.Walks.Places.{Ith, here, later, no-ith, InPath, Nth, nth}
 use Rattle.model.proofs.Labels.Inwards.{inward}
 use Rattle.model.proofs.Walks.Joins.{across, far-ne}
 
@@ -51,8 +51,7 @@ Rises es h g i (s ∷ ss) = Spot es h g i s × Rises es h g (suc i) ss
 
 -- the i-th of a path that rises along a course
 pub rises-ith : {es : List Edge} {h : Shape} {g : ℕ} (at : ℕ) (path : List Pass) → Rises es h g at path → (i : ℕ) (s : Pass) → Ith s i path → Spot es h g (at + i) s
-rises-ith at [] r zero s j = elim j [ ]
-rises-ith at [] r (suc i) s j = elim j [ ]
+rises-ith at [] r i s j = absurd (no-ith j)
 rises-ith {es} {h} {g} at (t ∷ ss) r zero s here = subst (λ (k : ℕ). Spot es h g k t) (let e : at ≡ at + 0 = omega arith in e) (r .0)
 rises-ith {es} {h} {g} at (t ∷ ss) r (suc i) s (later j) =
     subst (λ (k : ℕ). Spot es h g k s) (let e : suc at + i ≡ at + suc i = omega arith in e) (rises-ith (suc at) ss (r .1) i s j)

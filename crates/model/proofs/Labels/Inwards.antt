@@ -11,13 +11,12 @@ use Rattle.model.proofs.Walks.Turn.{At, onlyEdge-is}
 use Rattle.model.proofs.Walks.Joins.{across}
 use Rattle.model.proofs.Walks.Trail.{Trail, done, pass}
 use Rattle.model.proofs.Walks.RingFree.{RingFree}
-use Rattle.model.proofs.Walks.Places.{Ith, here, later}
+use Rattle.model.proofs.Walks.Places.{Ith, here, later, no-ith}
 use Rattle.model.proofs.Walks.Whole.{Onwards, onwards-ends}
 
 pub trail-regular : {es : List Edge} {d v q w : ℕ} {ss : List Pass} → Trail es d v ss q w → (i : ℕ) (s : Pass) → Ith s i ss → degree es (s .at) ≡ 2
 unfolding isRegular
-trail-regular done zero s j = elim j [ ]
-trail-regular done (suc i) s j = elim j [ ]
+trail-regular done i s j = absurd (no-ith j)
 trail-regular (pass t c tn u) zero s here = eqb-true _ _ c
 trail-regular (pass t c tn u) (suc i) s (later j) = trail-regular u i s j
 
