@@ -16,7 +16,7 @@ use Rattle.labels.specs.Labelling.{countAhead, labelVertexIn}
 use Rattle.labels.specs.Merging.{Merged, beginIn, joinIn, merged}
 use Rattle.labels.proofs.Merges.{join-law}
 use Rattle.model.proofs.Walks.Degree.{Proper, is-two}
-use Rattle.model.proofs.Walks.Turn.{At}
+use Rattle.model.proofs.Walks.Turn.{At, Between, between-back}
 use Rattle.model.proofs.Walks.Joins.{across}
 use Rattle.model.proofs.Walks.Trail.{trail-cons}
 use Rattle.model.proofs.Walks.Ended.{trail-short}
@@ -27,7 +27,7 @@ use Rattle.model.proofs.Labels.Inwards.{Inward, inward, trail-regular}
 use Rattle.model.proofs.Walks.Once.{at-once}
 use Rattle.agreement.proofs.Linked.{Linked, linked-old, off-ends, turn-agrees}
 use Rattle.agreement.proofs.Lockstep.{Shows}
-use Rattle.agreement.proofs.Passes.{AllBetween, Between, all-old, between-back, between-ith, trail-between}
+use Rattle.agreement.proofs.Passes.{AllBetween, all-old, between-ith, trail-between}
 use Rattle.agreement.proofs.Laying.{Everywhere, HoldsMarks, Turns, lay-counts, lay-kept, layIn, next-most, relabel-lays, turn-other}
 use Rattle.agreement.proofs.Extending.{HoldsLabelling, attach-none, attach-some, leaf-at, leaf-between}
 
@@ -149,7 +149,7 @@ module _ {es : List Edge} {n : Edge} {degrees sides ends labels : List ℕ} {m :
       let t : Between es (s .at) (s .before) (s .after) = between-ith (inwards es y) walk-between i s j in
       turn-other (w .sides) (w .labels) y l₂ (length es) dy b (s .before) (s .at) (walk-off y ly i s j)
       ∙ turn-other sides labels x l₁ dx (length es) b (s .before) (s .at) (walk-off x lx i s j)
-      ∙ turn-agrees es sides (m .lows) (s .at) (s .before) pr (sh .links (s .at) (sh .below (s .at) (s .before) (t .before-at))) (t .regular) (t .before-at)
+      ∙ turn-agrees es sides (m .lows) (s .at) (s .before) pr (sh .links (s .at) (sh .below (s .at) (s .before) (t .before-at))) (is-two es (s .at) (t .regular)) (t .before-at)
       ∙ t .forth
 
   join-lays : (u : ℕ) → u ≡ far es dx x → isRegular es u ≡ true → joinIn degrees sides ends labels x y (length es) (length es) ≡ layIn (up u) (label u) path sides labels

@@ -24,7 +24,7 @@ use Rattle.model.proofs.Walks.Places.{here, later, InPath}
 use Rattle.model.proofs.Labels.Splits.{unlabel, Bare, splits, no-splits}
 use Rattle.model.proofs.Labels.Inwards.{Inward, inward-on, inward}
 use Rattle.model.proofs.Labels.Laid.{Attached, attached, Laid, extendPath, mergePath, Inserted, fresh, extends, merges}
-use Rattle.model.proofs.Walks.NewTurn.{NewTurn, new-turn, far-last}
+use Rattle.model.proofs.Walks.NewTurn.{new-turn, far-last}
 use Rattle.model.proofs.Walks.Joins.{across, far-ne}
 use Rattle.model.proofs.Walks.Ended.{leaf-once}
 use Rattle.model.proofs.Walks.Ring.{no-ring}
@@ -91,8 +91,8 @@ module _ (es : List Edge) (p : Edge) (pr : Proper es) (d : p .first ≢ p .secon
     path-on : {ss : List Pass} {onto to : ℕ} → Trail new (length es) y ss onto to → Trail new e x (record { before = e; at = x; after = length es } ∷ ss) onto to
     path-on {ss} {onto} {to} u =
         let u′ : Trail new (length es) (far new (length es) x) ss onto to = rw (far-last es p pr d x y ox oy xy) u in
-        let t : NewTurn es p x e = new-turn es p pr d x e ox cx a in
-        pass (length es) (t .regular) (t .out) u′
+        let t = new-turn es p pr d x e ox cx a in
+        pass (length es) (t .regular) (t .forth) u′
 
     -- ---- extending
     module _ (m′ : Marks) (ny : degree es y ≢ 1) (br : Bare es p m m′) where
@@ -171,7 +171,7 @@ module _ (es : List Edge) (p : Edge) (pr : Proper es) (d : p .first ≢ p .secon
           u =
               let t : Trail new c (far es c y) (inwards es y) (i .onto) (i .to) = trail-old p pr ((across es c y pr b) .at) (trail-clear p missed (i .trail)) (i .trail) in
               let t′ : Trail new c (far new c y) (inwards es y) (i .onto) (i .to) = rw (far-old es p c y (b .inside)) t in
-              let ty : NewTurn es p y c = new-turn es p pr d y c oy cy b in
+              let ty = new-turn es p pr d y c oy cy b in
               pass c (ty .regular) (ty .back) t′
 
           on-path : (v : ℕ) → (v ≡ x) ⊎ (v ≡ y) → InPath (mergePath es x y e c) v
