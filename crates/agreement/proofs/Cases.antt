@@ -1,15 +1,12 @@
 -- Which table function an insertion is, by which of its ends are leaves.
 use mathlib.Core.Path.{_≡_, refl}
 use Prim.Native.Nat.{ℕ}
-use mathlib.Core.Bool.{Bool, true, _&&_}
+use mathlib.Core.Bool.{Bool}
 use mathlib.Core.List.{List}
 use lib.Dec.{eqb}
-use borrow.Author.Tests.{eqb-true}
 use Rattle.model.specs.Basics.{if_then_else_}
-use Rattle.model.specs.Graph.{Edge, degree, isLeaf}
-use Rattle.model.specs.Cases.{Class, branch, caseOf, classOf, closesRing, isolated, leaf, regular}
+use Rattle.model.specs.Cases.{Class, branch, caseOf, classOf, isolated, leaf, regular}
 use Rattle.insertion.specs.Placing.{Placed, openBothIn, placeExtend, placeIn, placeMerge, placementFor}
-use Rattle.model.proofs.Basics.Booleans.{and-true}
 use Rattle.model.proofs.Labels.Cases.{class-leaf, isLeafClass}
 
 module _ (degrees sides ends labels : List ℕ) (blocks a b e n : ℕ) where
@@ -40,11 +37,3 @@ module _ (degrees sides ends labels : List ℕ) (blocks a b e n : ℕ) where
 
   pub place-leaves : (p q : ℕ) → placeIn (caseOf (classOf p) (classOf q)) degrees sides ends labels blocks a b e n ≡ byLeaves (eqb p 1) (eqb q 1)
   place-leaves p q = rw (class-leaf p, class-leaf q) (place-class (classOf p) (classOf q))
-
--- only leaves close a ring
-pub leaf-ends : (es : List Edge) (a b : ℕ) → closesRing es a b ≡ true → (degree es a ≡ 1) × (degree es b ≡ 1)
-unfolding closesRing isLeaf
-leaf-ends es a b c =
-    let h = and-true (eqb (degree es a) 1 && eqb (degree es b) 1) _ c in
-    let g = and-true (eqb (degree es a) 1) (eqb (degree es b) 1) (h .0) in
-    (eqb-true _ _ (g .0), eqb-true _ _ (g .1))

@@ -14,15 +14,15 @@ use Rattle.tables.specs.Steps.{farIn, most16, most32}
 use Rattle.tables.proofs.Sums.{more16-is, nextIn-is}
 use Rattle.labels.specs.Labelling.{countAhead, extendIn, labelVertexIn}
 use Rattle.labels.proofs.Labels.{extend-begun, extend-on}
-use Rattle.model.proofs.Walks.Degree.{Proper, degree-snoc, is-two, not-two, proper-snoc}
-use Rattle.model.proofs.Walks.Turn.{At, OneEdge, one-edge, onlyEdge-is}
+use Rattle.model.proofs.Walks.Degree.{Proper, is-two, not-two}
+use Rattle.model.proofs.Walks.Turn.{At, Between, OneEdge, one-edge, onlyEdge-is}
 use Rattle.model.proofs.Walks.Joins.{across, far-ne}
 use Rattle.model.proofs.Walks.Trail.{walk-on, walk-stop}
 use Rattle.model.proofs.Walks.Snoc.{far-old}
-use Rattle.model.proofs.Walks.NewEdge.{at-last, at-new, length-new}
-use Rattle.model.proofs.Walks.Places.{here}
+use Rattle.model.proofs.Walks.NewEdge.{at-new, length-new}
+use Rattle.model.proofs.Walks.NewTurn.{new-turn}
+use Rattle.model.proofs.Walks.Places.{here, Off}
 use Rattle.agreement.proofs.Linked.{Linked}
-use Rattle.agreement.proofs.Passes.{Between, Off, between}
 use Rattle.agreement.proofs.Laying.{Everywhere, HoldsMarks, kept-where, lay-kept, layIn}
 use Rattle.agreement.proofs.Opening.{OpenedBoth}
 
@@ -50,10 +50,7 @@ leaf-at es pr x one =
 
 pub leaf-between : (es : List Edge) (n : Edge) → Proper es → n .first ≢ n .second → (x : ℕ) → degree es x ≡ 1 → endsAt x n ≡ 1
     → Between (es ++ (n ∷ [])) x (onlyEdge es x) (length es)
-leaf-between es n pr df x one o =
-    let a : At es x (onlyEdge es x) = leaf-at es pr x one in
-    between (es ++ (n ∷ [])) x (onlyEdge es x) (length es) (proper-snoc es n pr df) (omega (arith, degree-snoc es n x))
-    (at-new es n a) (at-last es n o) (λ e. omega (arith, a .inside))
+leaf-between es n pr df x one o = new-turn es n pr df x (onlyEdge es x) o one (leaf-at es pr x one)
 
 -- ---- they agree
 

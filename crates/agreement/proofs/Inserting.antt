@@ -22,11 +22,12 @@ use Rattle.labels.specs.Labelling.{MarksIn, extendIn}
 use Rattle.labels.specs.Merging.{Merged}
 use Rattle.insertion.specs.Placing.{Placed, openBothIn, placeExtend, placeMerge, placedBy}
 use Rattle.model.proofs.Walks.Degree.{end-first, end-second, endsAt-le, two-ends, zero-or-one}
+use Rattle.model.proofs.Walks.Ring.{refuses-of}
 use Rattle.model.proofs.Labels.Relabellings.{relabelCount-bare}
 use Rattle.model.proofs.Labels.Cases.{compact, edge-compact}
 use Rattle.model.proofs.Labels.Splits.{splits, unlabel}
 use Rattle.model.proofs.Registers.Small.{blocks-small, labels-small}
-use Rattle.agreement.proofs.Cases.{byLeaves, leaf-ends, place-leaves}
+use Rattle.agreement.proofs.Cases.{byLeaves, place-leaves}
 use Rattle.agreement.proofs.Lockstep.{Shows}
 use Rattle.agreement.proofs.Laying.{Everywhere, kept-where}
 use Rattle.agreement.proofs.Opening.{OpenedBoth, opened-both}
@@ -221,5 +222,5 @@ module _ (r : Register) (e : Edge) (g : Reachable r) (fa : e .first < r .vertice
 
   pub ring-placed : closesRing es a b ≡ true → placedBy (tablesOf r) (countsOf r) e .ring ≡ true
   ring-placed c =
-      let f = leaf-ends es a b c in
-      rw (placing-is, eq-eqb (degree es a) 1 (f .0), eq-eqb (degree es b) 1 (f .1)) (merge-rings (f .0) (f .1) c)
+      let f = refuses-of es a b c in
+      rw (placing-is, eq-eqb (degree es a) 1 (f .a-leaf), eq-eqb (degree es b) 1 (f .b-leaf)) (merge-rings (f .a-leaf) (f .b-leaf) c)

@@ -1,7 +1,7 @@
 -- Two leaves are joined by the new edge: the one's chain keeps its labels, and the labels that follow are laid along the other's.
 use mathlib.Core.Path.{_≡_, refl, sym, ap, _∙_}
 use mathlib.Core.Logic.{_≢_}
-use Prim.Native.Nat.{ℕ, zero, suc, _+_, _*_, _≤_, _<_}
+use Prim.Native.Nat.{ℕ, _+_, _*_, _≤_, _<_}
 use native.Mathlib.Omega.{arith}
 use mathlib.Core.Bool.{Bool, true, false, not}
 use mathlib.Core.List.{List, [], _∷_, _++_}
@@ -16,17 +16,18 @@ use Rattle.labels.specs.Labelling.{countAhead, labelVertexIn}
 use Rattle.labels.specs.Merging.{Merged, beginIn, joinIn, merged}
 use Rattle.labels.proofs.Merges.{join-law}
 use Rattle.model.proofs.Walks.Degree.{Proper, is-two}
-use Rattle.model.proofs.Walks.Turn.{At}
+use Rattle.model.proofs.Walks.Turn.{At, Between, between-back}
 use Rattle.model.proofs.Walks.Joins.{across}
+use Rattle.model.proofs.Walks.Trail.{trail-cons}
 use Rattle.model.proofs.Walks.Ended.{trail-short}
 use Rattle.model.proofs.Walks.RingFree.{RingFree}
-use Rattle.model.proofs.Walks.Places.{Ith, here, later}
+use Rattle.model.proofs.Walks.Places.{here, later, Off, off-cons, Once, once-cons}
 use Rattle.model.proofs.Labels.Relabellings.{relabelCount-bare, relabelCount-same}
-use Rattle.model.proofs.Labels.Inwards.{Inward, inward, trail-head, trail-regular}
+use Rattle.model.proofs.Labels.Inwards.{Inward, inward, trail-regular}
 use Rattle.model.proofs.Walks.Once.{at-once}
 use Rattle.agreement.proofs.Linked.{Linked, linked-old, off-ends, turn-agrees}
 use Rattle.agreement.proofs.Lockstep.{Shows}
-use Rattle.agreement.proofs.Passes.{AllBetween, Between, Off, Once, all-old, between-back, between-ith, once-cons, trail-between}
+use Rattle.agreement.proofs.Passes.{AllBetween, all-old, between-ith, trail-between}
 use Rattle.agreement.proofs.Laying.{Everywhere, HoldsMarks, Turns, lay-counts, lay-kept, layIn, next-most, relabel-lays, turn-other}
 use Rattle.agreement.proofs.Extending.{HoldsLabelling, attach-none, attach-some, leaf-at, leaf-between}
 
@@ -101,7 +102,7 @@ module _ {es : List Edge} {n : Edge} {degrees sides ends labels : List ℕ} {m :
   walk-short : length (inwards es y) < length es
   walk-short = trail-short es pr walk-at (iy .trail) (iy .singular)
 
-  walk-off : (z : ℕ) → degree es z ≡ 1 → (i : ℕ) (s : Pass) → Ith s i (inwards es y) → s .at ≢ z
+  walk-off : (z : ℕ) → degree es z ≡ 1 → Off (inwards es y) z
   walk-off z one i s j = no-leaf (s .at) z (trail-regular (iy .trail) i s j) one
 
   -- the whole path
@@ -114,11 +115,7 @@ module _ {es : List Edge} {n : Edge} {degrees sides ends labels : List ℕ} {m :
 
   path-once : Once path
   unfolding joinPath
-  path-once = once-cons _ _ first (once-cons _ _ (walk-off y ly) walk-once)
-    where
-      first : (i : ℕ) (s : Pass) → Ith s i (record { before = length es; at = y; after = dy } ∷ inwards es y) → s .at ≢ x
-      first zero s here = λ e. xy (sym e)
-      first (suc i) s (later j) = walk-off x lx i s j
+  path-once = once-cons _ _ (off-cons _ _ x (walk-off x lx) xy) (once-cons _ _ (walk-off y ly) walk-once)
 
   path-start : HoldsMarks new (Off path) sides labels m
   unfolding joinPath
@@ -152,7 +149,7 @@ module _ {es : List Edge} {n : Edge} {degrees sides ends labels : List ℕ} {m :
       let t : Between es (s .at) (s .before) (s .after) = between-ith (inwards es y) walk-between i s j in
       turn-other (w .sides) (w .labels) y l₂ (length es) dy b (s .before) (s .at) (walk-off y ly i s j)
       ∙ turn-other sides labels x l₁ dx (length es) b (s .before) (s .at) (walk-off x lx i s j)
-      ∙ turn-agrees es sides (m .lows) (s .at) (s .before) pr (sh .links (s .at) (sh .below (s .at) (s .before) (t .before-at))) (t .regular) (t .before-at)
+      ∙ turn-agrees es sides (m .lows) (s .at) (s .before) pr (sh .links (s .at) (sh .below (s .at) (s .before) (t .before-at))) (is-two es (s .at) (t .regular)) (t .before-at)
       ∙ t .forth
 
   join-lays : (u : ℕ) → u ≡ far es dx x → isRegular es u ≡ true → joinIn degrees sides ends labels x y (length es) (length es) ≡ layIn (up u) (label u) path sides labels
@@ -192,9 +189,9 @@ module _ {es : List Edge} {n : Edge} {degrees sides ends labels : List ℕ} {m :
           → let j = joinIn degrees sides ends labels x y (length es) (length es) in
           MergedAs new labels (merged false (j .sides) (j .labels) blocks (j .count)) (attach blocks dx (inwards es x) path m)
       go (u, us, e) =
-          let hd = trail-head u us ((inward es pr (k .rings) x dx lx ax) .trail) e in
-          let c : isRegular es (u .at) ≡ true = rw (hd .head-at) (hd .head-regular) in
-          rw (join-lays (u .at) (hd .head-at) c, e, attach-some blocks dx u us path m) (record {
+          let hd = trail-cons (rw e at ((inward es pr (k .rings) x dx lx ax) .trail)) in
+          let c : isRegular es (u .at) ≡ true = rw (hd .0) (hd .1) in
+          rw (join-lays (u .at) (hd .0) c, e, attach-some blocks dx u us path m) (record {
             ring = refl;
             holds = record { kept = laid-kept (up (u .at)) (label (u .at)); blocks-are = refl };
             counts = laid-counts (up (u .at)) (label (u .at));

@@ -10,20 +10,20 @@ use mathlib.Core.List.{List, [], _∷_}
 use lib.ListN.{length, getD, set, length-set}
 use lib.Seq.{getD-set-other}
 use Rattle.model.specs.Basics.{if_then_else_, maxVertices}
-use Rattle.model.specs.Graph.{Edge, Pass, degree, far, isRegular, turn}
+use Rattle.model.specs.Graph.{Edge, Pass, far, isRegular, turn}
 use Rattle.model.specs.Labels.{Marks, labelPath, mark, next, relabelCount}
 use Rattle.tables.specs.Steps.{most32, setPair, turnIn}
 use Rattle.tables.proofs.Sums.{nextIn-is}
 use Rattle.labels.specs.Labelling.{MarksIn, countAhead, labelVertexIn, marksIn, orientIn, relabelIn}
 use Rattle.labels.proofs.Labels.{relabel-end, relabel-on}
-use Rattle.model.proofs.Walks.Degree.{Proper}
-use Rattle.model.proofs.Walks.Turn.{At}
+use Rattle.model.proofs.Walks.Degree.{Proper, is-two}
+use Rattle.model.proofs.Walks.Turn.{At, Between}
 use Rattle.model.proofs.Walks.Trail.{Trail, done, pass, Next, next-edge}
-use Rattle.model.proofs.Walks.Places.{Ith, here, later, no-nil}
+use Rattle.model.proofs.Walks.Places.{Ith, here, later, no-ith, Off, Once, off-cons, once-head, once-tail}
 use Rattle.agreement.proofs.Lists.{length-pair, pair-other}
 use Rattle.agreement.proofs.Relabelled.{relabelled-set}
 use Rattle.agreement.proofs.Linked.{Linked, linked-here, linked-other}
-use Rattle.agreement.proofs.Passes.{AllBetween, Between, Off, Once, off-cons, once-head, once-tail}
+use Rattle.agreement.proofs.Passes.{AllBetween}
 use Rattle.agreement.proofs.Lockstep.{Shows, shows-regular, shows-singular}
 use Rattle.model.proofs.Labels.Relabellings.{moved}
 
@@ -45,10 +45,10 @@ kept-where Y h k = record { labels-are = k .labels-are; links = λ v l y. k .lin
 -- a regular vertex gets its sides and its label
 module _ (es : List Edge) (X Y : ℕ → Type 0) (sides labels : List ℕ) (m : Marks) (x label : ℕ) (wider : (v : ℕ) → Y v → v ≢ x → X v)
     (k : HoldsMarks es X sides labels m) (l : x < maxVertices) where
-  kept-pair : (low high : ℕ) → degree es x ≡ 2 → At es x low → turn es low x ≡ high
+  kept-pair : (low high : ℕ) → isRegular es x ≡ true → At es x low → turn es low x ≡ high
       → HoldsMarks es Y (setPair sides x low high) (set labels x label) (mark x label low m)
   unfolding mark
-  kept-pair low high two a e =
+  kept-pair low high c a e =
       record {
         labels-are = rw (k .labels-are);
         links = λ v b y. go v b y (ℕ-discrete v x);
@@ -57,7 +57,7 @@ module _ (es : List Edge) (X Y : ℕ → Type 0) (sides labels : List ℕ) (m : 
       }
     where
       go : (v : ℕ) → v < maxVertices → Y v → Dec (v ≡ x) → Linked es (setPair sides x low high) (set (m .lows) x low) v
-      go v b y (yes q) = rw q (linked-here es sides (m .lows) x low high (omega (arith, k .sides-long)) (omega (arith, k .lows-long)) two a e)
+      go v b y (yes q) = rw q (linked-here es sides (m .lows) x low high (omega (arith, k .sides-long)) (omega (arith, k .lows-long)) (is-two es x c) a e)
       go v b y (no n) = linked-other es sides (m .lows) v x low high low n (k .links v b (wider v y n))
 
   pub kept-label : (c d : ℕ) (up : Bool) → Between es x c d
@@ -79,7 +79,7 @@ pub lay-kept : (es : List Edge) → ((v d : ℕ) → At es v d → v < maxVertic
     → AllBetween es path → HoldsMarks es (Off path) sides labels m
     → HoldsMarks es Everywhere (layIn up label path sides labels .sides) (layIn up label path sides labels .labels) (labelPath up label path m)
 unfolding layIn labelPath countAhead
-lay-kept es below up label [] sides labels m b k = kept-where Everywhere (λ v _. no-nil v) k
+lay-kept es below up label [] sides labels m b k = kept-where Everywhere (λ v _ i s j. absurd (no-ith j)) k
 lay-kept es below up label (s ∷ ss) sides labels m b k =
     let w = labelVertexIn sides labels (s .at) label (s .before) (s .after) up in
     lay-kept es below up (next up label) ss (w .sides) (w .labels) (mark (s .at) label (if up then s .before else s .after) m) (b .1)

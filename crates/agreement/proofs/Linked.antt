@@ -92,7 +92,7 @@ off-ends n x y v df ox oy xy a b = go (zero-or-one (endsAt v n) (endsAt-le v n d
     go (inr o) = which (two-ends n x y v ox oy xy o)
 
 module _ (es : List Edge) (n : Edge) (pr : Proper es) (v : ℕ) (z : endsAt v n ≡ 0) where
-  pub degree-old : degree (es ++ (n ∷ [])) v ≡ degree es v
+  degree-old : degree (es ++ (n ∷ [])) v ≡ degree es v
   degree-old = omega (arith, degree-snoc es n v)
 
   onlyEdge-old : onlyEdge (es ++ (n ∷ [])) v ≡ onlyEdge es v

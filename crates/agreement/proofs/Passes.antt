@@ -1,40 +1,14 @@
--- The passes of a path: each vertex is regular and between two edges; none stands on it twice.
-use mathlib.Core.Path.{_≡_, refl, sym, ap, _∙_}
-use mathlib.Core.Logic.{_≢_}
+-- The passes of a path: each vertex is regular and between two edges.
+use mathlib.Core.Path.{_≡_, _∙_}
 use Prim.Native.Nat.{ℕ, zero, suc}
-use native.Mathlib.Omega.{arith}
 use mathlib.Core.List.{List, [], _∷_, _++_}
-use Rattle.model.specs.Graph.{Edge, Pass, degree, endsAt, turn}
+use Rattle.model.specs.Graph.{Edge, Pass, degree, endsAt}
 use Rattle.model.proofs.Walks.Degree.{Proper, is-two}
-use Rattle.model.proofs.Walks.Turn.{At, two-edges, turn-between}
+use Rattle.model.proofs.Walks.Turn.{At, Between}
 use Rattle.model.proofs.Walks.Trail.{Trail, done, pass, Next, next-edge}
-use Rattle.model.proofs.Walks.Snoc.{turn-old}
+use Rattle.model.proofs.Walks.Snoc.{regular-old, turn-old}
 use Rattle.model.proofs.Walks.NewEdge.{at-new}
-use Rattle.model.proofs.Walks.Places.{Ith, here, later}
-use Rattle.agreement.proofs.Linked.{degree-old}
-
--- ---- a regular vertex between two edges
-
-pub record Between (es : List Edge) (v c d : ℕ) : Type 0 where
-  pub regular : degree es v ≡ 2
-  pub before-at : At es v c
-  pub after-at : At es v d
-  pub forth : turn es c v ≡ d
-  pub back : turn es d v ≡ c
-
-pub between : (es : List Edge) (v c d : ℕ) → Proper es → degree es v ≡ 2 → At es v c → At es v d → c ≢ d → Between es v c d
-between es v c d pr two a b n =
-    let t = two-edges es v pr two in
-    record {
-      regular = two;
-      before-at = a;
-      after-at = b;
-      forth = turn-between es v c d t a b n;
-      back = turn-between es v d c t b a (λ e. n (sym e));
-    }
-
-pub between-back : {es : List Edge} {v c d : ℕ} → Between es v c d → Between es v d c
-between-back b = record { regular = b .regular; before-at = b .after-at; after-at = b .before-at; forth = b .back; back = b .forth }
+use Rattle.model.proofs.Walks.Places.{Ith, here, later, no-ith}
 
 abbrev pub AllBetween : List Edge → List Pass → Type 0
 AllBetween es [] = Unit {0}
@@ -44,11 +18,10 @@ pub trail-between : {es : List Edge} {d v c w : ℕ} {ss : List Pass} → Proper
 trail-between pr a done = tt
 trail-between {es} {d} {v} pr a (pass t r e u) =
     let x : Next es d v t = next-edge es d v t pr a r e in
-    (record { regular = is-two es v r; before-at = a; after-at = x .at; forth = e; back = x .again }, trail-between pr (x .across .at) u)
+    (record { regular = r; before-at = a; after-at = x .at; forth = e; back = x .again }, trail-between pr (x .across .at) u)
 
 pub between-ith : {es : List Edge} (ss : List Pass) → AllBetween es ss → (i : ℕ) (s : Pass) → Ith s i ss → Between es (s .at) (s .before) (s .after)
-between-ith [] b zero s j = elim j [ ]
-between-ith [] b (suc i) s j = elim j [ ]
+between-ith [] b i s j = absurd (no-ith j)
 between-ith (t ∷ ss) b zero s here = b .0
 between-ith (t ∷ ss) b (suc i) s (later j) = between-ith ss (b .1) i s j
 
@@ -56,9 +29,9 @@ between-ith (t ∷ ss) b (suc i) s (later j) = between-ith ss (b .1) i s j
 module _ (es : List Edge) (n : Edge) (pr : Proper es) (apart : (v : ℕ) → degree es v ≡ 2 → endsAt v n ≡ 0) where
   between-old : (v c d : ℕ) → Between es v c d → Between (es ++ (n ∷ [])) v c d
   between-old v c d b =
-      let z = apart v (b .regular) in
+      let z = apart v (is-two es v (b .regular)) in
       record {
-        regular = degree-old es n pr v z ∙ b .regular;
+        regular = regular-old es n v z ∙ b .regular;
         before-at = at-new es n (b .before-at);
         after-at = at-new es n (b .after-at);
         forth = turn-old es n v c pr z ∙ b .forth;
@@ -68,28 +41,3 @@ module _ (es : List Edge) (n : Edge) (pr : Proper es) (apart : (v : ℕ) → deg
   pub all-old : (ss : List Pass) → AllBetween es ss → AllBetween (es ++ (n ∷ [])) ss
   all-old [] b = tt
   all-old (s ∷ ss) b = (between-old (s .at) (s .before) (s .after) (b .0), all-old ss (b .1))
-
--- ---- off the path, and once on it
-
-abbrev pub Off : List Pass → ℕ → Type 0
-Off path v = (i : ℕ) (s : Pass) → Ith s i path → s .at ≢ v
-
-pub off-cons : (s : Pass) (ss : List Pass) (v : ℕ) → Off ss v → v ≢ s .at → Off (s ∷ ss) v
-off-cons s ss v o n zero t here = λ q. n (sym q)
-off-cons s ss v o n (suc i) t (later j) = o i t j
-
--- no vertex stands on the path twice
-abbrev pub Once : List Pass → Type 0
-Once path = (i j : ℕ) (s t : Pass) → Ith s i path → Ith t j path → s .at ≡ t .at → i ≡ j
-
-pub once-head : (s : Pass) (ss : List Pass) → Once (s ∷ ss) → (i : ℕ) (t : Pass) → Ith t i ss → t .at ≢ s .at
-once-head s ss o i t j q = let z : suc i ≡ 0 = o (suc i) 0 t s (later j) here q in omega arith
-
-pub once-tail : (s : Pass) (ss : List Pass) → Once (s ∷ ss) → Once ss
-once-tail s ss o i j t u m n q = let z : suc i ≡ suc j = o (suc i) (suc j) t u (later m) (later n) q in omega arith
-
-pub once-cons : (s : Pass) (ss : List Pass) → ((i : ℕ) (t : Pass) → Ith t i ss → t .at ≢ s .at) → Once ss → Once (s ∷ ss)
-once-cons s ss h o zero zero t u here here q = refl
-once-cons s ss h o zero (suc j) t u here (later n) q = absurd (h j u n (sym q))
-once-cons s ss h o (suc i) zero t u (later m) here q = absurd (h i t m q)
-once-cons s ss h o (suc i) (suc j) t u (later m) (later n) q = ap suc (o i j t u m n q)

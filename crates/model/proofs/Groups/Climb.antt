@@ -15,7 +15,7 @@ use Rattle.model.proofs.Walks.Trail.{Trail, done, pass}
 use Rattle.model.proofs.Walks.RingFree.{RingFree}
 use Rattle.model.proofs.Groups.Shape.{Shape, size, LeafAt, at-low, at-high, Successive, between-differ, between-or, Courses, place-fits}
 use Rattle.model.proofs.Groups.Flip.{flipped, flip-size, flip-low, flip-courses}
-use Rattle.model.proofs.Walks.Places.{Ith, here, later, InPath, Nth, nth}
+use Rattle.model.proofs.Walks.Places.{Ith, here, later, no-ith, InPath, Nth, nth}
 use Rattle.model.proofs.Labels.Inwards.{inward}
 use Rattle.model.proofs.Walks.Joins.{across, far-ne}
 
@@ -51,18 +51,16 @@ Rises es h g i (s ∷ ss) = Spot es h g i s × Rises es h g (suc i) ss
 
 -- the i-th of a path that rises along a course
 pub rises-ith : {es : List Edge} {h : Shape} {g : ℕ} (at : ℕ) (path : List Pass) → Rises es h g at path → (i : ℕ) (s : Pass) → Ith s i path → Spot es h g (at + i) s
-rises-ith at [] r zero s j = elim j [ ]
-rises-ith at [] r (suc i) s j = elim j [ ]
+rises-ith at [] r i s j = absurd (no-ith j)
 rises-ith {es} {h} {g} at (t ∷ ss) r zero s here = subst (λ (k : ℕ). Spot es h g k t) (let e : at ≡ at + 0 = omega arith in e) (r .0)
 rises-ith {es} {h} {g} at (t ∷ ss) r (suc i) s (later j) =
     subst (λ (k : ℕ). Spot es h g k s) (let e : suc at + i ≡ at + suc i = omega arith in e) (rises-ith (suc at) ss (r .1) i s j)
 
--- A trail that sets out from edge e towards its high end and ends on edge q at vertex z, all on e's course
-pub record Climb (es : List Edge) (h : Shape) (e : ℕ) (ss : List Pass) (q z : ℕ) : Type 0 where
+-- A trail that sets out from edge e towards its high end and ends on edge q, all on e's course
+pub record Climb (es : List Edge) (h : Shape) (e : ℕ) (ss : List Pass) (q : ℕ) : Type 0 where
   pub inside : q < length es
   pub same-group : h .group q ≡ h .group e
   pub rise : h .place q ≡ h .place e + length ss
-  pub end : far es q (h .low q) ≡ z
   pub path : Rises es h (h .group e) (h .place e) ss
 
 module _ (es : List Edge) (pr : Proper es) {relabellings : ℕ} {h : Shape} (w : Courses es relabellings h) where
@@ -99,22 +97,21 @@ module _ (es : List Edge) (pr : Proper es) {relabellings : ℕ} {h : Shape} (w :
             regular = two;
           }
 
-  pub climb : {e v q z : ℕ} {ss : List Pass} → e < length es → far es e (h .low e) ≡ v → h .isOpen (h .group e) ≡ true → Trail es e v ss q z → Climb es h e ss q z
-  climb l i o done = record { inside = l; same-group = refl; rise = omega arith; end = i; path = tt }
-  climb {e} {v} {q} {z} l i o (pass {ss = ss} t c tn u) =
+  pub climb : {e v q z : ℕ} {ss : List Pass} → e < length es → far es e (h .low e) ≡ v → h .isOpen (h .group e) ≡ true → Trail es e v ss q z → Climb es h e ss q
+  climb l i o done = record { inside = l; same-group = refl; rise = omega arith; path = tt }
+  climb {e} {v} {q} l i o (pass {ss = ss} t c tn u) =
       let sp = spot e v t l i o c tn in
-      let r : Climb es h t ss q z = climb (sp .after-at .inside) (ap (λ (k : ℕ). far es t k) (sp .after-end)) (rw (sp .after-group) o) u in
+      let r : Climb es h t ss q = climb (sp .after-at .inside) (ap (λ (k : ℕ). far es t k) (sp .after-end)) (rw (sp .after-group) o) u in
       record {
         inside = r .inside;
         same-group = r .same-group ∙ sp .after-group;
         rise = omega (arith, r .rise, sp .after-place);
-        end = r .end;
         path = (sp, subst (λ (k : ℕ). Rises es h (h .group e) k ss) (sp .after-place) (subst (λ (k : ℕ). Rises es h k (h .place t) ss) (sp .after-group) (r .path)));
       }
 
 -- from a leaf at the low end of its course inwards
 module _ (es : List Edge) (pr : Proper es) (rf : RingFree es) {relabellings : ℕ} {h : Shape} (w : Courses es relabellings h) (x e : ℕ) (c : degree es x ≡ 1) (a : At es x e) (lo : h .low e ≡ x) where
-  pub inwards-climb : Climb es h e (inwards es x) ((inward es pr rf x e c a) .onto) ((inward es pr rf x e c a) .to)
+  pub inwards-climb : Climb es h e (inwards es x) ((inward es pr rf x e c a) .onto)
   inwards-climb = climb es pr w (a .inside) (ap (λ (v : ℕ). far es e v) lo) (w .leaf-open x e c a) ((inward es pr rf x e c a) .trail)
 
   short-low : length (inwards es x) < size h (length es) (h .group e)

@@ -1,6 +1,6 @@
 -- An edge that closes a group on itself: labels of one block stay apart, by the places on the course that was open until now.
 use mathlib.Core.Path.{_≡_, refl, sym, ap, _∙_, subst}
-use mathlib.Core.Logic.{_≢_, _⊎_, inl, inr}
+use mathlib.Core.Logic.{_⊎_, inl, inr}
 use Prim.Native.Nat.{ℕ, suc, _+_, _≤_, _<_}
 use native.Mathlib.Omega.{arith}
 use mathlib.Core.List.{List, _∷_}
@@ -15,7 +15,7 @@ use Rattle.model.proofs.Groups.Climb.{Spot, rises-ith, inwards-climb}
 use Rattle.model.proofs.Walks.NewEdge.{old-edge}
 use Rattle.model.proofs.Groups.Grown.{Growth, GrownTo, grownTo, seen-o}
 use Rattle.model.proofs.Groups.GrownEnds.{end-group}
-use Rattle.model.proofs.Walks.Places.{Ith, ith-one, ith-split}
+use Rattle.model.proofs.Walks.Places.{Ith, ith-one, ith-split, Off}
 use Rattle.model.proofs.Labels.Following.{ithLabel, labelAt}
 use Rattle.model.proofs.Groups.Origins.{Stand, FitsBlock, fits-same}
 use Rattle.model.proofs.Groups.Ghosts.{Ghosts}
@@ -83,7 +83,7 @@ module _ (jo : Joined) where
   -- where a regular vertex of the group stood while the course was open: on the path, or where it was before
   pub data Who (v at : ℕ) : Type 0 where
     of-path : (i : ℕ) (t : Pass) → Ith t i path → t .at ≡ v → at ≡ size₁ + i → l′ .block v ≡ now → Who v at
-    of-old : (u : Successive es h v gx) → at ≡ h .place (u .hi) → ((i : ℕ) (t : Pass) → Ith t i path → t .at ≢ v) → l .origin (l′ .block v) < size₁ → l′ .block v ≡ l .block v → Who v at
+    of-old : (u : Successive es h v gx) → at ≡ h .place (u .hi) → Off path v → l .origin (l′ .block v) < size₁ → l′ .block v ≡ l .block v → Who v at
 
   -- .. and its label, by that place
   pub record Stood (v : ℕ) : Type 0 where

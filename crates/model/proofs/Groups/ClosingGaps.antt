@@ -4,18 +4,18 @@ use mathlib.Core.Logic.{_≢_}
 use Prim.Native.Nat.{ℕ, zero, suc, _+_, _-_, _*_, _≤_, _<_}
 use native.Mathlib.Omega.{arith}
 use native.Mathlib.Decide.{decLt, decLe}
-use mathlib.Core.List.{List}
+use mathlib.Core.List.{List, [], _∷_}
 use lib.ListN.{length}
 use Rattle.model.specs.Graph.{Edge, Pass, degree, far}
 use Rattle.model.specs.Labels.{Marks, inwards}
 use Rattle.model.proofs.Walks.Degree.{Proper, is-two, degree-snoc}
 use Rattle.model.proofs.Walks.Turn.{At}
-use Rattle.model.proofs.Walks.Trail.{Trail, done, pass, Next, next-edge}
+use Rattle.model.proofs.Walks.Trail.{Trail, done, pass, trail-cons, Next, next-edge}
 use Rattle.model.proofs.Groups.Shape.{Shape, size, size-fresh, Successive, Courses}
 use Rattle.model.proofs.Groups.Flip.{flipped, flip-place, flip-low, flip-courses}
 use Rattle.model.proofs.Groups.Climb.{low-path, inwards-short}
 use Rattle.model.proofs.Groups.Grown.{Growth, GrownTo, grownTo, size-x}
-use Rattle.model.proofs.Walks.Places.{Ith, here, later, InPath, ith-below}
+use Rattle.model.proofs.Walks.Places.{Ith, here, later, no-ith, InPath, Off, ith-below}
 use Rattle.model.proofs.Groups.Origins.{Origins, Aligned, offset, fits-near}
 use Rattle.model.proofs.Groups.Ghosts.{Ghosts}
 use Rattle.model.proofs.Groups.Laying.{Laying, begins, growth}
@@ -27,15 +27,13 @@ use Rattle.model.proofs.Groups.Closing.{Joined, closed, size₁, Who, o
 use Rattle.model.proofs.Walks.Joins.{across}
 
 trail-first : {es : List Edge} {d v q w i : ℕ} {s : Pass} {ss : List Pass} → Trail es d v ss q w → Ith s i ss → degree es v ≡ 2
-trail-first {es} {v = v} (pass t c e u) j = is-two es v c
-trail-first {i = zero} done j = elim j [ ]
-trail-first {i = suc i} done j = elim j [ ]
+trail-first {ss = []} u j = absurd (no-ith j)
+trail-first {es} {v = v} {ss = t ∷ ss} u j = is-two es v (trail-cons u .1)
 
 -- all regular vertices of a trail are of one block
 one-block : (es : List Edge) → Proper es → {m : Marks} {blocks : ℕ} {h : Shape} {l : Origins} → Aligned es m blocks h l
     → {e v q z : ℕ} {ss : List Pass} → At es v e → Trail es e v ss q z → (i : ℕ) (s : Pass) → Ith s i ss → l .block (s .at) ≡ l .block v
-one-block es pr lab a done zero s j = elim j [ ]
-one-block es pr lab a done (suc i) s j = elim j [ ]
+one-block es pr lab a done i s j = absurd (no-ith j)
 one-block es pr lab a (pass t c tn u) zero s here = refl
 one-block es pr lab {e} {v} a (pass t c tn u) (suc i) s (later j) =
     let nx : Next es e v t = next-edge es e v t pr a c tn in
@@ -76,7 +74,7 @@ module _ (jo : Joined) where
       rw size-now (omega (arith, g))
 
   -- an old regular vertex of another block stands between the two chains
-  above-y : (v : ℕ) (u : Successive es h v gx) → ((i : ℕ) (t : Pass) → Ith t i path → t .at ≢ v) → length (inwards es y) < h .place (u .hi)
+  above-y : (v : ℕ) (u : Successive es h v gx) → Off path v → length (inwards es y) < h .place (u .hi)
   above-y v u n = go (decLt (length (inwards es y)) (h .place (u .hi)))
     where
       go : Dec (length (inwards es y) < h .place (u .hi)) → length (inwards es y) < h .place (u .hi)
@@ -109,7 +107,7 @@ module _ (jo : Joined) where
           (u .lo-group) (omega (arith, pl, u .step, old-below jo v u)) (flip-low es h gx (u .lo) (u .lo-group) ∙ u .lo-end) (omega (arith, z, old-below jo v u))))
 
   path-and-old : (v z : ℕ) (hv : Stood jo v) (hz : Stood jo z) (i : ℕ) → i ≤ length (inwards es y) + 1 → hv .at ≡ s + i → (u : Successive es h z gx) → hz .at ≡ h .place (u .hi)
-      → ((i : ℕ) (t : Pass) → Ith t i path → t .at ≢ z) → l .origin (l′ .block z) < s → l .block z ≢ now
+      → Off path z → l .origin (l′ .block z) < s → l .block z ≢ now
       → offset marksAfter l′ v + offset marksAfter l′ z + 1 ≤ 2 * (s + 1)
   path-and-old v z hv hz i il at-v u at-z n ol bl =
       let y-side = above-y z u n in

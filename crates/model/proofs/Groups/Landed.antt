@@ -13,7 +13,7 @@ use Rattle.model.proofs.Basics.Booleans.{not-both}
 use Rattle.model.proofs.Walks.Degree.{Proper, end-first, end-second}
 use Rattle.model.proofs.Walks.Turn.{At}
 use Rattle.model.proofs.Walks.RingFree.{RingFree}
-use Rattle.model.proofs.Walks.Places.{no-nil}
+use Rattle.model.proofs.Walks.Places.{no-ith}
 use Rattle.model.proofs.Labels.Following.{following}
 use Rattle.model.proofs.Labels.Laid.{extendPath, mergePath, Laid, Inserted, fresh, extends, merges, fresh-none}
 use Rattle.model.proofs.Labels.WearsAfter.{LongEnough}
@@ -70,11 +70,11 @@ module _ (es : List Edge) (p : Edge) (pr : Proper es) (d : p .first ≢ p .secon
         label = 0;
         now = 0;
         start = 0;
-        path-group = λ i t e j a. absurd (no-nil (t .at) i t j refl);
-        path-beside = λ i t w e j c a b. absurd (no-nil (t .at) i t j refl);
-        path-spot = λ o i t j. absurd (no-nil (t .at) i t j refl);
-        path-block = λ i t j. absurd (no-nil (t .at) i t j refl);
-        path-fits = λ i t j. absurd (no-nil (t .at) i t j refl);
+        path-group = λ i t e j a. absurd (no-ith j);
+        path-beside = λ i t w e j c a b. absurd (no-ith j);
+        path-spot = λ o i t j. absurd (no-ith j);
+        path-block = λ i t j. absurd (no-ith j);
+        path-fits = λ i t j. absurd (no-ith j);
         path-has = λ v o c. absurd (fresh-none es p ca cb v o c);
       } in
       open-ghosts re refl

@@ -82,7 +82,7 @@ module _ (ly : Laying) where
   -- along the open course
   pub spots : b ≡ true → (i : ℕ) (t : Pass) → Ith t i path → Spot new h′ gx (h .place e + i) t
   spots z i t j =
-      let c : Climb new h′ e path (la .onto) (la .to) = climb new (proper-snoc es p pr d) (grown-courses growth) (omega (arith, e-in, length-new es p)) (old-end growth e e-in ∙ high .hi)
+      let c : Climb new h′ e path (la .onto) = climb new (proper-snoc es p pr d) (grown-courses growth) (omega (arith, e-in, length-new es p)) (old-end growth e e-in ∙ high .hi)
       (rw (seen-e .0) (open-gx growth ∙ z)) (la .trail) in
       let r : Rises new h′ gx (h .place e) path = subst (λ (q : ℕ). Rises new h′ gx q path) (seen-e .1) (subst (λ (q : ℕ). Rises new h′ q (h′ .place e) path) (seen-e .0) (c .path)) in
       rises-ith (h .place e) path r i t j

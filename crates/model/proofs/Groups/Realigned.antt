@@ -31,7 +31,7 @@ low-of-path false t = refl
 
 module _ (re : Relabelled) where
   open Relabelled re using (it, m, blocks′, l, lab, path, up, label, now, path-group, path-spot, path-block, path-fits)
-  open Growth it using (es, p, h, gx, gy, k, b, s)
+  open Growth it using (es, p, h, gx, gy, b, s)
   open GrownTo (grownTo it) using (new, h′)
   open Renewed (renewed re) using (l′, marksAfter)
 

@@ -1,6 +1,6 @@
 -- One more edge and its labels: the path wears new ones, all others what they wore, and each block keeps to its group.
 use mathlib.Core.Path.{_≡_, refl, sym, ap, _∙_, subst}
-use mathlib.Core.Logic.{_≢_, _⊎_, inl, inr}
+use mathlib.Core.Logic.{_⊎_, inl, inr}
 use Prim.Native.Nat.{ℕ, zero, suc, _+_, _≤_}
 use native.Mathlib.Decide.{ℕ-discrete}
 use mathlib.Core.Bool.{Bool, true}
@@ -13,7 +13,7 @@ use Rattle.model.proofs.Walks.Turn.{At, some-edge}
 use Rattle.model.proofs.Groups.Shape.{size, pick, pick-yes, pick-no}
 use Rattle.model.proofs.Groups.Climb.{Spot}
 use Rattle.model.proofs.Walks.NewEdge.{old-edge}
-use Rattle.model.proofs.Walks.Places.{Ith, here, later, InPath}
+use Rattle.model.proofs.Walks.Places.{Ith, here, later, no-ith, InPath, Off}
 use Rattle.model.proofs.Labels.Following.{following, ithLabel}
 use Rattle.model.proofs.Groups.Origins.{Origins, Aligned, BlockAt, FitsBlock}
 use Rattle.model.proofs.Labels.WearsAfter.{LongEnough, WearsAfter, in-path, as-was, wears-after}
@@ -27,8 +27,7 @@ pathBlock k (s ∷ ss) f v = pick (s .at) v k (pathBlock k ss f v)
 
 given-in : (k : ℕ) (path : List Pass) (f : ℕ → ℕ) (v i : ℕ) (s : Pass) → Ith s i path → s .at ≡ v → pathBlock k path f v ≡ k
 unfolding pathBlock
-given-in k [] f v zero s j e = elim j [ ]
-given-in k [] f v (suc i) s j e = elim j [ ]
+given-in k [] f v i s j e = absurd (no-ith j)
 given-in k (t ∷ ss) f v zero s here e = pick-yes (t .at) v k _ e
 given-in k (t ∷ ss) f v (suc i) s (later j) e = go (ℕ-discrete (t .at) v) (given-in k ss f v i s j e)
   where
@@ -36,7 +35,7 @@ given-in k (t ∷ ss) f v (suc i) s (later j) e = go (ℕ-discrete (t .at) v) (g
     go (yes q) h = pick-yes (t .at) v k _ q
     go (no q) h = pick-no (t .at) v k _ q ∙ h
 
-given-out : (k : ℕ) (path : List Pass) (f : ℕ → ℕ) (v : ℕ) → ((i : ℕ) (s : Pass) → Ith s i path → s .at ≢ v) → pathBlock k path f v ≡ f v
+given-out : (k : ℕ) (path : List Pass) (f : ℕ → ℕ) (v : ℕ) → Off path v → pathBlock k path f v ≡ f v
 unfolding pathBlock
 given-out k [] f v n = refl
 given-out k (t ∷ ss) f v n = pick-no (t .at) v k _ (n 0 t here) ∙ given-out k ss f v (λ i s j. n (suc i) s (later j))
@@ -85,7 +84,7 @@ renewed re =
 
 module _ (re : Relabelled) where
   open Relabelled re using (it, m, m′, br, lg, blocks′, l, lab, path, up, label, now, path-group, path-beside, path-block, path-has)
-  open Growth it using (es, p, pr, d, gy, k, s)
+  open Growth it using (es, p, pr, d, gy, s)
   open GrownTo (grownTo it) using (new, h′)
   open Renewed (renewed re) using (l′, marksAfter)
 
@@ -98,7 +97,7 @@ module _ (re : Relabelled) where
   pub block-in : (v i : ℕ) (t : Pass) → Ith t i path → t .at ≡ v → l′ .block v ≡ now
   block-in v i t j e = given-in now path (l .block) v i t j e
 
-  pub block-out : (v : ℕ) → ((i : ℕ) (t : Pass) → Ith t i path → t .at ≢ v) → l′ .block v ≡ l .block v
+  pub block-out : (v : ℕ) → Off path v → l′ .block v ≡ l .block v
   block-out v n = given-out now path (l .block) v n
 
   pub owned′ : (v e : ℕ) → degree new v ≡ 2 → At new v e → l′ .owner (l′ .block v) ≡ h′ .group e

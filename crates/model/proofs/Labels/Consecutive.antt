@@ -3,7 +3,7 @@ use mathlib.Core.Path.{_≡_, refl, sym, ap, _∙_, subst}
 use mathlib.Core.Logic.{_≢_, _⊎_, inl, inr}
 use Prim.Native.Nat.{ℕ, suc, _<_}
 use native.Mathlib.Decide.{ℕ-discrete}
-use mathlib.Core.Bool.{Bool, true, false}
+use mathlib.Core.Bool.{true}
 use mathlib.Core.List.{List, [], _∷_, _++_, map}
 use lib.ListN.{length, length-map}
 use Rattle.model.specs.Basics.{countFrom}
@@ -15,18 +15,13 @@ use Rattle.model.proofs.Basics.Booleans.{not-both}
 use Rattle.model.proofs.Walks.Degree.{Proper, is-two}
 use Rattle.model.proofs.Walks.Turn.{At, two-edges, turn-between}
 use Rattle.model.proofs.Walks.Joins.{Across, across, far-ne}
-use Rattle.model.proofs.Walks.Trail.{Trail, done, pass, Next, next-edge, afters}
+use Rattle.model.proofs.Walks.Trail.{Trail, done, pass, Front, front, first, nothing, Next, next-edge, afters}
 use Rattle.model.proofs.Walks.RingFree.{RingFree}
 use Rattle.model.proofs.Chains.Same.{lineChain, Line}
 use Rattle.model.proofs.Chains.Partition.{LineOf, own-line}
 use Rattle.model.proofs.Chains.Exact.{line-back, line-back-chain}
 use Rattle.model.proofs.Labels.Following.{labelAt, lowAt}
 use Rattle.model.proofs.Labels.Rise.{Rise, up-to, down-to, Sided}
-
--- a trail from a singular vertex passes nothing
-trail-still : {es : List Edge} {d v q w : ℕ} {ss : List Pass} → Trail es d v ss q w → isRegular es v ≡ false → ss ≡ []
-trail-still done j = refl
-trail-still (pass t c e u) j = absurd (not-both _ c j)
 
 module _ (es : List Edge) (pr : Proper es) (m : Marks) (s : Sided es m) where
   -- the labels and low edges of what is passed, where they rise on the way
@@ -47,28 +42,23 @@ module _ (es : List Edge) (pr : Proper es) (m : Marks) (s : Sided es m) where
   ascends : {d v q w : ℕ} {ss : List Pass} → At es v d → Trail es d v ss q w → (isRegular es v ≡ true → lowAt m v ≡ d) → Ascends d v ss q
   unfolding countFrom afters atOf afterOf
   ascends a done l = record { labels-are = refl; lows-are = refl }
-  ascends {d} {v} {q} {w} a (pass {ss = ss} t c e u) l = go (isRegular es (far es t v)) refl (λ k. ascends (nx .across .at) u k)
+  ascends {d} {v} {q} {w} a (pass {ss = ss} t c e u) l =
+      let r : Ascends t (far es t v) ss q = ascends (nx .across .at) u (λ c′. (o c′) .0) in
+      record {
+        labels-are = ap (λ (ls : List ℕ). labelAt m v ∷ ls) (go (front u) (r .labels-are));
+        lows-are = rw (l c) (ap (λ (ls : List ℕ). d ∷ ls) (r .lows-are));
+      }
     where
       nx : Next es d v t
       nx = next-edge es d v t pr a c e
 
-      goal : Ascends t (far es t v) ss q → map (labelAt m) (map atOf ss) ≡ countFrom (suc (labelAt m v)) (length ss)
-          → Ascends d v (record { before = d; at = v; after = t } ∷ ss) q
-      goal r k =
-          record {
-            labels-are = ap (λ (ls : List ℕ). labelAt m v ∷ ls) k;
-            lows-are = rw (l c) (ap (λ (ls : List ℕ). d ∷ ls) (r .lows-are));
-          }
+      o : isRegular es (far es t v) ≡ true → (lowAt m (far es t v) ≡ t) × (labelAt m (far es t v) ≡ suc (labelAt m v))
+      o c′ = on-up v d t (l c) (nx .other) (rise v t c (nx .at) c′)
 
-      go : (b : Bool) → isRegular es (far es t v) ≡ b → ((isRegular es (far es t v) ≡ true → lowAt m (far es t v) ≡ t) → Ascends t (far es t v) ss q)
-          → Ascends d v (record { before = d; at = v; after = t } ∷ ss) q
-      go true c′ ih =
-          let o = on-up v d t (l c) (nx .other) (rise v t c (nx .at) c′) in
-          let r = ih (λ x. o .0) in
-          goal r (r .labels-are ∙ ap (λ (n : ℕ). countFrom n (length ss)) (o .1))
-      go false c′ ih =
-          let z : ss ≡ [] = trail-still u c′ in
-          goal (ih (λ x. absurd (not-both _ x c′))) (rw z refl)
+      go : Front es t (far es t v) ss w → map (labelAt m) (map atOf ss) ≡ countFrom (labelAt m (far es t v)) (length ss)
+          → map (labelAt m) (map atOf ss) ≡ countFrom (suc (labelAt m v)) (length ss)
+      go (nothing z _) h = rw z refl
+      go (first _ _ _ _ _ c′) h = h ∙ ap (λ (n : ℕ). countFrom n (length ss)) ((o c′) .1)
 
   -- if the first low edge is the one after, so is the last
   data Falls (d v q w : ℕ) : Type 0 where

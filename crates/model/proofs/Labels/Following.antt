@@ -1,6 +1,5 @@
 -- The labels that follow a label, along a path: what each vertex wears then.
 use mathlib.Core.Path.{_≡_, refl, sym, _∙_}
-use mathlib.Core.Logic.{_≢_}
 use Prim.Native.Nat.{ℕ, suc, _+_, _-_, _<_}
 use native.Mathlib.Omega.{arith}
 use native.Mathlib.Decide.{ℕ-discrete}
@@ -10,7 +9,7 @@ use lib.ListN.{length, getD, set, length-set}
 use lib.Seq.{getD-set-same, getD-set-other}
 use Rattle.model.specs.Graph.{Pass}
 use Rattle.model.specs.Labels.{Marks, base, labelPath, mark, next}
-use Rattle.model.proofs.Walks.Places.{Ith, here, later, no-nil, no-here}
+use Rattle.model.proofs.Walks.Places.{Ith, here, later, no-ith, Off, off-cons}
 
 -- the label and the low edge of a vertex
 unfoldable pub labelAt : Marks → ℕ → ℕ
@@ -55,28 +54,28 @@ ithLabel-suc false label i = omega arith
 -- what vertex v wears then: label t, low edge l
 pub data Wears (up : Bool) (label : ℕ) (path : List Pass) (m : Marks) (v t l : ℕ) : Type 0 where
   given : (i : ℕ) (s : Pass) → Ith s i path → s .at ≡ v → t ≡ ithLabel up label i → l ≡ lowOf up s → Wears up label path m v t l
-  kept : ((i : ℕ) (s : Pass) → Ith s i path → s .at ≢ v) → t ≡ getD (m .labels) v 0 → l ≡ getD (m .lows) v 0 → Wears up label path m v t l
+  kept : Off path v → t ≡ getD (m .labels) v 0 → l ≡ getD (m .lows) v 0 → Wears up label path m v t l
 
-set-at : (xs : List ℕ) (w v a : ℕ) → w ≡ v → v < length xs → getD (set xs w a) v 0 ≡ a
-set-at xs w v a e l = rw e (getD-set-same xs v a 0 l)
+set-at : (xs : List ℕ) (w v a : ℕ) → v ≡ w → v < length xs → getD (set xs w a) v 0 ≡ a
+set-at xs w v a e l = rw (← e) (getD-set-same xs v a 0 l)
 
-wears-on : (up : Bool) (label : ℕ) (s : Pass) (ss : List Pass) (m : Marks) (v t l : ℕ) → v < length (m .labels) → v < length (m .lows) → Dec (s .at ≡ v)
+wears-on : (up : Bool) (label : ℕ) (s : Pass) (ss : List Pass) (m : Marks) (v t l : ℕ) → v < length (m .labels) → v < length (m .lows) → Dec (v ≡ s .at)
     → Wears up (ithLabel up label 0) ss (mark (s .at) (ithLabel up label 0) (lowOf up s) m) v t l → Wears up label (s ∷ ss) m v t l
 unfolding mark
 wears-on up label s ss m v t l a b d (given i s′ j e f g) = given (suc i) s′ (later j) e (f ∙ ithLabel-suc up label i) g
 wears-on up label s ss m v t l a b (yes e) (kept k f g) =
-    given 0 s here e (f ∙ set-at (m .labels) (s .at) v (ithLabel up label 0) e a) (g ∙ set-at (m .lows) (s .at) v (lowOf up s) e b)
+    given 0 s here (sym e) (f ∙ set-at (m .labels) (s .at) v (ithLabel up label 0) e a) (g ∙ set-at (m .lows) (s .at) v (lowOf up s) e b)
 wears-on up label s ss m v t l a b (no e) (kept k f g) =
-    kept (no-here s ss v e k) (f ∙ getD-set-other (m .labels) (s .at) v (ithLabel up label 0) 0 (λ z. e (sym z))) (g ∙ getD-set-other (m .lows) (s .at) v (lowOf up s) 0 (λ z. e (sym z)))
+    kept (off-cons s ss v k e) (f ∙ getD-set-other (m .labels) (s .at) v (ithLabel up label 0) 0 e) (g ∙ getD-set-other (m .lows) (s .at) v (lowOf up s) 0 e)
 
 pub wears : (up : Bool) (label : ℕ) (path : List Pass) (m : Marks) (v : ℕ) → v < length (m .labels) → v < length (m .lows)
     → Wears up label path m v (getD ((following up label path m) .labels) v 0) (getD ((following up label path m) .lows) v 0)
 unfolding following labelPath mark
-wears true label [] m v a b = kept (no-nil v) refl refl
-wears false label [] m v a b = kept (no-nil v) refl refl
+wears true label [] m v a b = kept (λ i s j. absurd (no-ith j)) refl refl
+wears false label [] m v a b = kept (λ i s j. absurd (no-ith j)) refl refl
 wears up label (s ∷ ss) m v a b =
     rw (following-cons up label s ss m)
-    (wears-on up label s ss m v _ _ a b (ℕ-discrete (s .at) v)
+    (wears-on up label s ss m v _ _ a b (ℕ-discrete v (s .at))
     (wears up (ithLabel up label 0) ss (mark (s .at) (ithLabel up label 0) (lowOf up s) m) v
     (omega (arith, a, length-set (m .labels) (s .at) (ithLabel up label 0))) (omega (arith, b, length-set (m .lows) (s .at) (lowOf up s)))))
 

@@ -15,16 +15,16 @@ use Rattle.model.specs.Cases.{closesRing}
 use Rattle.model.specs.Labels.{Labelling, Marks, attach, extend, innerCount, inwards, joinPath, labelEdge, merge}
 use Rattle.model.proofs.Walks.Degree.{Proper, degree-snoc, endsAt-le, zero-or-one, is-two, not-two, proper-snoc, end-first, end-second, two-ends, no-end, regular-no-end}
 use Rattle.model.proofs.Walks.Turn.{At, one-edge, onlyEdge-is}
-use Rattle.model.proofs.Walks.Trail.{Trail, done, pass}
+use Rattle.model.proofs.Walks.Trail.{Trail, done, pass, trail-nil, trail-cons}
 use Rattle.model.proofs.Walks.Snoc.{far-old, trail-old, trail-clear}
 use Rattle.model.proofs.Walks.RingFree.{RingFree}
 use Rattle.model.proofs.Walks.NewEdge.{at-new}
 use Rattle.model.proofs.Labels.Cases.{compact, edge-compact}
 use Rattle.model.proofs.Walks.Places.{here, later, InPath}
 use Rattle.model.proofs.Labels.Splits.{unlabel, Bare, splits, no-splits}
-use Rattle.model.proofs.Labels.Inwards.{trail-nil, trail-head, Inward, inward-on, inward}
+use Rattle.model.proofs.Labels.Inwards.{Inward, inward-on, inward}
 use Rattle.model.proofs.Labels.Laid.{Attached, attached, Laid, extendPath, mergePath, Inserted, fresh, extends, merges}
-use Rattle.model.proofs.Walks.NewTurn.{NewTurn, new-turn, far-last}
+use Rattle.model.proofs.Walks.NewTurn.{new-turn, far-last}
 use Rattle.model.proofs.Walks.Joins.{across, far-ne}
 use Rattle.model.proofs.Walks.Ended.{leaf-once}
 use Rattle.model.proofs.Walks.Ring.{no-ring}
@@ -91,14 +91,14 @@ module _ (es : List Edge) (p : Edge) (pr : Proper es) (d : p .first ≢ p .secon
     path-on : {ss : List Pass} {onto to : ℕ} → Trail new (length es) y ss onto to → Trail new e x (record { before = e; at = x; after = length es } ∷ ss) onto to
     path-on {ss} {onto} {to} u =
         let u′ : Trail new (length es) (far new (length es) x) ss onto to = rw (far-last es p pr d x y ox oy xy) u in
-        let t : NewTurn es p x e = new-turn es p pr d x e ox cx a in
-        pass (length es) (t .regular) (t .out) u′
+        let t = new-turn es p pr d x e ox cx a in
+        pass (length es) (t .regular) (t .forth) u′
 
     -- ---- extending
     module _ (m′ : Marks) (ny : degree es y ≢ 1) (br : Bare es p m m′) where
       attached-extend : Attached es p w blocks e (extendPath es x e) m m′ (attach blocks e (onwards new e (far new e x)) (extendPath es x e) m′)
       unfolding w
-      attached-extend = attached es p w blocks e _ _ m m′ br (λ q c. not-two new (i .to) (i .singular) (rw (← trail-nil (i .trail) q, w-is) c)) head
+      attached-extend = attached es p w blocks e _ _ m m′ br (λ q c. not-two new (i .to) (i .singular) (rw (← trail-nil (rw q at (i .trail)), w-is) c)) head
         where
           i : Inward new x e (onwards new e (far new e x))
           i = inward-on new proper-new rf′ x e (at-new es p a)
@@ -112,10 +112,10 @@ module _ (es : List Edge) (p : Edge) (pr : Proper es) (d : p .first ≢ p .secon
 
           head : (u : Pass) (us : List Pass) → onwards new e (far new e x) ≡ u ∷ us → (u .at ≡ w) × (degree es w ≡ 2) × (endsAt w p ≡ 0)
           head u us q =
-              let h = trail-head u us (i .trail) q in
-              let c : degree new w ≡ 2 = rw w-is at (is-two new (far new e x) (h .head-regular)) in
+              let h = trail-cons (rw q at (i .trail)) in
+              let c : degree new w ≡ 2 = rw w-is at (is-two new (far new e x) (h .1)) in
               let o : endsAt w p ≡ 0 = no-end p w d (λ k. not-w (omega (arith, degree-snoc es p w)) (an-end w k)) in
-              (h .head-at ∙ w-is, omega (arith, degree-snoc es p w), o)
+              (h .0 ∙ w-is, omega (arith, degree-snoc es p w), o)
 
       laid-extend : Inserted es p blocks m (extend es new blocks x m′)
       unfolding extend
@@ -147,16 +147,16 @@ module _ (es : List Edge) (p : Edge) (pr : Proper es) (d : p .first ≢ p .secon
 
       attached-merge : Attached es p w blocks e (mergePath es x y e c) m m (attach blocks e (inwards es x) (mergePath es x y e c) m)
       unfolding w
-      attached-merge = attached es p w blocks e _ _ m m bare (λ q k. stop-new x y e (inwards es x) ox oy xy cx cy a i (rw (← trail-nil (i .trail) q) k)) head
+      attached-merge = attached es p w blocks e _ _ m m bare (λ q k. stop-new x y e (inwards es x) ox oy xy cx cy a i (rw (← trail-nil (rw q at (i .trail))) k)) head
         where
           i : Inward es x e (inwards es x)
           i = inward es pr rf x e cx a
 
           head : (u : Pass) (us : List Pass) → inwards es x ≡ u ∷ us → (u .at ≡ w) × (degree es w ≡ 2) × (endsAt w p ≡ 0)
           head u us q =
-              let h = trail-head u us (i .trail) q in
-              let k : degree es w ≡ 2 = is-two es w (h .head-regular) in
-              (h .head-at, k, missed w k)
+              let h = trail-cons (rw q at (i .trail)) in
+              let k : degree es w ≡ 2 = is-two es w (h .1) in
+              (h .0, k, missed w k)
 
       laid-merge : length (inwards es y) ≤ length (inwards es x) → Inserted es p blocks m (attach blocks (onlyEdge es x) (inwards es x) (joinPath es x y) m)
       unfolding joinPath
@@ -171,7 +171,7 @@ module _ (es : List Edge) (p : Edge) (pr : Proper es) (d : p .first ≢ p .secon
           u =
               let t : Trail new c (far es c y) (inwards es y) (i .onto) (i .to) = trail-old p pr ((across es c y pr b) .at) (trail-clear p missed (i .trail)) (i .trail) in
               let t′ : Trail new c (far new c y) (inwards es y) (i .onto) (i .to) = rw (far-old es p c y (b .inside)) t in
-              let ty : NewTurn es p y c = new-turn es p pr d y c oy cy b in
+              let ty = new-turn es p pr d y c oy cy b in
               pass c (ty .regular) (ty .back) t′
 
           on-path : (v : ℕ) → (v ≡ x) ⊎ (v ≡ y) → InPath (mergePath es x y e c) v

@@ -1,10 +1,8 @@
 -- Trails through regular vertices, and the one from a leaf inwards.
-use mathlib.Core.Path.{_≡_, refl, sym, ap}
+use mathlib.Core.Path.{_≡_}
 use Prim.Native.Nat.{ℕ, zero, suc}
-use native.Mathlib.Omega.{arith}
-use mathlib.Core.Bool.{true, false}
-use mathlib.Core.List.{List, [], _∷_}
-use lib.ListN.{length}
+use mathlib.Core.Bool.{false}
+use mathlib.Core.List.{List}
 use borrow.Author.Tests.{eqb-true}
 use Rattle.model.specs.Graph.{Edge, Pass, degree, far, isRegular, onwards}
 use Rattle.model.specs.Labels.{inwards}
@@ -13,28 +11,12 @@ use Rattle.model.proofs.Walks.Turn.{At, onlyEdge-is}
 use Rattle.model.proofs.Walks.Joins.{across}
 use Rattle.model.proofs.Walks.Trail.{Trail, done, pass}
 use Rattle.model.proofs.Walks.RingFree.{RingFree}
-use Rattle.model.proofs.Walks.Places.{Ith, here, later}
+use Rattle.model.proofs.Walks.Places.{Ith, here, later, no-ith}
 use Rattle.model.proofs.Walks.Whole.{Onwards, onwards-ends}
-
-pub trail-nil : {es : List Edge} {d v q w : ℕ} {ss : List Pass} → Trail es d v ss q w → ss ≡ [] → v ≡ w
-trail-nil done e = refl
-trail-nil (pass {ss = ss} t c tn u) e = absurd (let z : suc (length ss) ≡ 0 = ap length e in omega arith)
-
-pub record Head (es : List Edge) (v : ℕ) (u : Pass) : Type 0 where
-  pub head-at : u .at ≡ v
-  pub head-regular : isRegular es v ≡ true
-
-cons-head : (a b : Pass) (xs ys : List Pass) → a ∷ xs ≡ b ∷ ys → a ≡ b
-cons-head a b xs ys e = cc
-
-pub trail-head : {es : List Edge} {d v q w : ℕ} {ss : List Pass} (u : Pass) (us : List Pass) → Trail es d v ss q w → ss ≡ u ∷ us → Head es v u
-trail-head u us done e = absurd (let z : 0 ≡ suc (length us) = ap length e in omega arith)
-trail-head {v = v} u us (pass t c tn r) e = record { head-at = ap (λ (s : Pass). s .at) (sym (cons-head _ u _ us e)); head-regular = c }
 
 pub trail-regular : {es : List Edge} {d v q w : ℕ} {ss : List Pass} → Trail es d v ss q w → (i : ℕ) (s : Pass) → Ith s i ss → degree es (s .at) ≡ 2
 unfolding isRegular
-trail-regular done zero s j = elim j [ ]
-trail-regular done (suc i) s j = elim j [ ]
+trail-regular done i s j = absurd (no-ith j)
 trail-regular (pass t c tn u) zero s here = eqb-true _ _ c
 trail-regular (pass t c tn u) (suc i) s (later j) = trail-regular u i s j
 

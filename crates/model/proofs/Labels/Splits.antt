@@ -29,7 +29,7 @@ pub record Bare (es : List Edge) (p : Edge) (m m′ : Marks) : Type 0 where
   pub no-move : relabelCount (m .labels) (m′ .labels) ≤ 0
 
 -- one split
-record Off (es : List Edge) (w : ℕ) (m m′ : Marks) : Type 0 where
+record OneSplit (es : List Edge) (w : ℕ) (m m′ : Marks) : Type 0 where
   off : (v : ℕ) → w ≡ v → degree es v ≡ 2 → getD (m′ .labels) v 0 ≡ 0
   off-kept : (v : ℕ) → getD (m .labels) v 0 ≡ 0 → getD (m′ .labels) v 0 ≡ 0
   kept-label : (v : ℕ) → degree es v ≢ 2 ⊎ (w ≢ v) → getD (m′ .labels) v 0 ≡ getD (m .labels) v 0
@@ -56,11 +56,11 @@ not-here : (es : List Edge) (w v : ℕ) → degree es w ≡ 2 → degree es v �
 not-here es w v c (inl n) e = n (rw e c)
 not-here es w v c (inr n) e = n (sym e)
 
-one-off : (es : List Edge) (w : ℕ) (m : Marks) → Off es w m (unlabel es w m)
+one-split : (es : List Edge) (w : ℕ) (m : Marks) → OneSplit es w m (unlabel es w m)
 unfolding unlabel split isRegular mark
-one-off es w m = go (ℕ-discrete (degree es w) 2)
+one-split es w m = go (ℕ-discrete (degree es w) 2)
   where
-    go : Dec (degree es w ≡ 2) → Off es w m (if eqb (degree es w) 2 then mark w 0 0 m else m)
+    go : Dec (degree es w ≡ 2) → OneSplit es w m (if eqb (degree es w) 2 then mark w 0 0 m else m)
     go (yes c) = rw (eq-eqb (degree es w) 2 c) (record {
       off = λ v e q. rw e (set-off (m .labels) v);
       off-kept = λ v z. set-zero (m .labels) w v z;
@@ -93,11 +93,11 @@ splits es p m d = record {
     m₁ : Marks
     m₁ = unlabel es (p .first) m
 
-    s : Off es (p .first) m m₁
-    s = one-off es (p .first) m
+    s : OneSplit es (p .first) m m₁
+    s = one-split es (p .first) m
 
-    t : Off es (p .second) m₁ (unlabel es (p .second) m₁)
-    t = one-off es (p .second) m₁
+    t : OneSplit es (p .second) m₁ (unlabel es (p .second) m₁)
+    t = one-split es (p .second) m₁
 
     other : (w v : ℕ) → endsAt w p ≡ 1 → degree es v ≢ 2 ⊎ (endsAt v p ≡ 0) → degree es v ≢ 2 ⊎ (w ≢ v)
     other w v a (inl n) = inl n

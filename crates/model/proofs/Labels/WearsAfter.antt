@@ -10,7 +10,7 @@ use Rattle.model.specs.Graph.{Edge, Pass, degree, endsAt}
 use Rattle.model.specs.Labels.{Marks}
 use Rattle.model.proofs.Walks.Degree.{degree-snoc, no-end}
 use Rattle.model.proofs.Walks.Turn.{At}
-use Rattle.model.proofs.Walks.Places.{Ith, InPath}
+use Rattle.model.proofs.Walks.Places.{Ith, InPath, Off}
 use Rattle.model.proofs.Labels.Following.{following, ithLabel, lowOf, Wears, given, kept, wears, labelAt, lowAt}
 use Rattle.model.proofs.Labels.Splits.{Bare}
 
@@ -22,7 +22,7 @@ pub record LongEnough (es : List Edge) (m : Marks) : Type 0 where
 -- v in the list es with the edge p more, the path labelled: m are the marks before, `after` those afterwards
 pub data WearsAfter (es : List Edge) (p : Edge) (m : Marks) (up : Bool) (label : ℕ) (path : List Pass) (after : Marks) (v : ℕ) : Type 0 where
   in-path : (i : ℕ) (t : Pass) → Ith t i path → t .at ≡ v → labelAt after v ≡ ithLabel up label i → lowAt after v ≡ lowOf up t → WearsAfter es p m up label path after v
-  as-was : degree es v ≡ 2 → endsAt v p ≡ 0 → ((i : ℕ) (t : Pass) → Ith t i path → t .at ≢ v) → labelAt after v ≡ labelAt m v → lowAt after v ≡ lowAt m v
+  as-was : degree es v ≡ 2 → endsAt v p ≡ 0 → Off path v → labelAt after v ≡ labelAt m v → lowAt after v ≡ lowAt m v
       → WearsAfter es p m up label path after v
 
 pub wears-after : (es : List Edge) (p : Edge) → p .first ≢ p .second → (m m′ : Marks) → Bare es p m m′ → (up : Bool) (label : ℕ) (path : List Pass) → LongEnough (es ++ (p ∷ [])) m

@@ -11,7 +11,7 @@ use Rattle.model.proofs.Walks.Turn.{At, TwoEdges, two-edges, turn-betwe
 use Rattle.model.proofs.Walks.Trail.{Trail, done, pass, Next, next-edge, afters, Front, front, first, nothing}
 use Rattle.model.proofs.Walks.Joins.{other-end}
 use Rattle.model.proofs.Walks.Ended.{fresh}
-use Rattle.model.proofs.Walks.Places.{Ith, here, later}
+use Rattle.model.proofs.Walks.Places.{Ith, here, later, no-ith, Off, Once, once-cons}
 
 -- ---- a walk that ends passes no regular vertex twice
 
@@ -26,8 +26,7 @@ pub record Pair (es : List Edge) (t : ℕ) (ss : List Pass) (s : Pass) : Type 0 
 module _ (es : List Edge) (pr : Proper es) where
   pub pair : {e v q z : ℕ} {ss : List Pass} → At es v e → Trail es e v ss q z → (i : ℕ) (s : Pass) → Ith s i ss → Pair es e ss s
   unfolding afters afterOf
-  pair a done zero s j = elim j [ ]
-  pair a done (suc i) s j = elim j [ ]
+  pair a done i s j = absurd (no-ith j)
   pair {e} {v} a (pass t c tn u) zero s here =
       let nx : Next es e v t = next-edge es e v t pr a c tn in
       record { before-in = at-head refl; after-in = in-tail (at-head refl); before-at = a; after-at = nx .at; differ = λ q. nx .other (sym q) }
@@ -37,7 +36,7 @@ module _ (es : List Edge) (pr : Proper es) where
       record { before-in = in-tail (r .before-in); after-in = in-tail (r .after-in); before-at = r .before-at; after-at = r .after-at; differ = r .differ }
 
   first-once : {e v q z t : ℕ} {ss : List Pass} → At es v e → isRegular es v ≡ true → turn es e v ≡ t → Trail es t (far es t v) ss q z → isRegular es z ≡ false
-      → (i : ℕ) (s : Pass) → Ith s i ss → s .at ≡ v → ⊥
+      → Off ss v
   first-once {e} {v} {q} {z} {t} {ss} a c tn u jn i s j at-v = go (ℕ-discrete (s .before) e) (ℕ-discrete (s .after) e)
     where
       nx : Next es e v t
@@ -63,15 +62,10 @@ module _ (es : List Edge) (pr : Proper es) where
           let y : turn es e v ≡ s .after = turn-between es v e (s .after) tp a d (λ o. k (sym o)) in
           r .differ (sym x ∙ y)
 
-  pub at-once : {e v q z : ℕ} {ss : List Pass} → At es v e → Trail es e v ss q z → isRegular es z ≡ false → (i j : ℕ) (s t : Pass) → Ith s i ss → Ith t j ss → s .at ≡ t .at → i ≡ j
-  at-once a done jn zero j s t m n q = elim m [ ]
-  at-once a done jn (suc i) j s t m n q = elim m [ ]
-  at-once a (pass o c tn u) jn zero zero s t here here q = refl
-  at-once a (pass o c tn u) jn zero (suc j) s t here (later n) q = absurd (first-once a c tn u jn j t n (sym q))
-  at-once a (pass o c tn u) jn (suc i) zero s t (later m) here q = absurd (first-once a c tn u jn i s m q)
-  at-once {e} {v} a (pass o c tn u) jn (suc i) (suc j) s t (later m) (later n) q =
-      let nx : Next es e v o = next-edge es e v o pr a c tn in
-      ap suc (at-once (nx .across .at) u jn i j s t m n q)
+  pub at-once : {e v q z : ℕ} {ss : List Pass} → At es v e → Trail es e v ss q z → isRegular es z ≡ false → Once ss
+  at-once a done jn = λ i j s t m n q. absurd (no-ith m)
+  at-once {e} {v} a (pass {ss = ss} t c tn u) jn =
+      once-cons _ ss (first-once a c tn u jn) (at-once ((next-edge es e v t pr a c tn) .across .at) u jn)
 
 -- ---- what shares edge c with the i-th of a walk
 pub data Nearby (path : List Pass) (e v z i c w : ℕ) (s : Pass) : Type 0 where
@@ -91,8 +85,7 @@ module _ (es : List Edge) (pr : Proper es) where
 
   pub nearby : {e v q z : ℕ} {ss : List Pass} → At es v e → Trail es e v ss q z → (i : ℕ) (s : Pass) → Ith s i ss → (c w : ℕ) → At es (s .at) c → At es w c
       → Nearby ss e (far es e v) z i c w s
-  nearby a done zero s j c w b d = elim j [ ]
-  nearby a done (suc i) s j c w b d = elim j [ ]
+  nearby a done i s j c w b d = absurd (no-ith j)
   nearby {e} {v} {q} {z} a (pass {ss = ss} t k tn u) zero s here c w b d = go (ℕ-discrete w v) (ℕ-discrete c e)
     where
       nx : Next es e v t

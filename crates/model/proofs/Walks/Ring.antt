@@ -13,14 +13,14 @@ use Rattle.model.specs.Cases.{closesRing}
 use Rattle.model.specs.Notions.{Ring, ontoOf}
 use Rattle.model.proofs.Basics.Booleans.{and-true, and-intro}
 use Rattle.model.proofs.Walks.Degree.{Proper, end-cases, end-first, end-second, leaf-singular, regular-no-end}
-use Rattle.model.proofs.Walks.Turn.{At, OneEdge, one-edge, onlyEdge-is}
+use Rattle.model.proofs.Walks.Turn.{At, Between, OneEdge, one-edge, onlyEdge-is}
 use Rattle.model.proofs.Walks.Joins.{across, Across}
 use Rattle.model.proofs.Walks.Trail.{Trail, done, pass, trail-append, walk-on, walked, trail-at, trail-endOf, backwards, trail-walk, trail-back}
 use Rattle.model.proofs.Walks.Snoc.{trail-old, far-old, trail-clear}
 use Rattle.model.proofs.Walks.NewEdge.{at-last}
 use Rattle.model.proofs.Walks.Ended.{trail-unique, trail-short}
 use Rattle.model.proofs.Walks.RingFree.{RingFree}
-use Rattle.model.proofs.Walks.NewTurn.{NewTurn, new-turn, far-last}
+use Rattle.model.proofs.Walks.NewTurn.{new-turn, far-last}
 use Rattle.model.proofs.Walks.Whole.{Onwards, onwards-ends}
 
 -- ---- a ring is a trail that comes back
@@ -102,12 +102,12 @@ no-ring es p pr t x y e q ss ox oy hx hy a u d = go (end-cases p x ox) (end-case
 
 -- ---- the edge that the test refuses closes one
 
-record Refuses (es : List Edge) (a b : ℕ) : Type 0 where
-  a-leaf : degree es a ≡ 1
-  b-leaf : degree es b ≡ 1
-  arrives : endOnwards es (onlyEdge es a) (far es (onlyEdge es a) a) ≡ b
+pub record Refuses (es : List Edge) (a b : ℕ) : Type 0 where
+  pub a-leaf : degree es a ≡ 1
+  pub b-leaf : degree es b ≡ 1
+  pub arrives : endOnwards es (onlyEdge es a) (far es (onlyEdge es a) a) ≡ b
 
-refuses-of : (es : List Edge) (a b : ℕ) → closesRing es a b ≡ true → Refuses es a b
+pub refuses-of : (es : List Edge) (a b : ℕ) → closesRing es a b ≡ true → Refuses es a b
 unfolding closesRing isLeaf
 refuses-of es a b e =
     let h = and-true (eqb (degree es a) 1 && eqb (degree es b) 1) _ e in
@@ -161,16 +161,16 @@ module _ (es : List Edge) (p : Edge) (pr : Proper es) (rf : RingFree es) (d : p 
       inside-new : Trail new e (far new e a) ss (w .onto) b
       inside-new = rw (far-old es p e a (one .at .inside)) (trail-old p pr (x .at) (trail-clear p clear inside) inside)
 
-      ta : NewTurn es p a e
+      ta : Between new a e (length es)
       ta = new-turn es p pr d a e (end-first p d) (h .a-leaf) (one .at)
 
-      tb : NewTurn es p b (w .onto)
+      tb : Between new b (w .onto) (length es)
       tb = new-turn es p pr d b (w .onto) (end-second p d) (h .b-leaf) at-b
 
       last : Trail new (w .onto) b (record { before = w .onto; at = b; after = length es } ∷ []) (length es) a
       last =
           let v : Trail new (length es) (far new (length es) b) [] (length es) a = rw (far-last es p pr d b a (end-second p d) (end-first p d) (λ z. d (sym z))) done in
-          pass (length es) (tb .regular) (tb .out) v
+          pass (length es) (tb .regular) (tb .forth) v
 
       round : Trail new (length es) a (record { before = length es; at = a; after = e } ∷ (ss ++ (record { before = w .onto; at = b; after = length es } ∷ []))) (length es) a
       round = pass e (ta .regular) (ta .back) (trail-append inside-new last)

@@ -15,7 +15,7 @@ use Rattle.model.proofs.Walks.Trail.{Trail, done, pass, Next, next-edge
 use Rattle.model.proofs.Walks.Snoc.{far-old, regular-old, turn-old}
 use Rattle.model.proofs.Walks.NewEdge.{at-old, at-last, last-at, Which, is-old, is-new, which}
 use Rattle.model.proofs.Walks.Ended.{leaf-once}
-use Rattle.model.proofs.Walks.NewTurn.{NewTurn, new-turn}
+use Rattle.model.proofs.Walks.NewTurn.{new-turn}
 
 pub record Ended (es : List Edge) (d v : ℕ) : Type 0 where
   pub passes : List Pass
@@ -88,7 +88,7 @@ module _ (es : List Edge) (p : Edge) (pr : Proper es) (ne : p .first ≢ p .seco
         go (yes k) =
             let one : OneEdge es y = one-edge es y pr k in
             let e = one .edge in
-            let t : NewTurn es p y e = new-turn es p pr ne y e o k (one .at) in
+            let t = new-turn es p pr ne y e o k (one .at) in
             let r : Ended new e (far new e y) = rw (far-old es p e y (one .at .inside)) (inwards y e o k (one .at)) in
             ended-on new (length es) y e (t .regular) (t .back) r
 
@@ -97,7 +97,7 @@ module _ (es : List Edge) (p : Edge) (pr : Proper es) (ne : p .first ≢ p .seco
       where
         go : Which es p d → Ended new d v
         go (is-old h) = follow d v (at-old es p h a) (λ q w ss u k o.
-            let t : NewTurn es p w q = new-turn es p pr ne w q o k (trail-at pr (at-old es p h a) u) in
+            let t = new-turn es p pr ne w q o k (trail-at pr (at-old es p h a) u) in
             let x : Across new (length es) w = across new (length es) w proper-new (at-last es p o) in
-            ended-on new q w (length es) (t .regular) (t .out) (enter (far new (length es) w) (last-at es p (x .at))))
+            ended-on new q w (length es) (t .regular) (t .forth) (enter (far new (length es) w) (last-at es p (x .at))))
         go (is-new e) = rw e (enter v (last-at es p (rw e at a)))

@@ -31,6 +31,12 @@ pub front : {es : List Edge} {d v q z : ℕ} {ss : List Pass} → Trail es d v s
 front done = nothing refl refl
 front (pass t c e u) = first _ _ refl refl refl c
 
+pub trail-nil : {es : List Edge} {d v q z : ℕ} → Trail es d v [] q z → v ≡ z
+trail-nil done = refl
+
+pub trail-cons : {es : List Edge} {d v q z : ℕ} {s : Pass} {ss : List Pass} → Trail es d v (s ∷ ss) q z → (s .at ≡ v) × (isRegular es v ≡ true)
+trail-cons (pass t c e u) = (refl, c)
+
 -- the next edge of a regular vertex, with its facts
 pub record Next (es : List Edge) (d v t : ℕ) : Type 0 where
   pub at : At es v t
@@ -105,31 +111,20 @@ trail-walk zero (pass t c e u) j h = absurd (not-suc-le-zero h)
 trail-walk {es} {d} {v} (suc n) (pass {ss = ss} t c e u) j h =
     walk-on n es d v c ∙ rw e (ap (λ (l : List Pass). record { before = d; at = v; after = t } ∷ l) (trail-walk n u j (omega arith)))
 
--- a walk is a trail, to a singular vertex or to its bound
+-- a walk is a trail
 pub record Walked (n : ℕ) (es : List Edge) (d v : ℕ) : Type 0 where
   pub onto : ℕ
   pub to : ℕ
   pub trail : Trail es d v (walk n es d v) onto to
-  pub ends : (isRegular es to ≡ false) ⊎ (length (walk n es d v) ≡ n)
 
 pub walked : (n : ℕ) (es : List Edge) (d v : ℕ) → Walked n es d v
 unfolding walk
-walked zero es d v = record { onto = d; to = v; trail = done; ends = inr refl }
+walked zero es d v = record { onto = d; to = v; trail = done }
 walked (suc n) es d v = go (isRegular es v) refl (walked n es (turn es d v) (far es (turn es d v) v))
   where
     go : (b : Bool) → isRegular es v ≡ b → Walked n es (turn es d v) (far es (turn es d v) v) → Walked (suc n) es d v
-    go false c w = record { onto = d; to = v; trail = rw (walk-stop (suc n) es d v c) done; ends = inl c }
-    go true c w = record {
-      onto = w .onto;
-      to = w .to;
-      trail = rw (walk-on n es d v c) (pass (turn es d v) c refl (w .trail));
-      ends = rw (walk-on n es d v c) (up (w .ends));
-    }
-      where
-        up : (isRegular es (w .to) ≡ false) ⊎ (length (walk n es (turn es d v) (far es (turn es d v) v)) ≡ n)
-            → (isRegular es (w .to) ≡ false) ⊎ (suc (length (walk n es (turn es d v) (far es (turn es d v) v))) ≡ suc n)
-        up (inl j) = inl j
-        up (inr e) = inr (ap suc e)
+    go false c w = record { onto = d; to = v; trail = rw (walk-stop (suc n) es d v c) done }
+    go true c w = record { onto = w .onto; to = w .to; trail = rw (walk-on n es d v c) (pass (turn es d v) c refl (w .trail)) }
 
 -- where an edge stands on a trail, the trail can be cut
 pub record Cut (es : List Edge) (d v : ℕ) (ss : List Pass) (q w k : ℕ) : Type 0 where
