@@ -11,7 +11,7 @@ pub mod Climb
 pub mod Origins
 pub mod Blocks
 pub mod Ghosts
-pub mod Relabel
+pub mod GrownLabels
 pub mod Realigned
 pub mod Laying
 pub mod Closing

@@ -12,8 +12,8 @@ use Rattle.model.specs.Distance.{Hop, backwards as other-way, lengthVia,
 use Rattle.model.proofs.Walks.Degree.{Proper}
 use Rattle.model.proofs.Walks.Turn.{At}
 use Rattle.model.proofs.Walks.Trail.{Trail, trail-append, trail-back, trail-walk, trail-at, trail-endOf, afters, Front, front, first, nothing}
-use Rattle.model.proofs.Walks.Ended.{trail-short}
-use Rattle.model.proofs.Walks.RingFree.{Ended, RingFree}
+use Rattle.model.proofs.Walks.Ended.{Ended, trail-short}
+use Rattle.model.proofs.Walks.RingFree.{RingFree}
 use Rattle.model.proofs.Walks.Joins.{joins-of, Across, across}
 use Rattle.model.proofs.Distances.HopTrails.{alongEdges, along-back}
 

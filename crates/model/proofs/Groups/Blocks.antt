@@ -10,7 +10,7 @@ use Rattle.model.specs.Graph.{Edge, degree, far}
 use Rattle.model.specs.Labels.{Marks, base}
 use Rattle.model.proofs.Walks.Degree.{Proper}
 use Rattle.model.proofs.Walks.Turn.{At}
-use Rattle.model.proofs.Groups.Shape.{Shape, size, pick, pick-yes, pick-no, between-differ, between-or, Courses}
+use Rattle.model.proofs.Groups.Shape.{Shape, size, pick, pick-yes, pick-no, successive-differ, successive-or, Courses}
 use Rattle.model.proofs.Labels.Laid.{Direction, Near, none-near, near}
 use Rattle.model.proofs.Labels.Following.{labelAt, lowAt}
 use Rattle.model.proofs.Groups.Origins.{Origins, BlockAt, Aligned, Stand, FitsBlock, LowIs}
@@ -109,7 +109,7 @@ module _ (es : List Edge) (p : Edge) (pr : Proper es) {relabellings : ℕ} {m : 
   start-on : (up : Bool) (label blocks′ : ℕ) → degree es (far es e x) ≡ 2 → label ≡ getD (m .labels) (far es e x) 0 → blocks′ ≡ blocks
       → Direction up (getD (m .lows) (far es e x) 0) e → Start es p m h x e up label blocks′
   unfolding v labelAt lowAt
-  start-on up label blocks′ c t b dir = go (between-or es h v (h .group e) e pr c (s .between) av)
+  start-on up label blocks′ c t b dir = go (successive-or es h v (h .group e) e pr c (s .between) av)
     where
       av : At es v e
       av = (across es e x pr a) .at
@@ -136,7 +136,7 @@ module _ (es : List Edge) (p : Edge) (pr : Proper es) {relabellings : ℕ} {m : 
 
       go : (e ≡ s .between .lo) ⊎ (e ≡ s .between .hi) → Start es p m h x e up label blocks′
       go (inl q) = absurd (far-ne es e x pr a (sym (sym hi ∙ ap (λ (i : ℕ). far es i (h .low i)) q ∙ s .between .lo-end)))
-      go (inr q) = start (same-way up (l .rising (l .block v)) (s .between .lo) (s .between .hi) _ e (between-differ (s .between)) q dir (s .low-is)) q
+      go (inr q) = start (same-way up (l .rising (l .block v)) (s .between .lo) (s .between .hi) _ e (successive-differ (s .between)) q dir (s .low-is)) q
 
   pub start-of : (up : Bool) (label blocks′ : ℕ) → Near es p (far es e x) blocks e m up label blocks′ → Start es p m h x e up label blocks′
   start-of up label blocks′ (none-near n u t b) = start-new up label blocks′ n u t b

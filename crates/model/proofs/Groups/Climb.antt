@@ -13,7 +13,7 @@ use Rattle.model.proofs.Walks.Degree.{Proper}
 use Rattle.model.proofs.Walks.Turn.{At, two-edges, turn-between}
 use Rattle.model.proofs.Walks.Trail.{Trail, done, pass}
 use Rattle.model.proofs.Walks.RingFree.{RingFree}
-use Rattle.model.proofs.Groups.Shape.{Shape, size, LeafAt, at-low, at-high, Successive, between-differ, between-or, Courses, place-fits}
+use Rattle.model.proofs.Groups.Shape.{Shape, size, LeafAt, at-low, at-high, Successive, successive-differ, successive-or, Courses, place-fits}
 use Rattle.model.proofs.Groups.Flip.{flipped, flip-size, flip-low, flip-courses}
 use Rattle.model.proofs.Walks.Places.{Ith, here, later, no-ith, InPath, Nth, nth}
 use Rattle.model.proofs.Labels.Inwards.{inward}
@@ -31,8 +31,8 @@ pub record Spot (es : List Edge) (h : Shape) (g i : ℕ) (s : Pass) : Type 0 whe
   pub after-end : h .low (s .after) ≡ s .at
   pub regular : degree es (s .at) ≡ 2
 
-unfoldable pub spot-between : {es : List Edge} {h : Shape} {g i v : ℕ} {s : Pass} → s .at ≡ v → Spot es h g i s → Successive es h v g
-spot-between {es} {s = s} q sp = record {
+unfoldable pub spot-successive : {es : List Edge} {h : Shape} {g i v : ℕ} {s : Pass} → s .at ≡ v → Spot es h g i s → Successive es h v g
+spot-successive {es} {s = s} q sp = record {
   lo = s .before;
   hi = s .after;
   lo-at = subst (λ (z : ℕ). At es z (s .before)) q (sp .before-at);
@@ -68,7 +68,7 @@ module _ (es : List Edge) (pr : Proper es) {relabellings : ℕ} {h : Shape} (w :
   spot : (e v t : ℕ) → e < length es → far es e (h .low e) ≡ v → h .isOpen (h .group e) ≡ true → isRegular es v ≡ true → turn es e v ≡ t
       → Spot es h (h .group e) (h .place e) (record { before = e; at = v; after = t })
   unfolding isRegular
-  spot e v t l i o c tn = go (between-or es h v (h .group e) e pr two u a)
+  spot e v t l i o c tn = go (successive-or es h v (h .group e) e pr two u a)
     where
       a : At es v e
       a = rw i at ((across es e (h .low e) pr (w .ends e l)) .at)
@@ -84,7 +84,7 @@ module _ (es : List Edge) (pr : Proper es) {relabellings : ℕ} {h : Shape} (w :
           let k : h .low e ≡ v = rw q (u .hi-end) in
           absurd (far-ne es e (h .low e) pr (w .ends e l) (i ∙ sym k))
       go (inl q) =
-          let y : t ≡ u .hi = sym tn ∙ turn-between es v e (u .hi) (two-edges es v pr two) a (u .hi-at) (λ z. between-differ u (sym q ∙ z)) in
+          let y : t ≡ u .hi = sym tn ∙ turn-between es v e (u .hi) (two-edges es v pr two) a (u .hi-at) (λ z. successive-differ u (sym q ∙ z)) in
           record {
             before-at = a;
             after-at = rw y (u .hi-at);

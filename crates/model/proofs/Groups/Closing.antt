@@ -10,7 +10,7 @@ use Rattle.model.specs.Labels.{inwards}
 use Rattle.model.proofs.Walks.Degree.{regular-no-end}
 use Rattle.model.proofs.Walks.Turn.{At}
 use Rattle.model.proofs.Walks.RingFree.{RingFree}
-use Rattle.model.proofs.Groups.Shape.{size, Successive, group-fresh, place-fits, between-one}
+use Rattle.model.proofs.Groups.Shape.{size, Successive, group-fresh, place-fits, successive-one}
 use Rattle.model.proofs.Groups.Climb.{Spot, rises-ith, inwards-climb}
 use Rattle.model.proofs.Walks.NewEdge.{old-edge}
 use Rattle.model.proofs.Groups.Grown.{Growth, GrownTo, grownTo, seen-o}
@@ -19,16 +19,16 @@ use Rattle.model.proofs.Walks.Places.{Ith, ith-one, ith-split, Off}
 use Rattle.model.proofs.Labels.Following.{ithLabel, labelAt}
 use Rattle.model.proofs.Groups.Origins.{Stand, FitsBlock, fits-same}
 use Rattle.model.proofs.Groups.Ghosts.{Ghosts}
-use Rattle.model.proofs.Groups.Laying.{Laying, begins, growth, path-fits, InGroup, relabelling}
+use Rattle.model.proofs.Groups.Laying.{Laying, begins, growth, path-fits, InGroup, grownLabels}
 use Rattle.model.proofs.Groups.Blocks.{Start}
-use Rattle.model.proofs.Groups.Relabel.{Relabelled, Renewed, renewed, Now, view, block-in, block-out}
+use Rattle.model.proofs.Groups.GrownLabels.{GrownLabels, Renewed, renewed, Now, view, block-in, block-out}
 use Rattle.model.proofs.Labels.WearsAfter.{in-path, as-was}
 use Rattle.model.proofs.Labels.Laid.{mergePath}
 use Rattle.model.proofs.Labels.Inwards.{inward, trail-regular}
 
 -- A landing that joins the two leaves x and y of one group: e and c are their edges, at the high and at the low end of the course, and
 -- the chain of y, which has no more regular vertices, gets new labels.
-pub record Joined : Type 0 where
+pub record Closing : Type 0 where
   pub ly : Laying
   pub rf : RingFree (ly .es)
   pub c : ℕ
@@ -41,8 +41,8 @@ pub record Joined : Type 0 where
   pub none-after : length (ly .es) ≤ ly .gy
   pub le : length (inwards (ly .es) (ly .y)) ≤ length (inwards (ly .es) (ly .x))
 
-module _ (jo : Joined) where
-  open Joined jo using (ly, rf, c, path-is, cy, ac, lo, eq, none-after)
+module _ (jo : Closing) where
+  open Closing jo using (ly, rf, c, path-is, cy, ac, lo, eq, none-after)
   open Laying ly using (es, p, pr, d, m, x, y, e, path, la, high)
   open Ghosts (high .ghosts) using (shape as h, courses as w)
   open Growth (growth ly) using (gx, gy)
@@ -72,8 +72,8 @@ module _ (jo : Joined) where
       go (inl q) = end-group (growth ly) (t .at) a (rw q (la .x-leaf)) (inl (ap (λ (o : Pass). o .at) q)) b
       go (inr n) = rest (ith-split (n .1))
 
-  abbrev pub closed : Relabelled
-  closed = relabelling ly groups
+  abbrev pub closed : GrownLabels
+  closed = grownLabels ly groups
 
   abbrev pub size₁ : ℕ
   size₁ = size h (length es) gx
@@ -138,7 +138,7 @@ module _ (jo : Joined) where
       sym f ∙ ap (λ (o : Pass). o .at) t-is ∙ f′
   same-who v z a b q (of-path i t j f g bl) (of-old u′ g′ n′ o′ bl′) = absurd (omega (arith, q, g, g′, old-below z u′))
   same-who v z a b q (of-old u g n o bl) (of-path i′ t′ j′ f′ g′ bl′) = absurd (omega (arith, q, g, g′, old-below v u))
-  same-who v z a b q (of-old u g n o bl) (of-old u′ g′ n′ o′ bl′) = between-one w u u′ (sym g ∙ q ∙ g′)
+  same-who v z a b q (of-old u g n o bl) (of-old u′ g′ n′ o′ bl′) = successive-one w u u′ (sym g ∙ q ∙ g′)
 
   pub single : (v z a b : ℕ) → degree new v ≡ 2 → degree new z ≡ 2 → At new v a → At new z b → h′ .group a ≡ gx → h′ .group b ≡ gx → l′ .block v ≡ l′ .block z → labelAt marksAfter v ≡ labelAt marksAfter z → v ≡ z
   single v z a b cv cz av az gv gz bl tg =

@@ -20,10 +20,10 @@ use Rattle.model.proofs.Groups.Origins.{Origins, Aligned, offset, fits-
 use Rattle.model.proofs.Groups.Ghosts.{Ghosts}
 use Rattle.model.proofs.Groups.Laying.{Laying, begins, growth}
 use Rattle.model.proofs.Groups.Blocks.{Start}
-use Rattle.model.proofs.Groups.Relabel.{Renewed, renewed}
-use Rattle.model.proofs.Groups.Realigned.{Closing}
+use Rattle.model.proofs.Groups.GrownLabels.{Renewed, renewed}
+use Rattle.model.proofs.Groups.Realigned.{ClosedLabels}
 use Rattle.model.proofs.Labels.Inwards.{Inward, inward}
-use Rattle.model.proofs.Groups.Closing.{Joined, closed, size₁, Who, of-path, of-old, Stood, stood, old-below, single, missed}
+use Rattle.model.proofs.Groups.Closing.{Closing, closed, size₁, Who, of-path, of-old, Stood, stood, old-below, single, missed}
 use Rattle.model.proofs.Walks.Joins.{across}
 
 trail-first : {es : List Edge} {d v q w i : ℕ} {s : Pass} {ss : List Pass} → Trail es d v ss q w → Ith s i ss → degree es v ≡ 2
@@ -39,8 +39,8 @@ one-block es pr lab {e} {v} a (pass t c tn u) (suc i) s (later j) =
     let nx : Next es e v t = next-edge es e v t pr a c tn in
     one-block es pr lab (nx .across .at) u i s j ∙ lab .along (far es t v) v t (trail-first u j) (is-two es v c) (nx .across .at) (nx .at)
 
-module _ (jo : Joined) where
-  open Joined jo using (ly, rf, c, path-is, cy, ac, lo, bot, eq, none-after, le)
+module _ (jo : Closing) where
+  open Closing jo using (ly, rf, c, path-is, cy, ac, lo, bot, eq, none-after, le)
   open Laying ly using (es, p, pr, x, y, e, path, la, high)
   open Ghosts (high .ghosts) using (shape as h, courses as w)
   open Growth (growth ly) using (gx, gy)
@@ -147,5 +147,5 @@ module _ (jo : Joined) where
           let ez = gap-of z hz s (omega (arith, g′, old-below jo z u′)) (omega (arith, hz .last)) in
           omega (arith, ev, ez)
 
-  pub closing : Closing (closed jo)
+  pub closing : ClosedLabels (closed jo)
   closing = record { single-x = single jo; within-x = within; within-two-x = within-two }

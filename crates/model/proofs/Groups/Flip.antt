@@ -93,8 +93,8 @@ module _ (es : List Edge) (pr : Proper es) {relabellings : ℕ} {h : Shape} (w :
       go (yes q) = leaf-flip x e (a .inside) q (w .leaf x e c a)
       go (no q) = leaf-keep x e q (w .leaf x e c a)
 
-  unfoldable pub between-flip : (v : ℕ) → Successive es h v g → Successive es (flipped es h g) v g
-  between-flip v u = record {
+  unfoldable pub successive-flip : (v : ℕ) → Successive es h v g → Successive es (flipped es h g) v g
+  successive-flip v u = record {
     lo = u .hi;
     hi = u .lo;
     lo-at = u .hi-at;
@@ -106,8 +106,8 @@ module _ (es : List Edge) (pr : Proper es) {relabellings : ℕ} {h : Shape} (w :
     hi-end = flip-low es h g (u .lo) (u .lo-group) ∙ u .lo-end;
   }
 
-  unfoldable pub between-keep : (v c : ℕ) → c ≢ g → Successive es h v c → Successive es (flipped es h g) v c
-  between-keep v c q u =
+  unfoldable pub successive-keep : (v c : ℕ) → c ≢ g → Successive es h v c → Successive es (flipped es h g) v c
+  successive-keep v c q u =
       let a : h .group (u .lo) ≢ g = λ z. q (sym (u .lo-group) ∙ z) in
       let b : h .group (u .hi) ≢ g = λ z. q (sym (u .hi-group) ∙ z) in
       record {
@@ -129,8 +129,8 @@ module _ (es : List Edge) (pr : Proper es) {relabellings : ℕ} {h : Shape} (w :
       u = w .between v e c a t
 
       go : Dec (h .group e ≡ g) → Successive es h′ v (h .group e)
-      go (yes q) = rw q (between-flip v (rw q at u))
-      go (no q) = between-keep v (h .group e) q u
+      go (yes q) = rw q (successive-flip v (rw q at u))
+      go (no q) = successive-keep v (h .group e) q u
 
   pub flip-courses : Courses es relabellings (flipped es h g)
   unfolding size

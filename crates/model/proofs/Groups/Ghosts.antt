@@ -12,7 +12,7 @@ use Rattle.model.specs.Labels.{Marks, base}
 use Rattle.model.proofs.Walks.Degree.{Proper}
 use Rattle.model.proofs.Walks.Turn.{At}
 use Rattle.model.proofs.Groups.Shape.{Shape, size, LeafAt, at-low, at-high, pick, pick-yes, pick-no, Courses, no-shape, no-courses}
-use Rattle.model.proofs.Groups.Flip.{flipped, flip-size, flip-place, keep-place, flip-low, keep-low, flip-high, flip-courses, between-flip, between-keep}
+use Rattle.model.proofs.Groups.Flip.{flipped, flip-size, flip-place, keep-place, flip-low, keep-low, flip-high, flip-courses, successive-flip, successive-keep}
 use Rattle.model.proofs.Labels.Following.{labelAt, lowAt}
 use Rattle.model.proofs.Groups.Origins.{Origins, Fits, LowIs, Stand, Aligned, no-origins, no-aligned}
 
@@ -64,12 +64,12 @@ module _ (es : List Edge) (pr : Proper es) {relabellings : ℕ} {h : Shape} (w :
   origin-keep k q = pick-no (l .owner k) g _ _ q
 
   stand-flip : (v : ℕ) → l .owner (l .block v) ≡ g → Stand es m h l v g → Stand es m h′ l′ v g
-  unfolding between-flip
+  unfolding successive-flip
   stand-flip v o s =
       let u = s .between in
       let p = flip-place es pr w g (u .lo) (u .lo-at .inside) (u .lo-group) in
       record {
-        between = between-flip es pr w g v u;
+        between = successive-flip es pr w g v u;
         first = rw (origin-flip (l .block v) o) (omega (arith, s .last));
         last = rw (origin-flip (l .block v) o, flip-size es h g (length es) g) (omega (arith, s .first, s .last));
         fits = rw (rising-flip (l .block v) o, origin-flip (l .block v) o)
@@ -79,11 +79,11 @@ module _ (es : List Edge) (pr : Proper es) {relabellings : ℕ} {h : Shape} (w :
       }
 
   stand-keep : (v c : ℕ) → c ≢ g → l .owner (l .block v) ≢ g → Stand es m h l v c → Stand es m h′ l′ v c
-  unfolding between-keep
+  unfolding successive-keep
   stand-keep v c n o s =
       let u = s .between in
       record {
-        between = between-keep es pr w g v c n u;
+        between = successive-keep es pr w g v c n u;
         first = rw (origin-keep (l .block v) o) (s .first);
         last = rw (origin-keep (l .block v) o, flip-size es h g (length es) c) (s .last);
         fits = rw (rising-keep (l .block v) o, origin-keep (l .block v) o, keep-place es h g (u .hi) (λ z. n (sym (u .hi-group) ∙ z))) (s .fits);

@@ -25,14 +25,14 @@ use Rattle.model.proofs.Groups.Grown.{Growth, grownTo}
 use Rattle.model.proofs.Groups.GrownCourses.{grown-courses}
 use Rattle.model.proofs.Groups.Seams.{Seam, seam-new, seam-extend, seam-merge, seam-close}
 use Rattle.model.proofs.Groups.Ghosts.{Ghosts, High, turn-high, Facing, turn-facing}
-use Rattle.model.proofs.Groups.Relabel.{Relabelled, renewed}
-use Rattle.model.proofs.Groups.Realigned.{Closing, grown-aligned}
-use Rattle.model.proofs.Groups.Laying.{Laying, relabelling, in-open}
-use Rattle.model.proofs.Groups.Closing.{Joined, closed}
+use Rattle.model.proofs.Groups.GrownLabels.{GrownLabels, renewed}
+use Rattle.model.proofs.Groups.Realigned.{ClosedLabels, grown-aligned}
+use Rattle.model.proofs.Groups.Laying.{Laying, grownLabels, in-open}
+use Rattle.model.proofs.Groups.Closing.{Closing, closed}
 use Rattle.model.proofs.Groups.ClosingGaps.{closing}
 
 -- one step on the ghost state
-grown-ghosts : (re : Relabelled) → (re .it .b ≡ false → Closing re)
+grown-ghosts : (re : GrownLabels) → (re .it .b ≡ false → ClosedLabels re)
     → Ghosts ((grownTo (re .it)) .new) (re .it .relabellings + re .it .k) ((renewed re) .marksAfter) (re .blocks′)
 grown-ghosts re closes = record {
   shape = (grownTo (re .it)) .h′;
@@ -41,7 +41,7 @@ grown-ghosts re closes = record {
   aligned = grown-aligned re closes;
 }
 
-open-ghosts : (re : Relabelled) → re .it .b ≡ true
+open-ghosts : (re : GrownLabels) → re .it .b ≡ true
     → Ghosts ((grownTo (re .it)) .new) (re .it .relabellings + re .it .k) ((renewed re) .marksAfter) (re .blocks′)
 open-ghosts re t = grown-ghosts re (λ f. absurd (not-both _ t f))
 
@@ -56,7 +56,7 @@ module _ (es : List Edge) (p : Edge) (pr : Proper es) (d : p .first ≢ p .secon
   on-fresh ca cb eb b =
       let s = seam-new es p pr (q .courses) (p .first) (p .second) (end-first p d) (end-second p d) d ca cb in
       let it : Growth = record { es = es; p = p; pr = pr; d = d; relabellings = relabellings; h = q .shape; w = q .courses; gx = length es; gy = suc (length es); x = p .first; y = p .second; k = 0; b = true; s = s } in
-      let re : Relabelled = record {
+      let re : GrownLabels = record {
         it = it;
         m = m;
         m′ = res .marks;
@@ -92,7 +92,7 @@ module _ (es : List Edge) (p : Edge) (pr : Proper es) (d : p .first ≢ p .secon
       let h = f .ghosts .shape in
       let s = seam-extend es p pr (f .ghosts .courses) x y (la .x-end) (la .y-end) (la .x-y) e (la .x-leaf) (la .e-at) (f .hi) (f .top) ny in
       let ly : Laying = laying la f s (omega (arith, f .top, size-most h (length es) (h .group e), room)) in
-      open-ghosts (relabelling ly (in-open ly refl)) refl
+      open-ghosts (grownLabels ly (in-open ly refl)) refl
 
   -- two leaves
   on-merge : (x y e c : ℕ) (la : Laid es p blocks m res x y e (mergePath es x y e c))
@@ -122,12 +122,12 @@ module _ (es : List Edge) (p : Edge) (pr : Proper es) (d : p .first ≢ p .secon
       apart n =
           let s = seam-merge es p pr w x y (la .x-end) (la .y-end) (la .x-y) e (la .x-leaf) (la .e-at) (f .high .hi) (f .high .top) c cy b (f .lo) (f .bot) k (omega (arith, less)) n (omega (arith, inwards-short es pr rf w y c cy b)) in
           let ly : Laying = laying la (f .high) s fewer in
-          open-ghosts (relabelling ly (in-open ly refl)) refl
+          open-ghosts (grownLabels ly (in-open ly refl)) refl
 
       shut : h .group c ≡ h .group e → Ghosts new (relabellings + k) (following (la .up) (la .label) path (la .m′)) (res .blocks)
       shut n =
           let s = seam-close es p pr w x y (la .x-end) (la .y-end) (la .x-y) e (la .x-leaf) (la .e-at) (f .high .hi) (f .high .top) c cy b (f .lo) (f .bot) k (omega (arith, less)) n in
-          let jo : Joined = record { ly = laying la (f .high) s fewer; rf = rf; c = c; path-is = refl; cy = cy; ac = b; lo = f .lo; bot = f .bot; eq = n; none-after = omega arith; le = le } in
+          let jo : Closing = record { ly = laying la (f .high) s fewer; rf = rf; c = c; path-is = refl; cy = cy; ac = b; lo = f .lo; bot = f .bot; eq = n; none-after = omega arith; le = le } in
           grown-ghosts (closed jo) (λ o. closing jo)
 
       go : Dec (h .group e ≡ h .group c) → Ghosts new (relabellings + k) (following (la .up) (la .label) path (la .m′)) (res .blocks)

@@ -17,15 +17,15 @@ use Rattle.model.proofs.Walks.Places.{Ith, InPath, ith-below}
 use Rattle.model.proofs.Labels.Following.{ithLabel}
 use Rattle.model.proofs.Labels.Laid.{Laid}
 use Rattle.model.proofs.Labels.WearsAfter.{LongEnough}
-use Rattle.model.proofs.Groups.Shape.{between-or}
-use Rattle.model.proofs.Groups.Climb.{Spot, spot-between, Rises, rises-ith, Climb, climb}
+use Rattle.model.proofs.Groups.Shape.{successive-or}
+use Rattle.model.proofs.Groups.Climb.{Spot, spot-successive, Rises, rises-ith, Climb, climb}
 use Rattle.model.proofs.Groups.Ghosts.{Ghosts, High}
 use Rattle.model.proofs.Groups.Seams.{Seam}
 use Rattle.model.proofs.Groups.Grown.{Growth, GrownTo, grownTo, seen-o, old-end, open-gx}
 use Rattle.model.proofs.Groups.GrownCourses.{grown-courses}
 use Rattle.model.proofs.Groups.Origins.{Fits, FitsBlock}
 use Rattle.model.proofs.Groups.Blocks.{Start, start-of}
-use Rattle.model.proofs.Groups.Relabel.{Relabelled}
+use Rattle.model.proofs.Groups.GrownLabels.{GrownLabels}
 
 fits-next : (up : Bool) (q b start label i : ℕ) → 1 ≤ q → suc (start + i) ≤ b → Fits up q b start label → Fits up q b (suc (start + i)) (ithLabel up label i)
 unfolding ithLabel
@@ -106,8 +106,8 @@ module _ (ly : Laying) where
   abbrev pub InGroup : Type 0
   InGroup = (i : ℕ) (t : Pass) (c : ℕ) → Ith t i path → At new (t .at) c → h′ .group c ≡ gx
 
-  abbrev pub relabelling : InGroup → Relabelled
-  relabelling groups = record {
+  abbrev pub grownLabels : InGroup → GrownLabels
+  grownLabels groups = record {
     it = growth;
     m = m;
     m′ = la .m′;
@@ -131,8 +131,8 @@ module _ (ly : Laying) where
 
   -- .. as they do along an open course
   pub in-open : b ≡ true → InGroup
-  unfolding spot-between
-  in-open z i t c j a = go (between-or new h′ (t .at) gx c (proper-snoc es p pr d) (sp .regular) (spot-between refl sp) a)
+  unfolding spot-successive
+  in-open z i t c j a = go (successive-or new h′ (t .at) gx c (proper-snoc es p pr d) (sp .regular) (spot-successive refl sp) a)
     where
       sp : Spot new h′ gx (h .place e + i) t
       sp = spots z i t j

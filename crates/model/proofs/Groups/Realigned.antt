@@ -10,15 +10,15 @@ use Rattle.model.specs.Graph.{Pass, degree}
 use Rattle.model.specs.Labels.{base}
 use Rattle.model.proofs.Walks.Turn.{At}
 use Rattle.model.proofs.Groups.Shape.{size, pick-no}
-use Rattle.model.proofs.Groups.Climb.{spot-between}
+use Rattle.model.proofs.Groups.Climb.{spot-successive}
 use Rattle.model.proofs.Walks.NewEdge.{old-edge}
 use Rattle.model.proofs.Walks.Places.{Ith}
 use Rattle.model.proofs.Labels.Following.{ithLabel, lowOf, labelAt, lowAt}
 use Rattle.model.proofs.Labels.WearsAfter.{in-path, as-was}
 use Rattle.model.proofs.Groups.Origins.{Stand, Fits, LowIs, Aligned, offset}
 use Rattle.model.proofs.Groups.Grown.{Growth, GrownTo, grownTo, goesTo, goesBy, seen-old, seen-y, seen-o, size-x, size-o, goes-room, open-gx, open-o, was-open}
-use Rattle.model.proofs.Groups.GrownEnds.{between-old}
-use Rattle.model.proofs.Groups.Relabel.{Relabelled, Renewed, renewed, Now, view, block-in, block-out, owned′, along′, least′, most′}
+use Rattle.model.proofs.Groups.GrownEnds.{successive-old}
+use Rattle.model.proofs.Groups.GrownLabels.{GrownLabels, Renewed, renewed, Now, view, block-in, block-out, owned′, along′, least′, most′}
 
 fits-shift : (up : Bool) (q b i t c : ℕ) → Fits up q b i t → Fits up (c + q) b (c + i) t
 fits-shift true q b i t c e = omega (arith, e)
@@ -29,21 +29,21 @@ unfolding lowOf
 low-of-path true t = refl
 low-of-path false t = refl
 
-module _ (re : Relabelled) where
-  open Relabelled re using (it, m, blocks′, l, lab, path, up, label, now, path-group, path-spot, path-block, path-fits)
+module _ (re : GrownLabels) where
+  open GrownLabels re using (it, m, blocks′, l, lab, path, up, label, now, path-group, path-spot, path-block, path-fits)
   open Growth it using (es, p, h, gx, gy, b, s)
   open GrownTo (grownTo it) using (new, h′)
   open Renewed (renewed re) using (l′, marksAfter)
 
   -- where regular vertices stand
   stand-path : b ≡ true → (v i : ℕ) (t : Pass) → Ith t i path → t .at ≡ v → labelAt marksAfter v ≡ ithLabel up label i → lowAt marksAfter v ≡ lowOf up t → l′ .block v ≡ now → Stand new marksAfter h′ l′ v gx
-  unfolding spot-between
+  unfolding spot-successive
   stand-path tr v i t j q f g bl =
       let sp = path-spot tr i t j in
       let k = path-block i t j in
       let o : l′ .origin now ≡ l .origin now = omega (arith, pick-no (l .owner now) gy (size h (length es) gx + 1) 0 (λ z. s .differ (sym (k .owner-is) ∙ z))) in
       record {
-        between = spot-between q sp;
+        between = spot-successive q sp;
         first = rw (bl, o) (k .first);
         last = rw (bl, o, size-x it) (omega (arith, k .last));
         fits = rw (bl, o, sp .after-place, f) (path-fits i t j);
@@ -53,11 +53,11 @@ module _ (re : Relabelled) where
   -- an old regular vertex moves with its group
   stand-old : (v g : ℕ) → l .owner (l .block v) ≡ g → labelAt marksAfter v ≡ labelAt m v → lowAt marksAfter v ≡ lowAt m v → l′ .block v ≡ l .block v → Stand es m h l v g
       → Stand new marksAfter h′ l′ v (goesTo it g)
-  unfolding between-old
+  unfolding successive-old
   stand-old v g o f low bl st =
       let u = st .between in
       record {
-        between = between-old it v g u;
+        between = successive-old it v g u;
         first = rw bl (omega (arith, st .first));
         last = rw (bl, o) (omega (arith, st .last, goes-room it g));
         fits = rw (bl, o, (seen-old it (u .hi) g (u .hi-at .inside) (u .hi-group)) .place-is, f)
@@ -113,13 +113,13 @@ module _ (re : Relabelled) where
               }
 
   -- a closed group: these facts where it is the one that the edge closes
-  pub record Closing : Type 0 where
+  pub record ClosedLabels : Type 0 where
     pub single-x : (v u e c : ℕ) → degree new v ≡ 2 → degree new u ≡ 2 → At new v e → At new u c → h′ .group e ≡ gx → h′ .group c ≡ gx → l′ .block v ≡ l′ .block u → labelAt marksAfter v ≡ labelAt marksAfter u → v ≡ u
     pub within-x : (v e : ℕ) → degree new v ≡ 2 → At new v e → h′ .group e ≡ gx → offset marksAfter l′ v + 1 ≤ 2 * size h′ (length new) gx
     pub within-two-x : (v u e c : ℕ) → degree new v ≡ 2 → degree new u ≡ 2 → At new v e → At new u c → h′ .group e ≡ gx → h′ .group c ≡ gx → l′ .block v ≢ l′ .block u
         → offset marksAfter l′ v + offset marksAfter l′ u + 1 ≤ 2 * size h′ (length new) gx
 
-  module _ (closing : b ≡ false → Closing) where
+  module _ (closing : b ≡ false → ClosedLabels) where
     shut-x : (e : ℕ) → h′ .isOpen (h′ .group e) ≡ false → h′ .group e ≡ gx → b ≡ false
     shut-x e t q = let t′ : h′ .isOpen gx ≡ false = rw q at t in sym (open-gx it) ∙ t′
 

@@ -63,19 +63,19 @@ pub record Successive (es : List Edge) (h : Shape) (v g : ℕ) : Type 0 where
   pub lo-end : far es lo (h .low lo) ≡ v
   pub hi-end : h .low hi ≡ v
 
-pub between-differ : {es : List Edge} {h : Shape} {v g : ℕ} (u : Successive es h v g) → u .lo ≢ u .hi
-between-differ {h = h} u z = let q : h .place (u .lo) ≡ h .place (u .hi) = ap (h .place) z in omega (arith, u .step)
+pub successive-differ : {es : List Edge} {h : Shape} {v g : ℕ} (u : Successive es h v g) → u .lo ≢ u .hi
+successive-differ {h = h} u z = let q : h .place (u .lo) ≡ h .place (u .hi) = ap (h .place) z in omega (arith, u .step)
 
 -- it has no other edges
-pub between-or : (es : List Edge) (h : Shape) (v g e : ℕ) → Proper es → degree es v ≡ 2 → (u : Successive es h v g) → At es v e → (e ≡ u .lo) ⊎ (e ≡ u .hi)
-between-or es h v g e pr c u a = go (ℕ-discrete (u .lo) e)
+pub successive-or : (es : List Edge) (h : Shape) (v g e : ℕ) → Proper es → degree es v ≡ 2 → (u : Successive es h v g) → At es v e → (e ≡ u .lo) ⊎ (e ≡ u .hi)
+successive-or es h v g e pr c u a = go (ℕ-discrete (u .lo) e)
   where
     t : TwoEdges es v
     t = two-edges es v pr c
 
     go : Dec (u .lo ≡ e) → (e ≡ u .lo) ⊎ (e ≡ u .hi)
     go (yes q) = inl (sym q)
-    go (no q) = inr (sym (turn-between es v (u .lo) e t (u .lo-at) a q) ∙ turn-between es v (u .lo) (u .hi) t (u .lo-at) (u .hi-at) (between-differ u))
+    go (no q) = inr (sym (turn-between es v (u .lo) e t (u .lo-at) a q) ∙ turn-between es v (u .lo) (u .hi) t (u .lo-at) (u .hi-at) (successive-differ u))
 
 -- The invariant of the groups: an open group is a course with its leaves at the ends, and every group has paid for its relabellings.
 pub record Courses (es : List Edge) (relabellings : ℕ) (h : Shape) : Type 0 where
@@ -97,9 +97,9 @@ pub place-fits : {es : List Edge} {relabellings : ℕ} {h : Shape} → Courses e
 place-fits w e g l q = rw q at (w .fits e l)
 
 -- one place, one vertex
-pub between-one : {es : List Edge} {relabellings : ℕ} {h : Shape} → Courses es relabellings h → {v z g : ℕ} (u : Successive es h v g) (t : Successive es h z g)
+pub successive-one : {es : List Edge} {relabellings : ℕ} {h : Shape} → Courses es relabellings h → {v z g : ℕ} (u : Successive es h v g) (t : Successive es h z g)
     → h .place (u .hi) ≡ h .place (t .hi) → v ≡ z
-between-one {h = h} w u t q =
+successive-one {h = h} w u t q =
     sym (u .hi-end) ∙ ap (h .low) (w .apart (u .hi) (t .hi) (u .hi-at .inside) (t .hi-at .inside) (u .hi-group ∙ sym (t .hi-group)) q) ∙ t .hi-end
 
 -- groups that are not there yet

@@ -15,6 +15,14 @@ use Rattle.model.proofs.Walks.Turn.{At, OneEdge, one-edge}
 use Rattle.model.proofs.Walks.Joins.{across, far-ne, other-end, Across}
 use Rattle.model.proofs.Walks.Trail.{Trail, done, pass, trail-walk, trail-at, Next, next-edge, afters, Cut, cut, backwards, trail-back, length-backwards}
 
+-- the walk along edge d to vertex v ends
+pub record Ended (es : List Edge) (d v : ℕ) : Type 0 where
+  pub passes : List Pass
+  pub onto : ℕ
+  pub to : ℕ
+  pub trail : Trail es d v passes onto to
+  pub singular : isRegular es to ≡ false
+
 -- along one edge to one vertex there is one walk that ends
 pub trail-unique : {es : List Edge} {d v q w q′ w′ : ℕ} {ss ss′ : List Pass} → Trail es d v ss q w → isRegular es w ≡ false
     → Trail es d v ss′ q′ w′ → isRegular es w′ ≡ false → ss ≡ ss′

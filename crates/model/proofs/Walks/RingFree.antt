@@ -4,7 +4,7 @@ use mathlib.Core.Logic.{_≢_, _⊎_, inl, inr}
 use Prim.Native.Nat.{ℕ, _+_}
 use native.Mathlib.Omega.{arith}
 use native.Mathlib.Decide.{ℕ-discrete}
-use mathlib.Core.Bool.{true, false}
+use mathlib.Core.Bool.{true}
 use mathlib.Core.List.{List, [], _∷_, _++_}
 use lib.ListN.{length}
 use Rattle.model.specs.Graph.{Edge, Pass, degree, endsAt, far, isRegular, turn}
@@ -14,16 +14,10 @@ use Rattle.model.proofs.Walks.Joins.{Across, across}
 use Rattle.model.proofs.Walks.Trail.{Trail, done, pass, Next, next-edge, trail-at}
 use Rattle.model.proofs.Walks.Snoc.{far-old, regular-old, turn-old}
 use Rattle.model.proofs.Walks.NewEdge.{at-old, at-last, last-at, Which, is-old, is-new, which}
-use Rattle.model.proofs.Walks.Ended.{leaf-once}
+use Rattle.model.proofs.Walks.Ended.{Ended, leaf-once}
 use Rattle.model.proofs.Walks.NewTurn.{new-turn}
 
-pub record Ended (es : List Edge) (d v : ℕ) : Type 0 where
-  pub passes : List Pass
-  pub onto : ℕ
-  pub to : ℕ
-  pub trail : Trail es d v passes onto to
-  pub singular : isRegular es to ≡ false
-
+-- every walk ends
 abbrev pub RingFree : List Edge → Type 0
 RingFree es = (d v : ℕ) → At es v d → Ended es d v
 

@@ -9,8 +9,8 @@ use Rattle.model.specs.Graph.{Edge, Pass, endOnwards, isRegular, onwards
 use Rattle.model.proofs.Walks.Degree.{Proper}
 use Rattle.model.proofs.Walks.Turn.{At}
 use Rattle.model.proofs.Walks.Trail.{Trail, trail-walk, trail-endOf}
-use Rattle.model.proofs.Walks.Ended.{trail-short}
-use Rattle.model.proofs.Walks.RingFree.{Ended, RingFree}
+use Rattle.model.proofs.Walks.Ended.{Ended, trail-short}
+use Rattle.model.proofs.Walks.RingFree.{RingFree}
 
 pub record Onwards (es : List Edge) (d v : ℕ) : Type 0 where
   pub onto : ℕ

@@ -50,7 +50,7 @@ grownOrigins l gx gy s now path = record {
 
 -- One more edge, and the labels: the marks m before it, m′ after the splits, and the path that is labelled from there. Each vertex of the
 -- path lies in group gx and shares edges only with others of the path or of its block.
-pub record Relabelled : Type 0 where
+pub record GrownLabels : Type 0 where
   pub it : Growth
   pub m : Marks
   pub m′ : Marks
@@ -77,13 +77,13 @@ pub record Renewed : Type 0 where
   pub l′ : Origins
   pub marksAfter : Marks
 
-abbrev pub renewed : Relabelled → Renewed
+abbrev pub renewed : GrownLabels → Renewed
 renewed re =
     let it = re .it in
     record { l′ = grownOrigins (re .l) (it .gx) (it .gy) (size (it .h) (length (it .es)) (it .gx)) (re .now) (re .path); marksAfter = following (re .up) (re .label) (re .path) (re .m′) }
 
-module _ (re : Relabelled) where
-  open Relabelled re using (it, m, m′, br, lg, blocks′, l, lab, path, up, label, now, path-group, path-beside, path-block, path-has)
+module _ (re : GrownLabels) where
+  open GrownLabels re using (it, m, m′, br, lg, blocks′, l, lab, path, up, label, now, path-group, path-beside, path-block, path-has)
   open Growth it using (es, p, pr, d, gy, s)
   open GrownTo (grownTo it) using (new, h′)
   open Renewed (renewed re) using (l′, marksAfter)
