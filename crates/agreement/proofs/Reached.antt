@@ -19,7 +19,7 @@ use Rattle.model.proofs.Registers.Held.{GrowsAgain}
 use Rattle.model.proofs.Registers.Labelled.{Labelled, ends-landed}
 use Rattle.model.proofs.Registers.Kept.{kept-held}
 use Rattle.model.proofs.Registers.Lawful.{edges-lawful}
-use Rattle.model.proofs.Series.Reachable as reachable
+use Rattle.model.proofs.Registers.Reachable as reachable
 
 module _ (r : Register) (g : Reachable r) where
   pub labelled : Labelled r
