@@ -196,7 +196,7 @@ module _ (r : Register) (k : Reachable r) where
         no-label-twice = λ v w a b e. labels-unique r l v w (is-two (r .edges) v a) (is-two (r .edges) w b) e;
         fits-32-bits = λ v. omega (arith, labels-small r k v);
         finds-own = finds-chain r l;
-        others-refused = λ label n. find-none r label l n;
+        others-refused = find-none r;
       }
 
   -- ---- 4
