@@ -24,7 +24,8 @@ use Rattle.model.proofs.Registers.Accepted.{Accepted}
 use Rattle.model.proofs.Walks.NewEdge.{length-new}
 use Rattle.model.proofs.Walks.RingFree.{RingFree}
 use Rattle.model.proofs.Basics.Total.{total-const, total-le}
-use Rattle.model.proofs.Chains.Sums.{length-occurs, once}
+use Rattle.model.proofs.Chains.Partition.{each-once}
+use Rattle.model.proofs.Chains.Sums.{length-occurs}
 use Rattle.model.proofs.Chains.Reaches.{chain-at}
 use Rattle.model.proofs.Groups.FloorLog.{floorLog-mono}
 use Rattle.model.proofs.Distances.Nearer.{distance-most}
@@ -42,7 +43,7 @@ chain-most : (es : List Edge) (n : ℕ) → Proper es → RingFree es → AllLaw
 unfolding lengthAt
 chain-most es n pr rf f d h =
     let ds = (chainOf es d) .edges in
-    let o = once es pr rf d h in
+    let o = each-once es pr rf d h in
     omega (
       arith,
       length-occurs es pr rf d h,
