@@ -31,7 +31,7 @@ use Rattle.model.proofs.Chains.Partition.{chain-has, chain-name, name-i
 use Rattle.model.proofs.Chains.Names.{sheet-names}
 use Rattle.model.proofs.Chains.Reaches.{hop-lengths}
 use Rattle.model.proofs.Labels.Consecutive.{chain-upwards}
-use Rattle.model.proofs.Groups.FloorLog.{floorLog-fits, floorLog-most}
+use Rattle.model.proofs.Basics.FloorLog.{floorLog-fits, floorLog-most}
 use Rattle.model.proofs.Distances.Distance.{is-distance}
 use Rattle.model.proofs.Distances.Hops.{chains-distance, loose-distance}
 use Rattle.model.proofs.Registers.Labelled.{Labelled, labelled-bound, labels-unique, zero-then}

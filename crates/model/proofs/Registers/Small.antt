@@ -27,7 +27,7 @@ use Rattle.model.proofs.Basics.Total.{total-const, total-le}
 use Rattle.model.proofs.Chains.Partition.{each-once}
 use Rattle.model.proofs.Chains.Sums.{length-occurs}
 use Rattle.model.proofs.Chains.Reaches.{chain-at}
-use Rattle.model.proofs.Groups.FloorLog.{floorLog-mono}
+use Rattle.model.proofs.Basics.FloorLog.{floorLog-mono}
 use Rattle.model.proofs.Distances.Nearer.{distance-most}
 use Rattle.model.proofs.Registers.Labelled.{Labelled, label-small, labelled-bound}
 use Rattle.model.proofs.Registers.Lawful.{edges-lawful}
