@@ -30,7 +30,7 @@ use Rattle.model.proofs.Registers.Answers.{find-none, find-own}
 use Rattle.model.proofs.Registers.Small.{reaches-small}
 use Rattle.agreement.proofs.Lists.{PairAt}
 use Rattle.agreement.proofs.Tables.{degrees-read, far-is, sides-linked}
-use Rattle.agreement.proofs.Reached.{few, labelled, labels-long, low-at, no-label, proper}
+use Rattle.agreement.proofs.Registers.{few, labelled, labels-long, low-at, no-label, proper}
 use Rattle.agreement.proofs.Chaining.{length-is, walk-agrees}
 use Rattle.agreement.proofs.Lowest.{nameOver, name-agrees, one-name}
 

@@ -18,7 +18,7 @@ use Rattle.insertion.specs.Insertion.{LandingIn, counts, done, landingIn, refus
 use Rattle.model.proofs.Registers.Held.{grow-again, grown-from, onVertices, vertices-grow}
 use Rattle.model.proofs.Registers.OnlyHeld.{grow-reaches, held-counts, held-tables, only-held, vertices-reach}
 use Rattle.model.proofs.Registers.Reachable.{reachable-empty}
-use Rattle.agreement.proofs.Reached.{stored-held, regrows}
+use Rattle.agreement.proofs.Registers.{stored-held, regrows}
 use Rattle.agreement.proofs.Landing.{edge-parts, shownIn}
 use Rattle.holding.specs.Replay.{regrowIn, replayIn}
 use Rattle.holding.proofs.ReplayLaws.{done-is, refused-done}
