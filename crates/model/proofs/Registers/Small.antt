@@ -30,7 +30,6 @@ use Rattle.model.proofs.Chains.Reaches.{chain-at}
 use Rattle.model.proofs.Basics.FloorLog.{floorLog-mono}
 use Rattle.model.proofs.Distances.Nearer.{distance-most}
 use Rattle.model.proofs.Registers.Labelled.{Labelled, label-small, labelled-bound}
-use Rattle.model.proofs.Registers.Lawful.{edges-lawful}
 use Rattle.model.proofs.Registers.Reachable.{labelled, reachable-keeps}
 
 -- ---- a chain's length
@@ -55,7 +54,7 @@ chain-most es n pr rf f d h =
 pub chains-small : (r : Register) → Reachable r → (d : ℕ) → d < length (r .edges) → chainLength (r .edges) d ≤ 409600000
 chains-small r k d h =
     let l = labelled r k in
-    omega (arith, chain-most (r .edges) (r .vertices) (l .sound .proper) (l .sound .rings) (edges-lawful r k) d h, l .room)
+    omega (arith, chain-most (r .edges) (r .vertices) (l .sound .proper) (l .sound .rings) (l .lawful) d h, l .room)
 
 -- a reach, from an end of an edge along it to the end of its chain, is a part of the chain
 pub reaches-small : (r : Register) → Reachable r → (d v : ℕ) → At (r .edges) v d → lengthTo (r .edges) d v ≤ 409600000
@@ -65,7 +64,8 @@ reaches-small r k d v a = omega (arith, chain-at (r .edges) d v ((labelled r k) 
 
 pub distances-small : (r : Register) → Reachable r → (v w l : ℕ) → distance (r .edges) v w ≡ joined l → l ≤ 409600000
 distances-small r k v w l e =
-    omega (arith, distance-most (r .edges) w (r .vertices) (edges-lawful r k) v l e, (labelled r k) .few)
+    let c = labelled r k in
+    omega (arith, distance-most (r .edges) w (r .vertices) (c .lawful) v l e, c .few)
 
 -- ---- blocks: at most one for each edge
 
