@@ -24,7 +24,7 @@ use Rattle.model.proofs.Walks.Trail.{walk-on, walk-stop, Next, next-edge}
 use Rattle.model.proofs.Registers.ReadBack.{length-read}
 use Rattle.agreement.proofs.Lockstep.{Shows, shows-regular, shows-singular, shows-turn}
 use Rattle.agreement.proofs.Tables.{far-is, shows}
-use Rattle.agreement.proofs.Reached.{lawful, proper, room}
+use Rattle.agreement.proofs.Registers.{lawful, proper, room}
 
 -- ---- what the tables say of an edge
 

@@ -7,12 +7,12 @@ use native.Mathlib.Nat.{not-suc-le-zero}
 use native.Mathlib.Decide.{ℕ-discrete}
 use mathlib.Core.Bool.{Bool, true, false, not}
 use mathlib.Core.Option.{Option, none, some, Option·none-ne-some, Option·some-injective, Option·some-ne-none}
-use mathlib.Core.List.{List, [], _∷_, map}
+use mathlib.Core.List.{List, [], _∷_}
 use lib.ListN.{length, getD}
 use lib.Dec.{eqb, ltb}
 use borrow.Author.Tests.{ne-eqb, eqb-true, eqb-false, ltb-true}
 use Rattle.model.specs.Basics.{if_then_else_, maxVertices, sum}
-use Rattle.model.specs.Graph.{Edge, afterOf, degree, far, isRegular, lengthAt, lengthsOf, onwards, turn}
+use Rattle.model.specs.Graph.{Edge, degree, far, isRegular, lengthAt, lengthsOf, turn}
 use Rattle.model.specs.Distance.{lengthVia}
 use Rattle.model.specs.Register.{Register, lowEdgeOf}
 use Rattle.model.specs.Queries.{chainAt, find, lengthTo, reach, reached, refuses}
@@ -24,12 +24,13 @@ use Rattle.queries.specs.Finding.{findIn, lengthToIn, reachIn}
 use Rattle.model.proofs.Walks.Degree.{is-two, two-is}
 use Rattle.model.proofs.Walks.Turn.{At, Turned, TwoEdges, turned, two-edges}
 use Rattle.model.proofs.Walks.Joins.{across}
+use Rattle.model.proofs.Chains.Reaches.{along}
 use Rattle.model.proofs.Registers.Labelled.{Labelled, label-not-zero, regular-landed}
 use Rattle.model.proofs.Registers.Answers.{find-none, find-own}
 use Rattle.model.proofs.Registers.Small.{reaches-small}
 use Rattle.agreement.proofs.Lists.{PairAt}
 use Rattle.agreement.proofs.Tables.{degrees-read, far-is, sides-linked}
-use Rattle.agreement.proofs.Reached.{few, labelled, labels-long, low-at, no-label, proper}
+use Rattle.agreement.proofs.Registers.{few, labelled, labels-long, low-at, no-label, proper}
 use Rattle.agreement.proofs.Chaining.{length-is, walk-agrees}
 use Rattle.agreement.proofs.Lowest.{nameOver, name-agrees, one-name}
 
@@ -49,7 +50,7 @@ length-to r g d v a =
     let es : List Edge = r .edges in
     let w : ℕ = far es d v in
     rw (length-is r d (a .inside), far-is r d v (a .inside), walk-agrees r g d w ((across es d v (proper r g) a) .at))
-    (sum32-is (lengthAt es d) (sum (lengthsOf es (map afterOf (onwards es d w)))) (omega (arith, reaches-small r g d v (a .inside))))
+    (sum32-is (lengthAt es d) (along es d w) (omega (arith, reaches-small r g d v a)))
 
 pub reach-agrees : (r : Register) → Reachable r → (v : ℕ) → reachIn (tablesOf r) (countsOf r) v ≡ reach r v
 unfolding reachIn reach countsOf isRegular
@@ -149,7 +150,7 @@ find-agrees r g label = zero? (eqb label 0) refl
     search : label ≢ 0 → (o : Option ℕ) → firstFrom 0 label (r .labels) ≡ o → findIn (tablesOf r) (countsOf r) label ≡ find r label
     search n none e =
         rw (ne-eqb label 0 n, labels-are r, e, findIn)
-        (sym (find-none r label k (λ v q. first-none 0 label (r .labels) e v (omega (arith, regular-landed r k v q, few r g, labels-long r g)))))
+        (sym (find-none r label (λ v q. first-none 0 label (r .labels) e v (omega (arith, regular-landed r k v q, few r g, labels-long r g)))))
     search n (some v) e =
         let w : Holds 0 label v (r .labels) = first-some 0 label v (r .labels) e in
         let i : v ≡ w .place = omega (arith, w .found-at) in
@@ -161,5 +162,5 @@ find-agrees r g label = zero? (eqb label 0) refl
     zero? : (b : Bool) → eqb label 0 ≡ b → findIn (tablesOf r) (countsOf r) label ≡ find r label
     zero? true e =
         rw (e, findIn)
-        (sym (find-none r label k (λ v q h. omega (arith, eqb-true label 0 e, label-not-zero r k v (is-two (r .edges) v q)))))
+        (sym (find-none r label (λ v q h. omega (arith, eqb-true label 0 e, label-not-zero r k v (is-two (r .edges) v q)))))
     zero? false e = search (eqb-false label 0 e) (firstFrom 0 label (r .labels)) refl

@@ -35,7 +35,7 @@ use Rattle.agreement.proofs.Extending.{HoldsLabelling, extended, labell
 use Rattle.agreement.proofs.Joining.{Ground}
 use Rattle.agreement.proofs.Merging.{merges, merges-ring}
 use Rattle.agreement.proofs.Tables.{degrees-long, degrees-read, length-raised, raised, shows, sides-long}
-use Rattle.agreement.proofs.Reached.{few, lows-long, new-below, no-label, proper, rings, room}
+use Rattle.agreement.proofs.Registers.{few, lows-long, new-below, no-label, proper, rings, room}
 
 -- attaching one vertex stores one label
 attach-one : (blocks d : ℕ) (kept : List Pass) (s : Pass) (m : Marks) → (label : ℕ) × ((attach blocks d kept (s ∷ []) m) .marks .labels ≡ set (m .labels) (s .at) label)

@@ -26,7 +26,7 @@ use Rattle.model.proofs.Registers.Small.{total-small}
 use Rattle.agreement.proofs.Lists.{ends-stored, lengths-stored}
 use Rattle.agreement.proofs.Relabelled.{relabelled-most}
 use Rattle.agreement.proofs.Tables.{degrees-are, linked-sides}
-use Rattle.agreement.proofs.Reached.{labels-long}
+use Rattle.agreement.proofs.Registers.{labels-long}
 use Rattle.agreement.proofs.Inserting.{Stands, ring-placed, stands}
 
 -- what the definition leaves, as tables and counts

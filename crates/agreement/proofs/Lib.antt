@@ -1,6 +1,5 @@
--- Landing, in the order of the argument: Same .. Tables on the tables, Cases and Inserting for one edge, Landing with the refusals.
+-- Landing, in the order of the argument: Lists .. Tables on the tables, Cases and Inserting for one edge, Landing with the refusals.
 -- Queries: Chaining (a walk), Lowest and Naming (a name), Sheeting, Finding.
-pub mod Same
 pub mod Lists
 pub mod Relabelled
 pub mod Linked
@@ -11,7 +10,7 @@ pub mod Opening
 pub mod Extending
 pub mod Joining
 pub mod Merging
-pub mod Reached
+pub mod Registers
 pub mod Tables
 pub mod Cases
 pub mod Inserting

@@ -18,7 +18,7 @@ use Rattle.model.proofs.Walks.Trail.{walk-on, walk-stop}
 use Rattle.model.proofs.Walks.RingFree.{RingFree}
 use Rattle.model.proofs.Chains.Partition.{chain-has, chain-name}
 use Rattle.model.proofs.Chains.Own.{chain-inner, inner-chain}
-use Rattle.agreement.proofs.Reached.{proper, rings}
+use Rattle.agreement.proofs.Registers.{proper, rings}
 use Rattle.model.proofs.Registers.ReadBack.{first-read, second-read}
 use Rattle.agreement.proofs.Chaining.{Step, at-first, at-second, steps, stops}
 

@@ -6,25 +6,21 @@ use mathlib.Core.Bool.{Bool, true, false}
 use mathlib.Core.List.{List, [], _∷_, _++_, map, reverse}
 use lib.ListN.{length, length-append, length-map, length-reverse}
 use lib.Dec.{eqb}
-use Rattle.model.specs.Basics.{countFrom, sum, upTo}
-use Rattle.model.specs.Graph.{Edge, Pass, afterOf, atOf, chainLength, chainOf, edgeAt, endOnwards, lengthAt, lengthsOf, nameOf, onwards}
+use Rattle.model.specs.Basics.{countFrom, upTo}
+use Rattle.model.specs.Graph.{Edge, Pass, atOf, chainOf, edgeAt, endOnwards, lengthAt, nameOf, onwards}
 use Rattle.model.specs.Register.{Register}
 use Rattle.model.specs.Queries.{row, rowsOf, sheet}
 use Rattle.model.specs.Tables.{Tables, countsOf, tablesOf}
 use Rattle.model.specs.Notions.{Reachable}
 use Rattle.tables.proofs.Sums.{sum32-is}
 use Rattle.queries.specs.Chains.{namesIn, rowIn, rowsIn, sheetIn}
-use Rattle.model.proofs.Basics.Lists.{sum-around}
+use Rattle.model.proofs.Chains.Reaches.{along, chain-by-walks}
 use Rattle.model.proofs.Registers.ReadBack.{first-read, second-read}
 use Rattle.model.proofs.Registers.Small.{chains-small}
 use Rattle.agreement.proofs.Chaining.{at-first, at-second, length-is, walk-agrees}
 use Rattle.agreement.proofs.Naming.{is-name-agrees}
 
 -- ---- one row
-
--- the lengths along a walk
-abbrev along : List Edge → ℕ → ℕ → ℕ
-along es d v = sum (lengthsOf es (map afterOf (onwards es d v)))
 
 -- a row by the walks from the edge's two ends a and b
 abbrev rowBy : List Edge → ℕ → ℕ → ℕ → List ℕ
@@ -36,18 +32,12 @@ inner-is : (xs ys : List Pass) → length (reverse (map atOf xs) ++ map atOf ys)
 inner-is xs ys =
     omega (arith, length-append (reverse (map atOf xs)) (map atOf ys), length-reverse (map atOf xs), length-map xs atOf, length-map ys atOf)
 
--- a chain's length, by the same walks
-length-by : (es : List Edge) (d : ℕ)
-    → chainLength es d ≡ along es d ((edgeAt es d) .first) + (lengthAt es d + along es d ((edgeAt es d) .second))
-unfolding chainOf chainLength
-length-by es d = sum-around es (map afterOf (onwards es d ((edgeAt es d) .first))) d (map afterOf (onwards es d ((edgeAt es d) .second)))
-
 row-is : (es : List Edge) (d : ℕ) → row es d ≡ rowBy es d ((edgeAt es d) .first) ((edgeAt es d) .second)
 unfolding row chainOf endOnwards
 row-is es d =
     let back : List Pass = onwards es d ((edgeAt es d) .first) in
     let on : List Pass = onwards es d ((edgeAt es d) .second) in
-    rw (inner-is back on, length-by es d)
+    rw (inner-is back on, chain-by-walks es d)
 
 abbrev rowOver : Tables → ℕ → ℕ → List ℕ
 rowOver t = rowIn (t .degrees) (t .sides) (t .ends) (t .lengths)
@@ -64,8 +54,8 @@ row-agrees r g d h =
       walk-agrees r g d a (at-first r g d h),
       walk-agrees r g d b (at-second r g d h),
       length-is r d h,
-      sum32-is (lengthAt es d) (along es d b) (omega (arith, length-by es d, chains-small r g d h)),
-      sum32-is (along es d a) (lengthAt es d + along es d b) (omega (arith, length-by es d, chains-small r g d h)),
+      sum32-is (lengthAt es d) (along es d b) (omega (arith, chain-by-walks es d, chains-small r g d h)),
+      sum32-is (along es d a) (lengthAt es d + along es d b) (omega (arith, chain-by-walks es d, chains-small r g d h)),
     )
     (sym (row-is es d))
 

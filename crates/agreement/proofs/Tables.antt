@@ -18,7 +18,7 @@ use Rattle.model.proofs.Walks.Degree.{Proper, degree-snoc, endsAt-le}
 use Rattle.agreement.proofs.Lists.{PairAt, by-pairs, getD-upTo, is-map, length-mapped, sidesOf-read}
 use Rattle.agreement.proofs.Linked.{Linked, far-agrees}
 use Rattle.agreement.proofs.Lockstep.{Shows}
-use Rattle.agreement.proofs.Reached.{landed-below, low-at}
+use Rattle.agreement.proofs.Registers.{landed-below, low-at}
 use Rattle.model.proofs.Basics.Counting.{same-eq, same-most, same-ne}
 use Rattle.model.proofs.Basics.Lists.{length-upTo}
 use Rattle.model.proofs.Registers.ReadBack.{first-read, length-sides, second-read}

@@ -9,7 +9,6 @@ use Rattle.model.specs.Notions.{HeldOf, Reachable}
 use Rattle.model.specs.Tables.{Stored, countsOf, edgeLengths, endsOf, padded, storedOf, tablesOf}
 use Rattle.model.proofs.Registers.ReadBack.{first-read, second-read, length-read, length-ends, length-lengths}
 use Rattle.model.proofs.Registers.Labelled.{Labelled}
-use Rattle.model.proofs.Registers.Lawful.{edges-lawful}
 use Rattle.model.proofs.Registers.Reachable.{labelled}
 use Rattle.search.specs.Search.{Searchable}
 use Rattle.distance.specs.Measure.{Measurable}
@@ -26,10 +25,10 @@ searchable r k =
       few = kept .room;
       ends-room = omega (arith, padded-long (2 * maxEdges) (endsOf (r .edges)), length-ends (r .edges));
       lengths-room = omega (arith, padded-long maxEdges (edgeLengths (r .edges)), length-lengths (r .edges));
-      firsts = λ d l. omega (arith, first-read r d l, edges-lawful r k d l .first-landed, kept .few);
-      seconds = λ d l. omega (arith, second-read r d l, edges-lawful r k d l .second-landed, kept .few);
-      short = λ d l. omega (arith, length-read r d l, edges-lawful r k d l .most-length);
-      long = λ d l. omega (arith, length-read r d l, edges-lawful r k d l .some-length);
+      firsts = λ d l. omega (arith, first-read r d l, kept .lawful d l .first-landed, kept .few);
+      seconds = λ d l. omega (arith, second-read r d l, kept .lawful d l .second-landed, kept .few);
+      short = λ d l. omega (arith, length-read r d l, kept .lawful d l .most-length);
+      long = λ d l. omega (arith, length-read r d l, kept .lawful d l .some-length);
     }
 
 pub measurable : {s : Stored} {r : Register} → HeldOf s r → Measurable (s .tables .ends) (s .tables .lengths) (s .counts)

@@ -18,7 +18,7 @@ use Rattle.insertion.specs.Insertion.{LandingIn, counts, done, landingIn, refus
 use Rattle.model.proofs.Registers.Held.{grow-again, grown-from, onVertices, vertices-grow}
 use Rattle.model.proofs.Registers.OnlyHeld.{grow-reaches, held-counts, held-tables, only-held, vertices-reach}
 use Rattle.model.proofs.Registers.Reachable.{reachable-empty}
-use Rattle.agreement.proofs.Reached.{stored-held, regrows}
+use Rattle.agreement.proofs.Registers.{few, stored-held, regrows}
 use Rattle.agreement.proofs.Landing.{edge-parts, shownIn}
 use Rattle.holding.specs.Replay.{regrowIn, replayIn}
 use Rattle.holding.proofs.ReplayLaws.{done-is, refused-done}
@@ -142,7 +142,7 @@ replay-held t c e = go (growing t c) refl (regrow-agrees t c)
 stored-replays : (r : Register) → Reachable r → regrown (tablesOf r) (countsOf r) ≡ landingIn (tablesOf r) (done (countsOf r))
 unfolding storedOf
 stored-replays r g =
-    let q : growing (tablesOf r) (countsOf r) ≡ landed r = grow-again r (regrows r g) in
+    let q : growing (tablesOf r) (countsOf r) ≡ landed r = grow-again r (few r g) (regrows r g) in
     rw q at (regrow-agrees (tablesOf r) (countsOf r))
 
 -- so tables and counts that hold a register are left by their own replay

@@ -15,7 +15,7 @@ use Rattle.model.proofs.Registers.Equality.{counts-parts}
 use Rattle.tables.specs.Steps.{edgeOf, tables, zeroed, Tells}
 use Rattle.tables.proofs.Lists.{differ}
 use Rattle.insertion.specs.Insertion.{AnswerIn, done, refusedIn, LandingIn, landingIn, counts, landIn}
-use Rattle.agreement.proofs.Same.{Same}
+use Rattle.tables.proofs.SameLengths.{SameLengths}
 use Rattle.holding.specs.Replay.{replayIn, regrowIn, Regrows}
 
 module _ (es ls : List ℕ) where
@@ -111,7 +111,7 @@ module _ (own : Tables) (c : Counts) (t t′ : Tables) (answer : AnswerIn) where
       both : own ≡ t′ → landingIn t′ (done c′) ≡ landingIn own (done c)
       both e = rw (h, e)
 
-pub zeroed-again : {d s e l t d′ s′ e′ l′ t′ : List ℕ} → Same d s e l t d′ s′ e′ l′ t′ → zeroed (tables d′ s′ e′ l′ t′) ≡ zeroed (tables d s e l t)
+pub zeroed-again : {d s e l t d′ s′ e′ l′ t′ : List ℕ} → SameLengths d s e l t d′ s′ e′ l′ t′ → zeroed (tables d′ s′ e′ l′ t′) ≡ zeroed (tables d s e l t)
 unfolding zeroed
 zeroed-again k = rw (k .degrees, k .sides, k .ends, k .lengths, k .labels)
 

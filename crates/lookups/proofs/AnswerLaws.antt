@@ -17,7 +17,7 @@ use Rattle.model.proofs.Registers.OnlyHeld.{held-counts, held-tables}
 use Rattle.tables.specs.Steps.{tables}
 use Rattle.queries.specs.Chains.{sheetIn}
 use Rattle.queries.specs.Finding.{findIn, reachIn}
-use Rattle.agreement.proofs.Reached.{labels-long}
+use Rattle.agreement.proofs.Registers.{labels-long}
 use Rattle.agreement.proofs.Finding.{find-agrees, reach-agrees}
 use Rattle.agreement.proofs.Sheeting.{sheet-agrees}
 use Rattle.lookups.specs.Answering.{Sheeted, sheeted, sheetedIn}

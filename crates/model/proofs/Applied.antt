@@ -34,7 +34,7 @@ asked-is c =
     ∙ ap (λ (b : Bool). if b then (effect c (after calls empty)) .reply else refuses 25) cleared-fits
 
 pub record Shown : Type 0 where
-  pub never-21 : held (series calls start) ≡ some (after calls empty)
+  pub holds : held (series calls start) ≡ some (after calls empty)
   pub total : (series calls start) .counts .relabellings ≡ 1
   pub bound : (series calls start) .counts .relabellings ≤ 7 * floorLog 7
   pub lengths : (slice : List ℕ) → 10 ≤ length slice → sum (lengthColumn (take 10 ((asked (sheets slice)) .slice))) ≡ 5500
@@ -45,7 +45,7 @@ pub record Shown : Type 0 where
 pub shown : Shown
 shown =
     record {
-      never-21 = at-end .holds;
+      holds = at-end .holds;
       total = at-end .total ∙ called .relabelled;
       bound = subst (λ (n : ℕ). (series calls start) .counts .relabellings ≤ n * floorLog n) (called .accepted)
           (at-end .bound (omega (arith, called .accepted)));

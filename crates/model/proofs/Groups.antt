@@ -1,4 +1,3 @@
-pub mod FloorLog
 pub mod Shape
 pub mod Bound
 pub mod Ends

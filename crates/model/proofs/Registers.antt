@@ -1,4 +1,5 @@
 pub mod Accepted
+pub mod Lawful
 pub mod Labelled
 pub mod Sides
 pub mod ReadBack
@@ -6,7 +7,6 @@ pub mod Equality
 pub mod Held
 pub mod Kept
 pub mod Reachable
-pub mod Lawful
 pub mod RingTest
 pub mod Answers
 pub mod Small

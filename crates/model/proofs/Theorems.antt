@@ -31,7 +31,7 @@ use Rattle.model.proofs.Chains.Partition.{chain-has, chain-name, name-i
 use Rattle.model.proofs.Chains.Names.{sheet-names}
 use Rattle.model.proofs.Chains.Reaches.{hop-lengths}
 use Rattle.model.proofs.Labels.Consecutive.{chain-upwards}
-use Rattle.model.proofs.Groups.FloorLog.{floorLog-fits, floorLog-most}
+use Rattle.model.proofs.Basics.FloorLog.{floorLog-fits, floorLog-most}
 use Rattle.model.proofs.Distances.Distance.{is-distance}
 use Rattle.model.proofs.Distances.Hops.{chains-distance, loose-distance}
 use Rattle.model.proofs.Registers.Labelled.{Labelled, labelled-bound, labels-unique, zero-then}
@@ -196,7 +196,7 @@ module _ (r : Register) (k : Reachable r) where
         no-label-twice = λ v w a b e. labels-unique r l v w (is-two (r .edges) v a) (is-two (r .edges) w b) e;
         fits-32-bits = λ v. omega (arith, labels-small r k v);
         finds-own = finds-chain r l;
-        others-refused = λ label n. find-none r label l n;
+        others-refused = find-none r;
       }
 
   -- ---- 4

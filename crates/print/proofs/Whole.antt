@@ -14,7 +14,7 @@ use Rattle.model.specs.Printing.{ascii, line, lines, listing, printed, stopLine
 use Rattle.model.specs.Notions.{Reachable}
 use Rattle.model.proofs.Series.Landings.{reachable-grown}
 use Rattle.queries.specs.Chains.{sheetIn}
-use Rattle.agreement.proofs.Reached.{room}
+use Rattle.agreement.proofs.Registers.{room}
 use Rattle.agreement.proofs.Sheeting.{sheet-agrees}
 use Rattle.register.specs.Records.{ReadingIn, landListIn}
 use Rattle.register.proofs.ListAgrees.{shownRead}

@@ -1,4 +1,5 @@
--- Laws: `Lists` of clearing and comparing, at any width; `Sums` of sums that stop; `Lockstep` of the walk.
+-- Laws: `Lists` of clearing and comparing, at any width; `SameLengths` of five tables; `Sums` of sums that stop; `Lockstep` of the walk.
 pub mod Lists
+pub mod SameLengths
 pub mod Sums
 pub mod Lockstep

@@ -14,8 +14,8 @@ use Rattle.model.proofs.Walks.Turn.{At, two-edges, turn-between}
 use Rattle.model.proofs.Walks.Joins.{across, joins-back, joins-at, joins-of, joins-far}
 use Rattle.model.proofs.Walks.Trail.{Trail, done, pass, trail-back, backwards, Next, next-edge, trail-at, afters, afters-back}
 use Rattle.model.proofs.Walks.RingFree.{RingFree}
-use Rattle.model.proofs.Chains.Same.{lineChain, chain-same, chain-of-line, ats-back, Line, lineEdges, same-back}
-use Rattle.model.proofs.Chains.Partition.{line-distinct, LineOf, own-line}
+use Rattle.model.proofs.Chains.Same.{lineChain, chain-same, chain-of-line, ats-back, Line, LineOf, lineEdges, same-back}
+use Rattle.model.proofs.Chains.Partition.{line-distinct, own-line}
 use Rattle.model.proofs.Basics.Counting.{mem-occurs, Distinct, occurs, same-eq}
 
 -- ---- a line is a chain
@@ -121,7 +121,7 @@ module _ (es : List Edge) (pr : Proper es) where
               inner-is = rw (r .inner-is) refl;
             }
 
-    as-line : (c : Chain) → IsChain es c → LineOf es pr rf c
+    as-line : (c : Chain) → IsChain es c → LineOf es c
     unfolding lineChain
     as-line c k =
         let r : AsTrail (c .start) (c .edges) (c .inner) (c .stop) = path-trail (k .path) (k .between) (k .no-edge-twice) in
@@ -144,6 +144,6 @@ module _ (es : List Edge) (pr : Proper es) where
     pub chain-only : (c : Chain) (d : ℕ) → IsChain es c → Mem d (c .edges) → SameChain c (chainOf es d)
     unfolding lineChain
     chain-only c d k m =
-        let a : LineOf es pr rf c = as-line c k in
+        let a : LineOf es c = as-line c k in
         let m′ : Mem d (lineEdges (a .line)) = subst (λ (z : Chain). Mem d (z .edges)) (sym (a .chain-is)) m in
         same-back (chainOf es d) c (subst (λ (z : Chain). SameChain (chainOf es d) z) (a .chain-is) (chain-of-line es pr (a .line) d m′))

@@ -13,8 +13,7 @@ use Rattle.model.specs.Queries.{row, rowsOf, sheet}
 use Rattle.model.specs.Notions.{Rising, SheetNames}
 use Rattle.model.proofs.Walks.Degree.{Proper}
 use Rattle.model.proofs.Walks.RingFree.{RingFree}
-use Rattle.model.proofs.Chains.Partition.{chain-name, name-in-chain}
-use Rattle.model.proofs.Chains.Sums.{name-below}
+use Rattle.model.proofs.Chains.Partition.{chain-name, name-below, name-in-chain}
 use Rattle.model.proofs.Chains.Sheet.{rows-yes, rows-no}
 
 -- the names among the edges from number `at` on, n of them

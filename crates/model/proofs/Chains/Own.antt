@@ -13,9 +13,8 @@ use Rattle.model.proofs.Walks.Turn.{At, TwoEdges, two-edges, turn-betwe
 use Rattle.model.proofs.Walks.Joins.{other-end, Across, across}
 use Rattle.model.proofs.Walks.Trail.{Trail, done, pass, Next, next-edge, afters}
 use Rattle.model.proofs.Walks.RingFree.{RingFree}
-use Rattle.model.proofs.Chains.Partition.{chain-back, chain-name, name-in-chain, LineOf, own-line}
-use Rattle.model.proofs.Chains.Sums.{name-below}
-use Rattle.model.proofs.Chains.Same.{lineChain, Line}
+use Rattle.model.proofs.Chains.Partition.{chain-back, chain-name, name-below, name-in-chain, own-line}
+use Rattle.model.proofs.Chains.Same.{lineChain, Line, LineOf}
 
 module _ (es : List Edge) (pr : Proper es) (rf : RingFree es) where
   -- a regular vertex at an edge of a trail to a singular vertex is passed on it, or lies behind its beginning
@@ -53,7 +52,7 @@ module _ (es : List Edge) (pr : Proper es) (rf : RingFree es) where
   unfolding lineChain
   chain-inner k j x h m ax cx = go (passed (b .at) (l .trail) (l .stops) j x (subst (λ (c : Chain). Mem j (c .edges)) (sym (o .chain-is)) m) ax cx)
     where
-      o : LineOf es pr rf (chainOf es k)
+      o : LineOf es (chainOf es k)
       o = own-line es pr rf k h
 
       l : Line es

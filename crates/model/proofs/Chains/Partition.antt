@@ -11,12 +11,12 @@ use Rattle.model.specs.Graph.{Edge, afterOf, chainOf, edgeAt, far, nameO
 use Rattle.model.specs.Distance.{forth, back}
 use Rattle.model.specs.Notions.{SameChain}
 use Rattle.model.proofs.Basics.Lists.{reverse-onto}
-use Rattle.model.proofs.Basics.Counting.{Distinct, AllBelow}
+use Rattle.model.proofs.Basics.Counting.{Distinct, AllBelow, below-mem}
 use Rattle.model.proofs.Walks.Degree.{Proper}
 use Rattle.model.proofs.Walks.Turn.{At}
 use Rattle.model.proofs.Walks.Joins.{across, joins-at, joins-far}
 use Rattle.model.proofs.Walks.Trail.{Trail, trail-back, trail-append, backwards, trail-at, afters, afters-back}
-use Rattle.model.proofs.Chains.Same.{Line, lineEdges, lineChain, chain-same, chain-of-line, ats-back, same-back, same-mem}
+use Rattle.model.proofs.Chains.Same.{Line, LineOf, lineEdges, lineChain, chain-same, chain-of-line, ats-back, same-back, same-mem}
 use Rattle.model.proofs.Walks.Ended.{trail-distinct, trail-below}
 use Rattle.model.proofs.Walks.RingFree.{RingFree}
 use Rattle.model.proofs.Walks.Whole.{Onwards, onwards-ends}
@@ -67,17 +67,17 @@ module _ (es : List Edge) (pr : Proper es) where
   pub line-distinct : (l : Line es) → Distinct (lineEdges l)
   line-distinct l = trail-distinct es pr ((across es (l .first) (l .start) pr (l .at)) .at) (l .trail) (l .stops)
 
-  pub line-below : (l : Line es) → AllBelow (length es) (lineEdges l)
+  line-below : (l : Line es) → AllBelow (length es) (lineEdges l)
   line-below l = trail-below es pr ((across es (l .first) (l .start) pr (l .at)) .at) (l .trail)
 
-module _ (es : List Edge) (pr : Proper es) (rf : RingFree es) where
-  -- a chain as a line
-  pub record LineOf (c : Chain) : Type 0 where
-    pub line : Line es
-    pub chain-is : lineChain line ≡ c
+-- an edge's chain has each of its edges once, and only edges of the list
+pub record EachOnce (es : List Edge) (d : ℕ) : Type 0 where
+  pub distinct : Distinct ((chainOf es d) .edges)
+  pub below : AllBelow (length es) ((chainOf es d) .edges)
 
+module _ (es : List Edge) (pr : Proper es) (rf : RingFree es) where
   -- the chain of an edge is one: the walk from the edge's first end, read backwards, and behind it the walk from its second end
-  pub own-line : (d : ℕ) → d < length es → LineOf (chainOf es d)
+  pub own-line : (d : ℕ) → d < length es → LineOf es (chainOf es d)
   unfolding lineChain chainOf endOnwards afters
   own-line d h =
       let a = (edgeAt es d) .first in
@@ -106,11 +106,23 @@ module _ (es : List Edge) (pr : Proper es) (rf : RingFree es) where
             (simp map-append (ap (λ (l : List ℕ). l ++ afters (onwards es d b)) (afters-back (s .trail)) ∙ reverse-onto d (afters (onwards es d a)) (afters (onwards es d b))));
       }
 
+  pub each-once : (d : ℕ) → d < length es → EachOnce es d
+  unfolding lineChain
+  each-once d h =
+      let o : LineOf es (chainOf es d) = own-line d h in
+      record {
+        distinct = subst (λ (c : Chain). Distinct (c .edges)) (o .chain-is) (line-distinct es pr (o .line));
+        below = subst (λ (c : Chain). AllBelow (length es) (c .edges)) (o .chain-is) (line-below es pr (o .line));
+      }
+
+  pub name-below : (d : ℕ) → d < length es → nameOf es d < length es
+  name-below d h = below-mem (length es) ((chainOf es d) .edges) ((each-once d h) .below) (nameOf es d) (name-in-chain es d)
+
   -- the edges of a chain have this chain, and its name
   pub chain-again : (c d : ℕ) → d < length es → Mem c ((chainOf es d) .edges) → SameChain (chainOf es c) (chainOf es d)
   unfolding lineChain
   chain-again c d h m =
-      let o : LineOf (chainOf es d) = own-line d h in
+      let o : LineOf es (chainOf es d) = own-line d h in
       let m′ : Mem c (lineEdges (o .line)) = subst (λ (k : Chain). Mem c (k .edges)) (sym (o .chain-is)) m in
       subst (λ (k : Chain). SameChain (chainOf es c) k) (o .chain-is) (chain-of-line es pr (o .line) c m′)
 

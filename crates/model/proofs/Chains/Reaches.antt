@@ -7,7 +7,7 @@ use mathlib.Core.Bool.{true, false}
 use mathlib.Core.List.{List, _∷_, map, List·Memᴰ as Mem}
 use lib.ListN.{length}
 use Rattle.model.specs.Basics.{sum}
-use Rattle.model.specs.Graph.{Edge, Pass, afterOf, chainLength, chainOf, edgeAt, far, isRegular, lengthAt, lengthsOf, onwards, turn}
+use Rattle.model.specs.Graph.{Edge, afterOf, chainLength, chainOf, edgeAt, far, isRegular, lengthAt, lengthsOf, onwards, turn}
 use Rattle.model.specs.Distance.{lengthVia, Joins, back, forth}
 use Rattle.model.specs.Queries.{lengthTo}
 use Rattle.model.specs.Notions.{SameChain, reversed}
@@ -22,39 +22,36 @@ use Rattle.model.proofs.Walks.Whole.{Onwards, onwards-ends}
 use Rattle.model.proofs.Chains.Own.{inner-chain}
 use Rattle.model.proofs.Chains.Partition.{chain-again}
 
--- the lengths of the edges that a walk goes along
-passed : List Edge → List Pass → ℕ
-passed es ss = sum (lengthsOf es (map afterOf ss))
+-- the lengths along the walk from v, to which edge d leads
+abbrev pub along : List Edge → ℕ → ℕ → ℕ
+along es d v = sum (lengthsOf es (map afterOf (onwards es d v)))
+
+-- the length of the chain of edge d, by the walks from its two ends
+pub chain-by-walks : (es : List Edge) (d : ℕ)
+    → chainLength es d ≡ along es d ((edgeAt es d) .first) + (lengthAt es d + along es d ((edgeAt es d) .second))
+unfolding chainLength chainOf
+chain-by-walks es d = sum-around es (map afterOf (onwards es d ((edgeAt es d) .first))) d (map afterOf (onwards es d ((edgeAt es d) .second)))
 
 -- from an end v of edge d: the chain is what lies along d and what lies the other way
-chain-at : (es : List Edge) (d v : ℕ) → Proper es → At es v d → chainLength es d ≡ lengthTo es d v + passed es (onwards es d v)
-unfolding chainLength chainOf lengthTo lengthVia sum lengthsOf passed
+pub chain-at : (es : List Edge) (d v : ℕ) → Proper es → At es v d → chainLength es d ≡ lengthTo es d v + along es d v
+unfolding lengthTo lengthVia sum lengthsOf
 chain-at es d v pr a = go (joins-of es d v pr a)
   where
-    first : ℕ
-    first = (edgeAt es d) .first
+    to : {x y : ℕ} → x ≡ y → along es d x ≡ along es d y
+    to e = ap (λ (z : ℕ). along es d z) e
 
-    second : ℕ
-    second = (edgeAt es d) .second
-
-    whole : chainLength es d ≡ passed es (onwards es d first) + (lengthAt es d + passed es (onwards es d second))
-    whole = sum-around es (map afterOf (onwards es d first)) d (map afterOf (onwards es d second))
-
-    to : (x y : ℕ) → x ≡ y → passed es (onwards es d x) ≡ passed es (onwards es d y)
-    to x y e = ap (λ (z : ℕ). passed es (onwards es d z)) e
-
-    go : Joins (edgeAt es d) v (far es d v) → chainLength es d ≡ lengthTo es d v + passed es (onwards es d v)
-    go (forth s f) = omega (arith, whole, to first v s, to second (far es d v) f)
-    go (back s f) = omega (arith, whole, to second v s, to first (far es d v) f)
+    go : Joins (edgeAt es d) v (far es d v) → chainLength es d ≡ lengthTo es d v + along es d v
+    go (forth s f) = omega (arith, chain-by-walks es d, to s, to f)
+    go (back s f) = omega (arith, chain-by-walks es d, to s, to f)
 
 -- a hop along edge d is as long as the reach, and from a singular vertex as the chain
 pub hop-lengths : (es : List Edge) → Proper es → (d v w : ℕ) → d < length es → Joins (edgeAt es d) v w
     → (lengthVia es d w ≡ lengthTo es d v) × (isRegular es v ≡ false → lengthVia es d w ≡ chainLength es d)
-unfolding lengthTo passed onwards sum lengthsOf
+unfolding lengthTo onwards sum lengthsOf
 hop-lengths es pr d v w h j =
     let b : Joins (edgeAt es d) w v = joins-back (edgeAt es d) v w j in
     let e : lengthVia es d w ≡ lengthTo es d v = rw (joins-far es d w v pr h b) refl in
-    (e, λ c. let z : passed es (onwards es d v) ≡ 0 = rw (walk-stop (length es) es d v c) refl in omega (arith, chain-at es d v pr (joins-at es d w v pr h b)))
+    (e, λ c. let z : along es d v ≡ 0 = rw (walk-stop (length es) es d v c) refl in omega (arith, chain-at es d v pr (joins-at es d w v pr h b)))
 
 module _ (es : List Edge) (pr : Proper es) (rf : RingFree es) where
   -- who comes to a regular vertex goes on along its other edge
@@ -69,9 +66,9 @@ module _ (es : List Edge) (pr : Proper es) (rf : RingFree es) where
       trail-walk (length es) u (w .singular) (omega (arith, trail-short es pr a u (w .singular)))
 
   both-reaches : (d v : ℕ) → At es v d → isRegular es v ≡ true → lengthTo es d v + lengthTo es (turn es d v) v ≡ chainLength es d
-  unfolding passed lengthTo lengthVia afterOf
+  unfolding lengthTo lengthVia afterOf
   both-reaches d v a c =
-      let e : passed es (onwards es d v) ≡ lengthTo es (turn es d v) v = rw (onwards-on d v a c) refl in
+      let e : along es d v ≡ lengthTo es (turn es d v) v = rw (onwards-on d v a c) refl in
       omega (arith, chain-at es d v pr a, e)
 
   -- one length for all edges of a chain

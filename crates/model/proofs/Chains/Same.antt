@@ -36,6 +36,11 @@ lineEdges l = l .first ∷ afters (l .passes)
 unfoldable pub lineChain : {es : List Edge} → Line es → Chain
 lineChain l = record { start = l .start; inner = map atOf (l .passes); stop = l .stop; edges = lineEdges l }
 
+-- a chain as a line
+pub record LineOf (es : List Edge) (c : Chain) : Type 0 where
+  pub line : Line es
+  pub chain-is : lineChain line ≡ c
+
 pub ats-back : (ss : List Pass) → map atOf (backwards ss) ≡ reverse (map atOf ss)
 unfolding backwards flip atOf
 ats-back [] = refl

@@ -1,5 +1,5 @@
 -- The lengths of the chains add up to the lengths of the edges.
-use mathlib.Core.Path.{_≡_, sym, ap, _∙_, subst}
+use mathlib.Core.Path.{_≡_, sym, ap, _∙_}
 use mathlib.Core.Logic.{_⊎_, inl, inr}
 use Prim.Native.Nat.{ℕ, _+_, _*_, _<_}
 use native.Mathlib.Omega.{arith}
@@ -8,13 +8,12 @@ use native.Mathlib.Decide.{ℕ-discrete}
 use mathlib.Core.List.{List, [], _∷_, List·Memᴰ as Mem}
 use lib.ListN.{length}
 use Rattle.model.specs.Basics.{sum}
-use Rattle.model.specs.Graph.{Edge, chainLength, chainOf, lengthAt, lengthsOf, nameOf, same, Chain}
+use Rattle.model.specs.Graph.{Edge, chainLength, chainOf, lengthAt, lengthsOf, nameOf, same}
 use Rattle.model.proofs.Walks.Degree.{Proper}
-use Rattle.model.proofs.Chains.Same.{lineChain}
-use Rattle.model.proofs.Basics.Counting.{occurs-or, occurs, Distinct, AllBelow, same-eq, same-ne, mem-occurs, below-mem}
+use Rattle.model.proofs.Basics.Counting.{occurs-or, occurs, AllBelow, same-eq, same-ne, mem-occurs}
 use Rattle.model.proofs.Basics.Total.{total, total-same, total-add, total-swap, total-one, total-zero, total-mul}
 use Rattle.model.proofs.Walks.RingFree.{RingFree}
-use Rattle.model.proofs.Chains.Partition.{line-distinct, line-below, chain-back, chain-name, name-in-chain, own-line}
+use Rattle.model.proofs.Chains.Partition.{chain-back, chain-name, each-once, name-below, name-in-chain}
 
 -- a sum over a list, by how often each number stands in it
 sum-occurs : (es : List Edge) (n : ℕ) (xs : List ℕ) → AllBelow n xs → sum (lengthsOf es xs) ≡ total n (λ k. occurs k xs * lengthAt es k)
@@ -36,20 +35,6 @@ unfoldable pub named : List Edge → ℕ → ℕ
 named es d = same (nameOf es d) d
 
 module _ (es : List Edge) (pr : Proper es) (rf : RingFree es) where
-  -- an edge's chain has each of its edges once, and only edges of the list
-  pub record Once (d : ℕ) : Type 0 where
-    pub distinct : Distinct ((chainOf es d) .edges)
-    pub below : AllBelow (length es) ((chainOf es d) .edges)
-
-  pub once : (d : ℕ) → d < length es → Once d
-  unfolding lineChain
-  once d h =
-      let o = own-line es pr rf d h in
-      record {
-        distinct = subst (λ (c : Chain). Distinct (c .edges)) (o .chain-is) (line-distinct es pr (o .line));
-        below = subst (λ (c : Chain). AllBelow (length es) (c .edges)) (o .chain-is) (line-below es pr (o .line));
-      }
-
   -- edge k is on the chain of name d just if d is the name of k's own chain
   one-chain : (k d : ℕ) → k < length es → d < length es → named es d * occurs k ((chainOf es d) .edges) ≡ same (nameOf es k) d
   unfolding named
@@ -65,16 +50,13 @@ module _ (es : List Edge) (pr : Proper es) (rf : RingFree es) where
           let dm : Mem d ((chainOf es k) .edges) = rw e at (name-in-chain es k) in
           let self : nameOf es d ≡ d = chain-name es pr rf d k hk dm ∙ e in
           let m : Mem k ((chainOf es d) .edges) = chain-back es pr rf d k hk dm in
-          let c : occurs k ((chainOf es d) .edges) ≡ 1 = omega (arith, (once d hd) .distinct k, mem-occurs k ((chainOf es d) .edges) m) in
+          let c : occurs k ((chainOf es d) .edges) ≡ 1 = omega (arith, (each-once es pr rf d hd) .distinct k, mem-occurs k ((chainOf es d) .edges) m) in
           rw (same-eq (nameOf es k) d e, same-eq (nameOf es d) d self, c) (omega arith)
-
-  pub name-below : (k : ℕ) → k < length es → nameOf es k < length es
-  name-below k h = below-mem (length es) ((chainOf es k) .edges) ((once k h) .below) (nameOf es k) (name-in-chain es k)
 
   -- a chain is as long as its edges, each as often as it stands on the chain
   pub length-occurs : (d : ℕ) → d < length es → chainLength es d ≡ total (length es) (λ k. occurs k ((chainOf es d) .edges) * lengthAt es k)
   unfolding chainLength
-  length-occurs d h = omega (arith, sum-occurs es (length es) ((chainOf es d) .edges) ((once d h) .below))
+  length-occurs d h = omega (arith, sum-occurs es (length es) ((chainOf es d) .edges) ((each-once es pr rf d h) .below))
 
   expand : (d : ℕ) → d < length es
       → named es d * chainLength es d ≡ total (length es) (λ k. (named es d * occurs k ((chainOf es d) .edges)) * lengthAt es k)
@@ -87,7 +69,7 @@ module _ (es : List Edge) (pr : Proper es) (rf : RingFree es) where
   collapse k h =
       let n = length es in
       total-same n _ (λ d. same (nameOf es k) d * lengthAt es k) (λ d l. ap (λ (s : ℕ). s * lengthAt es k) (one-chain k d h l))
-      ∙ total-one n (nameOf es k) (λ d. lengthAt es k) (name-below k h)
+      ∙ total-one n (nameOf es k) (λ d. lengthAt es k) (name-below es pr rf k h)
 
   -- over all names, the lengths of the chains add up to those of the edges
   pub chains-sum : total (length es) (λ d. named es d * chainLength es d) ≡ total (length es) (λ k. lengthAt es k)

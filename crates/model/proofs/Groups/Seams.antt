@@ -11,13 +11,26 @@ use lib.ListN.{length}
 use Rattle.model.specs.Basics.{floorLog}
 use Rattle.model.specs.Graph.{Edge, degree, endsAt, far}
 use Rattle.model.proofs.Basics.Booleans.{not-both}
-use Rattle.model.proofs.Groups.FloorLog.{floorLog-most, floorLog-mono, floorLog-merge}
+use Rattle.model.proofs.Basics.FloorLog.{floorLog-fits, floorLog-most, floorLog-mono}
 use Rattle.model.proofs.Walks.Degree.{Proper}
 use Rattle.model.proofs.Walks.Turn.{At}
 use Rattle.model.proofs.Groups.Shape.{Shape, size, Courses, size-fresh, spent-fresh}
 use Rattle.model.proofs.Groups.Ends.{HighEnd, LowEnd, high-none, high-leaf, low-none, low-leaf, low-closing}
 
--- arithmetic of the four
+-- ---- arithmetic of the four
+
+-- a merge of groups of a and b edges has room for b + 1 relabellings
+floorLog-merge : (a b : ℕ) → b ≤ a → 1 ≤ b → a * floorLog a + b * floorLog b + b + 1 ≤ (a + b + 1) * floorLog (a + b + 1)
+floorLog-merge a b h q =
+    let y : suc (floorLog b) ≤ floorLog (a + b + 1) = floorLog-most (a + b + 1) (suc (floorLog b)) (omega (arith, floorLog-fits b q)) in
+    let one : 1 ≤ floorLog (a + b + 1) = floorLog-most (a + b + 1) 1 (omega arith) in
+    omega (
+      arith,
+      one,
+      mul-le-mul-left a (floorLog-mono a (a + b + 1) (omega arith) (omega arith)),
+      mul-le-mul-left b y,
+    )
+
 grow-one : (s c : ℕ) → 1 ≤ s → c + s ≤ s * floorLog s + 1 → c + (s + 1) ≤ (s + 1) * floorLog (s + 1) + 1
 grow-one s c l q =
     let one : 1 ≤ floorLog (s + 1) = floorLog-most (s + 1) 1 (omega arith) in
@@ -35,6 +48,8 @@ grow-two s t c e k a b q r = go (decLe s t)
         let m′ : t * floorLog t + s * floorLog s + s + 1 ≤ (s + t + 1) * floorLog (s + t + 1) = rw z at m in
         omega (arith, m′, q, r)
     go (no l) = omega (arith, floorLog-merge s t (omega arith) (omega arith), q, r)
+
+-- ---- the four
 
 -- How the edge joins the groups: what it meets at its two ends, and that the relabellings, k of them, are paid for.
 pub record Seam (es : List Edge) (p : Edge) (h : Shape) (gx gy x y k : ℕ) (b : Bool) : Type 0 where

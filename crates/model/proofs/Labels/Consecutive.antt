@@ -17,8 +17,8 @@ use Rattle.model.proofs.Walks.Turn.{At, two-edges, turn-between}
 use Rattle.model.proofs.Walks.Joins.{Across, across, far-ne}
 use Rattle.model.proofs.Walks.Trail.{Trail, done, pass, Front, front, first, nothing, Next, next-edge, afters}
 use Rattle.model.proofs.Walks.RingFree.{RingFree}
-use Rattle.model.proofs.Chains.Same.{lineChain, Line}
-use Rattle.model.proofs.Chains.Partition.{LineOf, own-line}
+use Rattle.model.proofs.Chains.Same.{lineChain, Line, LineOf}
+use Rattle.model.proofs.Chains.Partition.{own-line}
 use Rattle.model.proofs.Chains.Exact.{line-back, line-back-chain}
 use Rattle.model.proofs.Labels.Following.{labelAt, lowAt}
 use Rattle.model.proofs.Labels.Rise.{Rise, up-to, down-to, Sided}
@@ -120,7 +120,7 @@ module _ (r : Register) (pr : Proper (r .edges)) (rf : RingFree (r .edges)) (s :
       es : List Edge
       es = r .edges
 
-      o : LineOf es pr rf (chainOf es d)
+      o : LineOf es (chainOf es d)
       o = own-line es pr rf d h
 
       l : Line es

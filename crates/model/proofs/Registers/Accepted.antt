@@ -1,7 +1,7 @@
 -- What was tested of a vertex or an edge that is landed, and of an edge that is refused with 24; and the other way round.
 use mathlib.Core.Path.{_≡_, refl, sym, _∙_}
 use mathlib.Core.Logic.{_≢_}
-use Prim.Native.Nat.{ℕ, _+_, _<_}
+use Prim.Native.Nat.{ℕ, _<_}
 use native.Mathlib.Omega.{arith}
 use mathlib.Core.Bool.{Bool, true, false}
 use lib.ListN.{length}
@@ -11,7 +11,7 @@ use Rattle.model.specs.Basics.{if_then_else_, maxEdges, maxLength, maxVe
 use Rattle.model.specs.Graph.{Edge}
 use Rattle.model.specs.Cases.{closesRing}
 use Rattle.model.specs.Register.{Landed, Register, landEdge, landVertex, landed, refused, withEdge, withVertex}
-use Rattle.model.specs.Notions.{Admissible, Lawful}
+use Rattle.model.specs.Notions.{Admissible}
 use Rattle.model.proofs.Basics.Booleans.{and-true, or-false}
 
 pub landed-is : (r s : Register) → landed r ≡ landed s → r ≡ s
@@ -105,14 +105,3 @@ added r r′ h =
 pub vertex-lands : (r : Register) → r .vertices < maxVertices → landVertex r ≡ landed (withVertex r)
 unfolding landVertex
 vertex-lands r h = rw (lt-leb maxVertices (r .vertices) h)
-
--- it leaves an edge lawful
-pub lawful-more : (n : ℕ) (e : Edge) → Lawful n e → Lawful (n + 1) e
-lawful-more n e l =
-    record {
-      first-landed = omega arith;
-      second-landed = omega arith;
-      differ = l .differ;
-      some-length = l .some-length;
-      most-length = l .most-length;
-    }

@@ -64,9 +64,9 @@ find-own r c v q = rw (with-label-is r (labelOf r v) 0 (r .vertices) v (omega ar
     only w q′ e = labels-unique r c w v (is-two (r .edges) w q′) (is-two (r .edges) v q) e
 
 -- and a label that none wears is refused
-pub find-none : (r : Register) (label : ℕ) → Labelled r → ((v : ℕ) → isRegular (r .edges) v ≡ true → labelOf r v ≢ label) → find r label ≡ refuses 8
+pub find-none : (r : Register) (label : ℕ) → ((v : ℕ) → isRegular (r .edges) v ≡ true → labelOf r v ≢ label) → find r label ≡ refuses 8
 unfolding find
-find-none r label c n = rw (with-label-none r label (upTo (r .vertices)) n, find)
+find-none r label n = rw (with-label-none r label (upTo (r .vertices)) n, find)
 
 pub finds-chain : (r : Register) → Labelled r → (v : ℕ) → isRegular (r .edges) v ≡ true → FindsOwn (r .edges) v (find r (labelOf r v))
 unfolding chainAt

@@ -1,6 +1,6 @@
 -- What is stored for a register is held: growing its own vertices and edges from empty leaves it again.
 use mathlib.Core.Path.{_≡_, refl, sym, ap, _∙_}
-use Prim.Native.Nat.{ℕ, zero, suc, _+_, _≤_, _<_}
+use Prim.Native.Nat.{ℕ, zero, suc, _+_, _≤_}
 use native.Mathlib.Omega.{arith}
 use native.Mathlib.Nat.{add-zero}
 use mathlib.Core.Bool.{true}
@@ -11,7 +11,8 @@ use Rattle.model.specs.Basics.{maxVertices}
 use Rattle.model.specs.Graph.{Edge}
 use Rattle.model.specs.Register.{Landed, Register, empty, landEdge, landVertex, landed, marksOf, refused, withEdge, withVertex}
 use Rattle.model.specs.Tables.{Stored, countsOf, edgesIn, eqStored, growFrom, held, landEdges, landVertices, storedOf}
-use Rattle.model.proofs.Registers.Accepted.{Accepted, accepted, edge-lands, landed-is, lawful-more, not-refused, vertex-lands}
+use Rattle.model.proofs.Registers.Accepted.{Accepted, accepted, edge-lands, landed-is, not-refused, vertex-lands}
+use Rattle.model.proofs.Registers.Lawful.{lawful-more}
 use Rattle.model.proofs.Registers.ReadBack.{edges-read}
 use Rattle.model.proofs.Registers.Equality.{eqStored-refl}
 
@@ -28,9 +29,8 @@ onVertices n =
     }
 
 -- growing its own vertices and edges leaves the register again
-pub record GrowsAgain (r : Register) : Type 0 where
-  pub few : r .vertices ≤ maxVertices
-  pub again : landEdges (r .edges) (onVertices (r .vertices)) ≡ landed r
+abbrev pub GrowsAgain : Register → Type 0
+GrowsAgain r = landEdges (r .edges) (onVertices (r .vertices)) ≡ landed r
 
 -- ---- landing edges
 
@@ -123,27 +123,26 @@ held-from : (s : Stored) (r : Register) → growFrom (s .counts .vertices) (edge
 unfolding held
 held-from s r h k = rw (h, held) (rw k)
 
-pub grow-again : (r : Register) → GrowsAgain r
+pub grow-again : (r : Register) → r .vertices ≤ maxVertices → GrowsAgain r
     → growFrom ((storedOf r) .counts .vertices) (edgesIn ((storedOf r) .tables) ((storedOf r) .counts .edges)) ≡ landed r
 unfolding storedOf countsOf
-grow-again r g =
+grow-again r few g =
     rw (edges-read r)
-    (grown-from (r .vertices) (r .edges) (onVertices (r .vertices)) (landed r) (vertices-grow (r .vertices) (g .few)) (g .again))
+    (grown-from (r .vertices) (r .edges) (onVertices (r .vertices)) (landed r) (vertices-grow (r .vertices) few) g)
 
-pub is-held : (r : Register) → GrowsAgain r → held (storedOf r) ≡ some r
-is-held r g = held-from (storedOf r) r (grow-again r g) (eqStored-refl (storedOf r))
+pub is-held : (r : Register) → r .vertices ≤ maxVertices → GrowsAgain r → held (storedOf r) ≡ some r
+is-held r few g = held-from (storedOf r) r (grow-again r few g) (eqStored-refl (storedOf r))
 
 -- ---- every landing keeps it
 
 pub empty-regrows : GrowsAgain empty
 unfolding empty onVertices landEdges
-empty-regrows = record { few = omega arith; again = refl }
+empty-regrows = refl
 
-pub vertex-regrows : (r : Register) → GrowsAgain r → r .vertices < maxVertices → GrowsAgain (withVertex r)
+pub vertex-regrows : (r : Register) → GrowsAgain r → GrowsAgain (withVertex r)
 unfolding withVertex onVertices
-vertex-regrows r g h = record { few = omega arith; again = edges-more (r .edges) (onVertices (r .vertices)) r (g .again) }
+vertex-regrows r g = edges-more (r .edges) (onVertices (r .vertices)) r g
 
 pub edge-regrows : (r : Register) (e : Edge) → GrowsAgain r → Accepted r e → GrowsAgain (withEdge r e)
 unfolding withEdge
-edge-regrows r e g a =
-    record { few = g .few; again = edges-snoc (r .edges) e (onVertices (r .vertices)) r (withEdge r e) (g .again) (edge-lands r e a) }
+edge-regrows r e g a = edges-snoc (r .edges) e (onVertices (r .vertices)) r (withEdge r e) g (edge-lands r e a)

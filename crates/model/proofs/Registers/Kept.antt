@@ -31,7 +31,7 @@ kept-empty = record { labelled = labelled-empty; sided = sided-empty; regrows = 
 
 pub kept-vertex : (r : Register) → Kept r → r .vertices < maxVertices → Kept (withVertex r)
 unfolding withVertex marksOf
-kept-vertex r k h = record { labelled = labelled-vertex r (k .labelled) h; sided = k .sided; regrows = vertex-regrows r (k .regrows) h }
+kept-vertex r k h = record { labelled = labelled-vertex r (k .labelled) h; sided = k .sided; regrows = vertex-regrows r (k .regrows) }
 
 pub kept-edge : (r : Register) (e : Edge) → Kept r → Accepted r e → Kept (withEdge r e)
 kept-edge r e k a =
@@ -42,7 +42,7 @@ kept-edge r e k a =
     }
 
 pub kept-held : (r : Register) → Kept r → held (storedOf r) ≡ some r
-kept-held r k = is-held r (k .regrows)
+kept-held r k = is-held r (k .labelled .few) (k .regrows)
 
 -- ---- the sizes of the tables
 

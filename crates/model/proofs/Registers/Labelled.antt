@@ -14,13 +14,14 @@ use Rattle.model.specs.Graph.{Edge, Pass, degree, isRegular}
 use Rattle.model.specs.Labels.{Labelling, Marks, labelEdge}
 use Rattle.model.specs.Register.{Register, empty, labelOf, marksOf, withEdge, withVertex}
 use Rattle.model.proofs.Basics.Booleans.{true-or-false}
-use Rattle.model.proofs.Walks.Degree.{is-two, proper-snoc, end-cases}
-use Rattle.model.proofs.Walks.Turn.{At, TwoEdges, two-edges}
+use Rattle.model.proofs.Walks.Degree.{AllLawful, is-two, proper-snoc}
+use Rattle.model.proofs.Walks.Turn.{TwoEdges, two-edges}
 use Rattle.model.proofs.Registers.Accepted.{Accepted}
+use Rattle.model.proofs.Registers.Lawful.{ends-landed, lawful-more, lawful-snoc}
 use Rattle.model.proofs.Walks.RingFree.{RingFree, ring-free}
 use Rattle.model.proofs.Walks.Ring.{no-ring}
 use Rattle.model.proofs.Walks.Sound.{Sound, empty-sound}
-use Rattle.model.proofs.Walks.NewEdge.{length-new, at-old, last-at, Which, is-new, is-old, which}
+use Rattle.model.proofs.Walks.NewEdge.{length-new}
 use Rattle.model.proofs.Labels.Following.{Long, following-long, labelAt}
 use Rattle.model.proofs.Labels.Laid.{Laid, Inserted, fresh, extends, merges}
 use Rattle.model.proofs.Labels.WearsAfter.{LongEnough}
@@ -31,14 +32,14 @@ use Rattle.model.proofs.Groups.Ghosts.{Ghosts, no-ghosts}
 use Rattle.model.proofs.Groups.Landed.{ghosts-on}
 use Rattle.model.proofs.Groups.Unique.{label-unique, not-zero, label-most}
 
--- No walk goes round, singular vertices wear no label, the tables have room, and the labels have a history in groups.
+-- No walk goes round, singular vertices wear no label, edges are lawful, tables have room, and the labels have a history in groups.
 pub record Labelled (r : Register) : Type 0 where
   pub sound : Sound r
   pub bare : BareSingular (r .edges) (marksOf r)
   pub labels-long : length (r .labels) ≡ maxVertices
   pub lows-long : length (r .lows) ≡ maxVertices
   pub few : r .vertices ≤ maxVertices
-  pub landed-ends : (v e : ℕ) → At (r .edges) v e → v < r .vertices
+  pub lawful : AllLawful (r .vertices) (r .edges)
   pub room : length (r .edges) ≤ maxEdges
   pub ghosts : Ghosts (r .edges) (r .relabellings) (marksOf r) (r .blocks)
 
@@ -60,17 +61,6 @@ module _ (es : List Edge) (p : Edge) (d : p .first ≢ p .second) (blocks : ℕ)
   long-after (extends x y e ny l) = long-laid x y e _ l
   long-after (merges x y e c cy b le l) = long-laid x y e _ l
 
-pub ends-landed : (es : List Edge) (p : Edge) (n : ℕ) → p .first < n → p .second < n → ((v e : ℕ) → At es v e → v < n) → (v e : ℕ) → At (es ++ (p ∷ [])) v e → v < n
-ends-landed es p n a b old v e at = go (which es p e (at .inside))
-  where
-    end : (p .first ≡ v) ⊎ (p .second ≡ v) → v < n
-    end (inl q) = rw q at a
-    end (inr q) = rw q at b
-
-    go : Which es p e → v < n
-    go (is-old i) = old v e (at-old es p i at)
-    go (is-new i) = end (end-cases p v (last-at es p (let at′ : At (es ++ (p ∷ [])) v (length es) = rw i at at in at′)))
-
 module _ (r : Register) (p : Edge) (c : Labelled r) (a : Accepted r p) where
   abbrev es : List Edge
   es = r .edges
@@ -84,8 +74,8 @@ module _ (r : Register) (p : Edge) (c : Labelled r) (a : Accepted r p) where
   differ : p .first ≢ p .second
   differ = a .admissible .lawful .differ
 
-  ends : (v e : ℕ) → At (es ++ (p ∷ [])) v e → v < r .vertices
-  ends = ends-landed es p (r .vertices) (a .admissible .lawful .first-landed) (a .admissible .lawful .second-landed) (c .landed-ends)
+  lawful-after : AllLawful (r .vertices) (es ++ (p ∷ []))
+  lawful-after = lawful-snoc (r .vertices) es p (c .lawful) (a .admissible .lawful)
 
   rings-after : RingFree (es ++ (p ∷ []))
   rings-after = ring-free es p (c .sound .proper) differ (c .sound .rings) (no-ring es p (c .sound .proper) (a .no-ring))
@@ -96,7 +86,10 @@ module _ (r : Register) (p : Edge) (c : Labelled r) (a : Accepted r p) where
 
   pub long-marks : LongEnough (r .edges ++ (p ∷ [])) (marksOf r)
   unfolding marksOf
-  long-marks = record { long = λ v e at. omega (arith, ends v e at, c .few, c .labels-long); even = c .labels-long ∙ sym (c .lows-long) }
+  long-marks = record {
+    long = λ v e at. omega (arith, ends-landed _ _ lawful-after v e at, c .few, c .labels-long);
+    even = c .labels-long ∙ sym (c .lows-long);
+  }
 
   long : Long m (res .marks)
   long = long-after es p differ (r .blocks) m (c .bare) res (long-marks .even) edge-inserted
@@ -109,7 +102,7 @@ module _ (r : Register) (p : Edge) (c : Labelled r) (a : Accepted r p) where
     labels-long = long .labels-long ∙ c .labels-long;
     lows-long = long .lows-long ∙ c .lows-long;
     few = c .few;
-    landed-ends = ends;
+    lawful = lawful-after;
     room = omega (arith, length-new es p, a .admissible .room);
     ghosts = ghosts-on es p (c .sound .proper) differ (c .sound .rings) (c .bare) (c .ghosts) res (a .admissible .room) long-marks edge-inserted;
   }
@@ -122,7 +115,7 @@ labelled-vertex r c h = record {
   labels-long = c .labels-long;
   lows-long = c .lows-long;
   few = omega arith;
-  landed-ends = λ v e at. omega (arith, c .landed-ends v e at);
+  lawful = λ d l. lawful-more (r .vertices) _ (c .lawful d l);
   room = c .room;
   ghosts = c .ghosts;
 }
@@ -140,7 +133,7 @@ labelled-empty = record {
   labels-long = length-replicate {A = ℕ} maxVertices 0;
   lows-long = length-replicate {A = ℕ} maxVertices 0;
   few = omega arith;
-  landed-ends = λ v e a. absurd (not-suc-le-zero (a .inside));
+  lawful = λ d l. absurd (not-suc-le-zero l);
   room = omega arith;
   ghosts = no-ghosts _;
 }
@@ -181,4 +174,4 @@ label-small r c v = go (ℕ-discrete (degree (r .edges) v) 2)
 pub regular-landed : (r : Register) → Labelled r → (v : ℕ) → isRegular (r .edges) v ≡ true → v < r .vertices
 regular-landed r c v q =
     let two : TwoEdges (r .edges) v = two-edges (r .edges) v (c .sound .proper) (is-two (r .edges) v q) in
-    c .landed-ends v _ (two .low-at)
+    ends-landed (r .vertices) (r .edges) (c .lawful) v _ (two .low-at)

@@ -9,7 +9,7 @@ use Rattle.model.specs.Register.{Register, empty, landEdge, landVertex, 
 use Rattle.model.specs.Tables.{landEdges}
 use Rattle.model.specs.Notions.{Reachable, from-empty, with-edge, with-vertex}
 use Rattle.model.proofs.Registers.Accepted.{Accepted, accepted, added, landed-is, vertex-lands}
-use Rattle.model.proofs.Registers.Held.{GrowsAgain, lands-more, onVertices}
+use Rattle.model.proofs.Registers.Held.{lands-more, onVertices}
 use Rattle.model.proofs.Registers.Labelled.{Labelled}
 use Rattle.model.proofs.Registers.Kept.{Kept, kept-empty, kept-vertex, kept-edge}
 
@@ -36,9 +36,7 @@ labelled r k = (kept r k) .labelled
 
 pub same-contents : (r s : Register) → Reachable r → Reachable s → r .vertices ≡ s .vertices → r .edges ≡ s .edges → r ≡ s
 same-contents r s k l v e =
-    let g : GrowsAgain r = (kept r k) .regrows in
-    let h : GrowsAgain s = (kept s l) .regrows in
-    landed-is r s (sym (g .again) ∙ ap₂ (λ (es : List Edge) (n : ℕ). landEdges es (onVertices n)) e v ∙ h .again)
+    landed-is r s (sym (kept r k .regrows) ∙ ap₂ (λ (es : List Edge) (n : ℕ). landEdges es (onVertices n)) e v ∙ kept s l .regrows)
 
 -- ---- a vertex and an edge land in either order, with the same register
 

@@ -4,32 +4,32 @@ use Prim.Native.Nat.{ℕ, _+_, _*_, _≤_, _<_}
 use native.Mathlib.Omega.{arith}
 use native.Mathlib.Nat.{mul-le-mul-right, mul-le-mul-left}
 use native.Mathlib.Decide.{decLt}
-use mathlib.Core.Bool.{Bool, true, false}
-use mathlib.Core.List.{List, [], _∷_, _++_, map, reverse}
+use mathlib.Core.List.{List, [], _∷_}
 use lib.ListN.{length, getD}
-use lib.Dec.{eqb, leb}
-use Rattle.model.specs.Basics.{floorLog, if_then_else_, maxEdges, maxLength, maxVertices, sum}
-use Rattle.model.specs.Graph.{Edge, Pass, afterOf, chainLength, chainOf, edgeAt, far, lengthAt, lengthsOf, onwards}
+use lib.Dec.{leb}
+use Rattle.model.specs.Basics.{floorLog, maxEdges, maxLength, maxVertices}
+use Rattle.model.specs.Graph.{Edge, Pass, chainLength, chainOf, lengthAt}
 use Rattle.model.specs.Cases.{Case, caseAt, extends, merges, newChain, splitBoth, splitExtends, splitNew}
 use Rattle.model.specs.Labels.{Labelling, Marks, attach, extend, innerCount, labelCase, labelEdge, merge}
 use Rattle.model.specs.Register.{Register, empty, marksOf, withEdge, withVertex}
-use Rattle.model.specs.Distance.{distance, joined, lengthVia}
+use Rattle.model.specs.Distance.{distance, joined}
 use Rattle.model.specs.Queries.{lengthTo}
 use Rattle.model.specs.Notions.{Reachable}
 use Rattle.model.proofs.Computing.{computing}
 use Rattle.model.proofs.Basics.Booleans.{if-either}
-use Rattle.model.proofs.Basics.Lists.{sum-around}
 use Rattle.model.proofs.Basics.Counting.{occurs}
 use Rattle.model.proofs.Walks.Degree.{Proper, AllLawful}
+use Rattle.model.proofs.Walks.Turn.{At}
 use Rattle.model.proofs.Registers.Accepted.{Accepted}
 use Rattle.model.proofs.Walks.NewEdge.{length-new}
 use Rattle.model.proofs.Walks.RingFree.{RingFree}
 use Rattle.model.proofs.Basics.Total.{total-const, total-le}
-use Rattle.model.proofs.Chains.Sums.{length-occurs, once}
-use Rattle.model.proofs.Groups.FloorLog.{floorLog-mono}
+use Rattle.model.proofs.Chains.Partition.{each-once}
+use Rattle.model.proofs.Chains.Sums.{length-occurs}
+use Rattle.model.proofs.Chains.Reaches.{chain-at}
+use Rattle.model.proofs.Basics.FloorLog.{floorLog-mono}
 use Rattle.model.proofs.Distances.Nearer.{distance-most}
 use Rattle.model.proofs.Registers.Labelled.{Labelled, label-small, labelled-bound}
-use Rattle.model.proofs.Registers.Lawful.{edges-lawful}
 use Rattle.model.proofs.Registers.Reachable.{labelled, reachable-keeps}
 
 -- ---- a chain's length
@@ -42,7 +42,7 @@ chain-most : (es : List Edge) (n : ℕ) → Proper es → RingFree es → AllLaw
 unfolding lengthAt
 chain-most es n pr rf f d h =
     let ds = (chainOf es d) .edges in
-    let o = once es pr rf d h in
+    let o = each-once es pr rf d h in
     omega (
       arith,
       length-occurs es pr rf d h,
@@ -54,34 +54,18 @@ chain-most es n pr rf f d h =
 pub chains-small : (r : Register) → Reachable r → (d : ℕ) → d < length (r .edges) → chainLength (r .edges) d ≤ 409600000
 chains-small r k d h =
     let l = labelled r k in
-    omega (arith, chain-most (r .edges) (r .vertices) (l .sound .proper) (l .sound .rings) (edges-lawful r k) d h, l .room)
+    omega (arith, chain-most (r .edges) (r .vertices) (l .sound .proper) (l .sound .rings) (l .lawful) d h, l .room)
 
--- a reach, from a vertex along an edge to the end of its chain, is a part of the chain
-reach-part : (es : List Edge) (d v : ℕ) → lengthTo es d v ≤ chainLength es d
-unfolding lengthTo lengthVia far chainLength chainOf sum lengthsOf
-reach-part es d v = go (eqb ((edgeAt es d) .first) v)
-  where
-    behind : List ℕ
-    behind = map afterOf (onwards es d ((edgeAt es d) .first))
-
-    ahead : List ℕ
-    ahead = map afterOf (onwards es d ((edgeAt es d) .second))
-
-    whole : sum (lengthsOf es (reverse behind ++ (d ∷ ahead))) ≡ sum (lengthsOf es behind) + (lengthAt es d + sum (lengthsOf es ahead))
-    whole = sum-around es behind d ahead
-
-    go : (b : Bool) → lengthVia es d (if b then (edgeAt es d) .second else (edgeAt es d) .first) ≤ sum (lengthsOf es (reverse behind ++ (d ∷ ahead)))
-    go true = omega (arith, whole)
-    go false = omega (arith, whole)
-
-pub reaches-small : (r : Register) → Reachable r → (d v : ℕ) → d < length (r .edges) → lengthTo (r .edges) d v ≤ 409600000
-reaches-small r k d v h = omega (arith, reach-part (r .edges) d v, chains-small r k d h)
+-- a reach, from an end of an edge along it to the end of its chain, is a part of the chain
+pub reaches-small : (r : Register) → Reachable r → (d v : ℕ) → At (r .edges) v d → lengthTo (r .edges) d v ≤ 409600000
+reaches-small r k d v a = omega (arith, chain-at (r .edges) d v ((labelled r k) .sound .proper) a, chains-small r k d (a .inside))
 
 -- ---- a distance
 
 pub distances-small : (r : Register) → Reachable r → (v w l : ℕ) → distance (r .edges) v w ≡ joined l → l ≤ 409600000
 distances-small r k v w l e =
-    omega (arith, distance-most (r .edges) w (r .vertices) (edges-lawful r k) v l e, (labelled r k) .few)
+    let c = labelled r k in
+    omega (arith, distance-most (r .edges) w (r .vertices) (c .lawful) v l e, c .few)
 
 -- ---- blocks: at most one for each edge
 

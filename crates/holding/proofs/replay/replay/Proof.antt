@@ -1,5 +1,5 @@
 use Rattle.holding.proofs.ReplayLaws.{replay-end, replay-on, replay-refused}
-use Rattle.agreement.proofs.Same.{Same, same-refl, same-on}
+use Rattle.tables.proofs.SameLengths.{SameLengths, same-refl, same-on}
 use Rattle.holding.specs.Replay.{replayIn}
 use Rattle.insertion.specs.Meaning.{answerIn}
 use Rattle.tables.specs.Steps.{tables}
@@ -14,7 +14,7 @@ use Rattle.holding.proofs.replay.replay.Tie as tie
 -- the edges left leave what all leave; i is twice the edge's number; the tables keep their lengths
 abbrev Inv-loop : tie.InvT-loop
 Inv-loop ownends ownlengths number degrees₀ sides₀ ends₀ lengths₀ labels₀ counts₀ i₀ edge₀ left₀ degrees sides ends lengths labels counts i edge left =
-    ((edge + left ≤ 65535) × (i ≡ 2 * edge)) × (Same degrees₀ sides₀ ends₀ lengths₀ labels₀ degrees sides ends lengths labels
+    ((edge + left ≤ 65535) × (i ≡ 2 * edge)) × (SameLengths degrees₀ sides₀ ends₀ lengths₀ labels₀ degrees sides ends lengths labels
     × (replayIn ownends ownlengths left edge (tables degrees sides ends lengths labels) (countsIn counts)
     ≡ replayIn ownends ownlengths left₀ edge₀ (tables degrees₀ sides₀ ends₀ lengths₀ labels₀) (countsIn counts₀)))
 

@@ -1,5 +1,5 @@
 use Rattle.register.proofs.RecordLaws.{records-none, records-end, records-stop, records-on}
-use Rattle.agreement.proofs.Same.{Same, same-refl, same-on}
+use Rattle.tables.proofs.SameLengths.{SameLengths, same-refl, same-on}
 use Rattle.register.specs.Meaning.{stepMeans}
 use Rattle.register.specs.Records.{steppedIn, landRecordsIn}
 use Rattle.tables.specs.Steps.{tables}
@@ -14,7 +14,7 @@ use Rattle.register.proofs.records.land_records.Tie as tie
 -- what is left to land is the whole; the tables keep their lengths; the number fits 64 bits
 abbrev Inv-loop : tie.InvT-loop
 Inv-loop degrees₀ sides₀ ends₀ lengths₀ labels₀ list sofar₀ at₀ number₀ left₀ degrees sides ends lengths labels sofar at number left =
-    (number + left < 18446744073709551616) × (Same degrees₀ sides₀ ends₀ lengths₀ labels₀ degrees sides ends lengths labels
+    (number + left < 18446744073709551616) × (SameLengths degrees₀ sides₀ ends₀ lengths₀ labels₀ degrees sides ends lengths labels
     × (landRecordsIn list left number (tables degrees sides ends lengths labels) (countsIn sofar) (at .at)
     ≡ landRecordsIn list left₀ number₀ (tables degrees₀ sides₀ ends₀ lengths₀ labels₀) (countsIn sofar₀) (at₀ .at)))
 

@@ -4,20 +4,20 @@ use Prim.Native.Nat.{ℕ}
 use mathlib.Core.List.{List}
 use lib.ListN.{length}
 
-pub record Same (d₀ s₀ e₀ l₀ t₀ d s e l t : List ℕ) : Type 0 where
+pub record SameLengths (d₀ s₀ e₀ l₀ t₀ d s e l t : List ℕ) : Type 0 where
   pub degrees : length d ≡ length d₀
   pub sides : length s ≡ length s₀
   pub ends : length e ≡ length e₀
   pub lengths : length l ≡ length l₀
   pub labels : length t ≡ length t₀
 
-pub same-refl : (d s e l t : List ℕ) → Same d s e l t d s e l t
+pub same-refl : (d s e l t : List ℕ) → SameLengths d s e l t d s e l t
 same-refl d s e l t = record { degrees = refl; sides = refl; ends = refl; lengths = refl; labels = refl }
 
 -- .. and keep them in one call more, which may keep others too
 pub same-on : {d₀ s₀ e₀ l₀ t₀ d s e l t d′ s′ e′ l′ t′ : List ℕ} {R : Type 0}
     → (length d′ ≡ length d) × ((length s′ ≡ length s) × ((length e′ ≡ length e) × ((length l′ ≡ length l) × ((length t′ ≡ length t) × R))))
-    → Same d₀ s₀ e₀ l₀ t₀ d s e l t → Same d₀ s₀ e₀ l₀ t₀ d′ s′ e′ l′ t′
+    → SameLengths d₀ s₀ e₀ l₀ t₀ d s e l t → SameLengths d₀ s₀ e₀ l₀ t₀ d′ s′ e′ l′ t′
 same-on k same = record {
   degrees = k .0 ∙ same .degrees;
   sides = k .1 .0 ∙ same .sides;

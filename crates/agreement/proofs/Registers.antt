@@ -13,12 +13,13 @@ use Rattle.model.specs.Tables.{held, storedOf}
 use Rattle.model.specs.Notions.{Reachable}
 use Rattle.model.proofs.Walks.Degree.{Proper, AllLawful}
 use Rattle.model.proofs.Walks.Turn.{At}
+use Rattle.model.proofs.Walks.NewEdge.{at-old, last-at, Which, is-new, is-old, which}
 use Rattle.model.proofs.Walks.RingFree.{RingFree}
 use Rattle.model.proofs.Labels.Following.{lowAt}
 use Rattle.model.proofs.Registers.Held.{GrowsAgain}
-use Rattle.model.proofs.Registers.Labelled.{Labelled, ends-landed}
+use Rattle.model.proofs.Registers.Labelled.{Labelled}
 use Rattle.model.proofs.Registers.Kept.{kept-held}
-use Rattle.model.proofs.Registers.Lawful.{edges-lawful}
+use Rattle.model.proofs.Registers.Lawful.{end-landed, ends-landed}
 use Rattle.model.proofs.Registers.Reachable as reachable
 
 module _ (r : Register) (g : Reachable r) where
@@ -38,11 +39,17 @@ module _ (r : Register) (g : Reachable r) where
   few = labelled .few
 
   pub landed-below : (v d : ℕ) → At (r .edges) v d → v < maxVertices
-  landed-below v d a = omega (arith, labelled .landed-ends v d a, few)
+  landed-below v d a = omega (arith, ends-landed (r .vertices) (r .edges) (labelled .lawful) v d a, few)
 
   -- .. with one edge more
   pub new-below : (e : Edge) → e .first < r .vertices → e .second < r .vertices → (v d : ℕ) → At (r .edges ++ (e ∷ [])) v d → v < maxVertices
-  new-below e a b v d at = omega (arith, ends-landed (r .edges) e (r .vertices) a b (labelled .landed-ends) v d at, few)
+  new-below e a b v d at = go (which (r .edges) e d (at .inside))
+    where
+      go : Which (r .edges) e d → v < maxVertices
+      go (is-old i) = landed-below v d (at-old (r .edges) e i at)
+      go (is-new i) =
+          let at′ : At (r .edges ++ (e ∷ [])) v (length (r .edges)) = rw i at at in
+          omega (arith, end-landed (r .vertices) e v a b (last-at (r .edges) e at′), few)
 
   pub labels-long : length (r .labels) ≡ maxVertices
   labels-long = labelled .labels-long
@@ -60,7 +67,7 @@ module _ (r : Register) (g : Reachable r) where
 
   -- every edge has landed ends and a length from 1 to 100,000
   pub lawful : AllLawful (r .vertices) (r .edges)
-  lawful = edges-lawful r g
+  lawful = labelled .lawful
 
   -- what is stored for it is held, and growing its own vertices and edges leaves it again
   pub stored-held : held (storedOf r) ≡ some r
