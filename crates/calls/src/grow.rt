@@ -13,7 +13,7 @@ ghost use Rattle.tables.specs.Steps.{tables};
 ghost use Rattle.admission.specs.Lent.{lent, outcome};
 
 // The counts go in and come back by value: `grow` takes its counts apart for it. `grow_from` promises the same and goes through `grow`.
-// It is open, since the proof that `grow` and `land` share names its contract.
+// `grow_with` is open, since the proof that `grow` and `land` share names its contract.
 pub fn grow_with(
     counts: Counts,
     degrees: &mut [u16],

@@ -94,7 +94,7 @@ pub fn answer_reached(answer: &mut [u8], reached: Reached) -> i32
 }
 
 // What stands for a distance where there is no way.
-pub const NOT_JOINED: u32 = 4294967295;
+const NOT_JOINED: u32 = 4294967295;
 
 pub fn answer_distance(answer: &mut [u8], measured: Measured) -> i32
     ensures { λ r. ⌜ ((register : Register) → returned (now (answer .exit)) r ≡ returnsReply register (now (answer .entry)) (measuredReply measured)) ⌝ }

@@ -25,7 +25,7 @@ fn greater(a: u32, b: u32) -> u32
 // Tries edge e: one of its ends may get a lesser distance from the other, where that is below best. The answer is the vertex whose
 // distance is less now. An edge as long as best lowers nothing below it; for the others one test decides, which a confirming round
 // never mispredicts.
-pub fn relax(ends: &[u16], lengths: &[u32], distances: &mut [u32], e: u16, best: u32) -> u16
+fn relax(ends: &[u16], lengths: &[u32], distances: &mut [u32], e: u16, best: u32) -> u16
     requires { ⌜ Within (now ends) (now lengths) (now distances) e ⌝ }
     ensures { λ r. ⌜ Relaxed (now (ends .entry)) (now (lengths .entry)) (now (distances .entry)) (now (distances .exit)) best e r ⌝ }
 {

@@ -20,7 +20,7 @@ pub enum Distance {
 }
 
 // Above every distance, which is at most 409,600,000; with an edge's length more it still fits 32 bits.
-pub const UNREACHED: u32 = 4000000000;
+const UNREACHED: u32 = 4000000000;
 
 // No vertex is reached but the goal.
 pub fn start(distances: &mut [u32], goal: u16)

@@ -5,7 +5,7 @@ ghost use mathlib.Core.List.{[], _∷_};
 ghost use Rattle.model.specs.Printing.{line};
 ghost use Rattle.text.specs.Pages.{page, write};
 
-pub const NEWLINE: u8 = 10;
+const NEWLINE: u8 = 10;
 
 pub fn put_line2(out: &mut [u8], at: usize, a: u64, b: u64) -> usize
     ensures { λ r. ⌜ page (now (out .exit)) r ≡ write (line (a ∷ b ∷ [])) (page (now (out .entry)) at) ⌝ }
