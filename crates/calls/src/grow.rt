@@ -1,5 +1,6 @@
 // Grow: a list landed on the cleared register.
 use crate::answered::Answered;
+use crate::answered::answer_reading;
 use admission::gate::clear_if_fit;
 use counters::answers::ListAnswer;
 use counters::counts::Counts;
@@ -52,12 +53,7 @@ pub fn grow_with(
         };
     }
     let reading = grow_list(degrees, sides, ends, lengths, labels, list);
-    let counts = reading.counts;
-    let stop = reading.stop;
-    Answered {
-        counts,
-        answer: ListAnswer::Read(stop),
-    }
+    answer_reading(reading)
 }
 
 // What outsiders call: the head counters are updated in the caller's copy.

@@ -1,5 +1,6 @@
 // Land: a list landed on the register as it is, once it has passed its replay.
 use crate::answered::Answered;
+use crate::answered::answer_reading;
 use admission::gate::Gate;
 use admission::gate::pass_gate;
 use counters::answers::ListAnswer;
@@ -49,12 +50,7 @@ fn land_with(
     match passed {
         Gate::Open => {
             let reading = land_list(degrees, sides, ends, lengths, labels, counts, list);
-            let counts = reading.counts;
-            let stop = reading.stop;
-            Answered {
-                counts,
-                answer: ListAnswer::Read(stop),
-            }
+            answer_reading(reading)
         }
         Gate::Refused(refusal) => Answered {
             counts,

@@ -65,7 +65,7 @@ returns-2 c =
     let at-grow-list = c .before .before .before .before .before .before .before .before .before .before .before in
     let at-if1 = at-grow-list .before .before .before .before .before .before in
     let at-clear-if-fit = at-if1 .before .before .before .before .before .before .before .before .before .before .before .before .before .before .before .before .before .before .before .before .before in
-    let e = at-clear-if-fit .clear-if-fit .ensures in grow-done _ _ _ _ _ _ _ _ (e .0) (e .1) (e .2) (not-false _ (at-if1 .if1 .left)) (at-grow-list .grow-list .ensures)
+    let e = at-clear-if-fit .clear-if-fit .ensures in grow-done _ _ _ _ _ _ _ _ _ _ (e .0) (e .1) (e .2) (not-false _ (at-if1 .if1 .left)) (at-grow-list .grow-list .ensures) (c .answer-reading .ensures)
 
 -- the needs in the order of the code
 pub grow-with-spec : {M : Type 1} → statement M
@@ -84,6 +84,7 @@ grow-with-spec =
     (λ c. search needs)
     (λ c. search needs)
     returns
+    (λ c κs. search needs)
     (λ c κs. search needs)
     same-length-11
     same-length-12
