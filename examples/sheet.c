@@ -24,15 +24,10 @@ static const uint8_t house[] = {
 /* Two fittings and no pipe. */
 static const uint8_t apart[] = { 'P', 'N', 'L', 1, 0, 'F', 'F' };
 
-static uint32_t number(const uint8_t *bytes)
-{
-    return (uint32_t)bytes[0] | (uint32_t)bytes[1] << 8 | (uint32_t)bytes[2] << 16 | (uint32_t)bytes[3] << 24;
-}
-
 static void print_run(const uint8_t *row)
 {
     printf("run %" PRIu32 " from %" PRIu32 " to %" PRIu32 ": %" PRIu32 " couplings, %" PRIu32 " mm\n",
-           number(row), number(row + 4), number(row + 8), number(row + 12), number(row + 16));
+           pnl_number(row, 0), pnl_number(row, 1), pnl_number(row, 2), pnl_number(row, 3), pnl_number(row, 4));
 }
 
 static void print_distance(const uint8_t *list, size_t list_len, uint32_t from, uint32_t to)
@@ -43,15 +38,15 @@ static void print_distance(const uint8_t *list, size_t list_len, uint32_t from, 
     printf("fittings %" PRIu32 " and %" PRIu32 ": ", from, to);
     if (size < 0)
         printf("refusal %" PRId32 "\n", -size);
-    else if (number(answer) == PNL_NOT_JOINED)
+    else if (pnl_number(answer, 0) == PNL_NOT_JOINED)
         printf("not joined\n");
     else
-        printf("%" PRIu32 " mm\n", number(answer));
+        printf("%" PRIu32 " mm\n", pnl_number(answer, 0));
 }
 
 static int refused(const char *call, int32_t refusal)
 {
-    fprintf(stderr, "%s: refusal %" PRId32 "\n", call, -refusal);
+    fprintf(stderr, "%s: refusal %" PRId32 ": %s\n", call, -refusal, pnl_refusal_text(refusal));
     return 1;
 }
 
@@ -69,12 +64,13 @@ int main(void)
     size = pnl_find(house, sizeof house, 8195, answer, sizeof answer);
     if (size < 0)
         return refused("find", size);
-    printf("tag 8195 is on run %" PRIu32 "\n", number(answer));
+    printf("tag 8195 is on run %" PRIu32 "\n", pnl_number(answer, 0));
 
     size = pnl_reach(house, sizeof house, 1, answer, sizeof answer);
     if (size < 0)
         return refused("reach", size);
-    printf("fitting 1: %" PRIu32 " mm to the low end, %" PRIu32 " mm to the high end\n", number(answer), number(answer + 4));
+    printf("fitting 1: %" PRIu32 " mm to the low end, %" PRIu32 " mm to the high end\n",
+           pnl_number(answer, 0), pnl_number(answer, 1));
 
     if (pnl_find(house, sizeof house, 8194, answer, sizeof answer) == PNL_REFUSED_NO_COUPLING)
         printf("tag 8194 is on no coupling\n");

@@ -15,12 +15,27 @@
  *   Overlap    `list` and `answer` must not overlap.
  *   Threads    nothing is shared or kept between calls, nothing is allocated, no signal is used: any number of threads may call at
  *              once, as long as no thread writes a list or an answer that another call was given.
- *   Stack      a call uses less than 160 KiB. A thread's default stack may be smaller (musl: 128 KiB).
+ *   Stack      a call uses less than 160 KiB. A thread's default stack may be smaller (musl: 128 KiB). The call touches its pages one by
+ *              one before it writes to any, so on a stack that is too small it ends at the guard page and harms nothing behind it.
+ *   Linking    the archive is position independent: it links into programs and into shared objects alike (README.md has the lines). From
+ *              the C library it needs memset alone.
  *
  * Fittings and pipes are numbered from 0 in the order of landing, at most 4,096 of each. A fitting with exactly two pipe ends is a
  * coupling, any other a junction; a run goes from junction to junction through couplings, and its name is its lowest pipe number.
- * Each coupling wears a tag, a number of 32 bits that is not 0; along a run tags rise by 1 from its low to its high end. Document
- * 01, "Tags", says which tag is hung where; no call gives the tag of a fitting.
+ *
+ * A tag is the number on the plate that hangs at a coupling; 0 stands for none, as at a junction. Along a run the tags rise by 1, from
+ * the end that is its low end to the other, its high end. Which tag hangs where follows from the order of the list's pipes:
+ *
+ *   first      a run without couplings that gets one takes the list's next base: 8,192, then 16,384, and so on. Where it grew by one
+ *              pipe, the new coupling gets the base, and the end that stayed is the low end. Where the pipe joined two such runs, the
+ *              fitting named first gets the base and the second the base plus 1; low is the far end on the first one's side.
+ *   growing    a run that grows at its high end hangs its highest tag plus 1, at its low end its lowest minus 1.
+ *   joining    of two runs the one with more couplings keeps its tags (on a tie that of the fitting named first); from its joined end
+ *              outwards the next numbers go to its own joining fitting, to the other's, and to the other run's couplings in their order.
+ *              Each of these that wore another tag before is re-hung.
+ *   splitting  a pipe that lands on a coupling makes it a junction, without a tag; the two pieces keep their tags and sides.
+ *
+ * A caller finds a run by a tag that somebody read in the trench. No call gives the tag of a fitting.
  */
 #ifndef PNL_H
 #define PNL_H
@@ -31,6 +46,10 @@
 #ifdef __cplusplus
 extern "C" {
 #endif
+
+/* The version of these calls: it rises with each change of a call, of an answer or of a constant here. Header and archive of one folder
+ * belong together; pnl.pc has the same number. (A list has a version of its own, in its header.) */
+#define PNL_VERSION 1
 
 /* What a call may return below 0: the refusal's number made negative. */
 enum pnl_refusal {
@@ -62,6 +81,34 @@ enum pnl_size {
 
 /* What pnl_distance answers for two fittings that no way joins. A distance is at most 409,600,000. */
 #define PNL_NOT_JOINED 4294967295u
+
+/* The number at a place of an answer, counted in numbers from 0: pnl_number(answer, 1) is the second of them. */
+static inline uint32_t pnl_number(const uint8_t *answer, size_t place)
+{
+    const uint8_t *bytes = answer + 4 * place;
+
+    return (uint32_t)bytes[0] | (uint32_t)bytes[1] << 8 | (uint32_t)bytes[2] << 16 | (uint32_t)bytes[3] << 24;
+}
+
+/* What a call returned, in words: a refusal's meaning; "no refusal" from 0 on; "unknown refusal" for what no call returns. */
+static inline const char *pnl_refusal_text(int32_t returned)
+{
+    switch (returned) {
+    case PNL_REFUSED_NO_MARK: return "the list does not begin with the letters PNL";
+    case PNL_REFUSED_VERSION: return "the list's version is not 1";
+    case PNL_REFUSED_CUT: return "the list ends within its header or within a record";
+    case PNL_REFUSED_UNKNOWN_KIND: return "the record is neither a fitting nor a pipe";
+    case PNL_REFUSED_NOT_LANDED: return "there is no fitting of that number yet";
+    case PNL_REFUSED_SAME_FITTING: return "the pipe goes from a fitting to itself";
+    case PNL_REFUSED_LENGTH: return "the pipe's length is 0 or above 100,000 mm";
+    case PNL_REFUSED_TOO_MANY_FITTINGS: return "there are 4,096 fittings already";
+    case PNL_REFUSED_TOO_MANY_PIPES: return "there are 4,096 pipes already";
+    case PNL_REFUSED_RING: return "the pipe closes a ring of couplings";
+    case PNL_REFUSED_NO_COUPLING: return "no coupling wears that tag, or the fitting is no coupling";
+    case PNL_REFUSED_SHORT_ANSWER: return "the answer does not fit in the bytes given for it";
+    default: return returned < 0 ? "unknown refusal" : "no refusal";
+    }
+}
 
 /* The runs by rising name, PNL_SHEET_ROW bytes each, five numbers: name; the end with the lower fitting number; the other end; how
  * many couplings; length in mm. Returns PNL_SHEET_ROW times the number of runs, which is at most the number of pipes.

@@ -1,4 +1,5 @@
-/* Each constant of include/pnl.h, compared with what the library answers. Prints those that differ, and returns 1 if there are any. */
+/* Each constant of include/pnl.h, compared with what the library answers, and its two functions. Prints what differs, and returns 1 if
+ * anything does. */
 #include <inttypes.h>
 #include <stdio.h>
 #include <string.h>
@@ -15,6 +16,8 @@
 #define LIST(text) (const uint8_t *)(text), sizeof (text) - 1
 #define ROOM answer, sizeof answer
 #define COMPARE(constant, answered) compare(#constant, constant, answered)
+/* A refusal has words of its own. */
+#define REFUSED(constant, answered) (COMPARE(constant, answered), compare_text(#constant, constant))
 
 static uint8_t answer[PNL_SHEET_MOST];
 static uint8_t full[5 + 4 + 9 * 4097];
@@ -25,6 +28,23 @@ static void compare(const char *name, int64_t constant, int64_t answered)
     if (constant == answered)
         return;
     printf("%s is %" PRId64 " in pnl.h, and the library answers %" PRId64 "\n", name, constant, answered);
+    differ = 1;
+}
+
+static void compare_text(const char *name, int32_t refusal)
+{
+    static const char *seen[12];
+    static size_t count = 0;
+    const char *text = pnl_refusal_text(refusal);
+    size_t i;
+
+    for (i = 0; i < count && strcmp(seen[i], text) != 0; i++)
+        ;
+    if (i == count && count < 12 && strstr(text, "refusal") == NULL) {
+        seen[count++] = text;
+        return;
+    }
+    printf("%s has no words of its own: %s\n", name, text);
     differ = 1;
 }
 
@@ -44,18 +64,18 @@ static int32_t full_sheet(size_t fittings, size_t pipes)
 
 static void compare_refusals(void)
 {
-    COMPARE(PNL_REFUSED_NO_MARK, pnl_sheet(LIST("PN"), ROOM));
-    COMPARE(PNL_REFUSED_VERSION, pnl_sheet(LIST("PNL\2\0"), ROOM));
-    COMPARE(PNL_REFUSED_CUT, pnl_sheet(LIST("PNL\1"), ROOM));
-    COMPARE(PNL_REFUSED_UNKNOWN_KIND, pnl_sheet(LIST(HEADER "G"), ROOM));
-    COMPARE(PNL_REFUSED_NOT_LANDED, pnl_sheet(LIST(HEADER "F" PIPE), ROOM));
-    COMPARE(PNL_REFUSED_SAME_FITTING, pnl_sheet(LIST(HEADER "F" "P\0\0\0\0\1\0\0\0"), ROOM));
-    COMPARE(PNL_REFUSED_LENGTH, pnl_sheet(LIST(HEADER "FF" "P\0\0\1\0\0\0\0\0"), ROOM));
-    COMPARE(PNL_REFUSED_TOO_MANY_FITTINGS, full_sheet(4097, 0));
-    COMPARE(PNL_REFUSED_TOO_MANY_PIPES, full_sheet(4, 4097));
-    COMPARE(PNL_REFUSED_RING, pnl_sheet(LIST(HEADER "FF" PIPE PIPE), ROOM));
-    COMPARE(PNL_REFUSED_NO_COUPLING, pnl_find(LIST(HOUSE), 0, ROOM));
-    COMPARE(PNL_REFUSED_SHORT_ANSWER, pnl_sheet(LIST(HOUSE), answer, 0));
+    REFUSED(PNL_REFUSED_NO_MARK, pnl_sheet(LIST("PN"), ROOM));
+    REFUSED(PNL_REFUSED_VERSION, pnl_sheet(LIST("PNL\2\0"), ROOM));
+    REFUSED(PNL_REFUSED_CUT, pnl_sheet(LIST("PNL\1"), ROOM));
+    REFUSED(PNL_REFUSED_UNKNOWN_KIND, pnl_sheet(LIST(HEADER "G"), ROOM));
+    REFUSED(PNL_REFUSED_NOT_LANDED, pnl_sheet(LIST(HEADER "F" PIPE), ROOM));
+    REFUSED(PNL_REFUSED_SAME_FITTING, pnl_sheet(LIST(HEADER "F" "P\0\0\0\0\1\0\0\0"), ROOM));
+    REFUSED(PNL_REFUSED_LENGTH, pnl_sheet(LIST(HEADER "FF" "P\0\0\1\0\0\0\0\0"), ROOM));
+    REFUSED(PNL_REFUSED_TOO_MANY_FITTINGS, full_sheet(4097, 0));
+    REFUSED(PNL_REFUSED_TOO_MANY_PIPES, full_sheet(4, 4097));
+    REFUSED(PNL_REFUSED_RING, pnl_sheet(LIST(HEADER "FF" PIPE PIPE), ROOM));
+    REFUSED(PNL_REFUSED_NO_COUPLING, pnl_find(LIST(HOUSE), 0, ROOM));
+    REFUSED(PNL_REFUSED_SHORT_ANSWER, pnl_sheet(LIST(HOUSE), answer, 0));
 }
 
 static void compare_answers(void)
@@ -68,9 +88,22 @@ static void compare_answers(void)
     COMPARE(PNL_NOT_JOINED, answer[0] | (int64_t)answer[1] << 8 | (int64_t)answer[2] << 16 | (int64_t)answer[3] << 24);
 }
 
+static void compare_functions(void)
+{
+    static const uint8_t bytes[] = { 0xFF, 0, 0, 0, 1, 2, 3, 0xF4 };
+
+    compare("pnl_number", (int64_t)0xF4030201, pnl_number(bytes, 1));
+    compare("pnl_number", 255, pnl_number(bytes, 0));
+    if (strcmp(pnl_refusal_text(0), "no refusal") != 0 || strcmp(pnl_refusal_text(PNL_SHEET_MOST), "no refusal") != 0)
+        compare("pnl_refusal_text of an answer", 0, 1);
+    if (strcmp(pnl_refusal_text(-10), "unknown refusal") != 0 || strcmp(pnl_refusal_text(INT32_MIN), "unknown refusal") != 0)
+        compare("pnl_refusal_text of another number", 0, 1);
+}
+
 int main(void)
 {
     compare_refusals();
     compare_answers();
+    compare_functions();
     return differ;
 }
