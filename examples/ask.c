@@ -1,0 +1,110 @@
+/* One question to the register of a list: the run of a tag, how far a coupling is from the ends of its run, or how far two fittings are
+ * from each other. The list is read from standard input. This is the program behind ./ask, and an example of find, reach and distance.
+ *
+ *     ./build
+ *     cc -Iinclude examples/ask.c target/staticlib/libpnl.a -o target/ask
+ *     target/ask distance 0 5 < examples/house.pnl
+ *
+ * Status: 0 with an answer, 1 with a refusal, 2 where a word is wrong, the list cannot be read or the answer cannot be written.
+ */
+#include <errno.h>
+#include <inttypes.h>
+#include <stdio.h>
+#include <stdlib.h>
+#include <string.h>
+
+#include "pnl.h"
+
+/* A list is as long as for the printing program; the calls themselves take any length. */
+#define MOST 65536
+
+static uint8_t list[MOST + 1];
+static uint8_t answer[PNL_SHEET_MOST];
+
+static int fail(const char *words, const char *more)
+{
+    fprintf(stderr, "ask: %s%s\n", words, more);
+    return 2;
+}
+
+static int refused(const char *what, int32_t refusal)
+{
+    fprintf(stderr, "ask: %s: refusal %" PRId32 ": %s\n", what, -refusal, pnl_refusal_text(refusal));
+    return 1;
+}
+
+/* A number of 32 bits in digits alone; 0 if the word is another. */
+static int read_number(const char *word, uint32_t *number)
+{
+    uint64_t value = 0;
+    const char *digit = word;
+
+    for (; *digit >= '0' && *digit <= '9' && value <= UINT32_MAX; digit++)
+        value = 10 * value + (uint64_t)(*digit - '0');
+    *number = (uint32_t)value;
+    return digit != word && *digit == '\0' && value <= UINT32_MAX;
+}
+
+/* The answer of a call that was not refused, in words. */
+static void print_answer(char question)
+{
+    uint32_t first = pnl_number(answer, 0);
+
+    if (question == 'f')
+        printf("run %" PRIu32 "\n", first);
+    else if (question == 'r')
+        printf("%" PRIu32 " mm to the low end, %" PRIu32 " mm to the high end\n", first, pnl_number(answer, 1));
+    else if (first == PNL_NOT_JOINED)
+        printf("not joined\n");
+    else
+        printf("%" PRIu32 " mm\n", first);
+}
+
+static int32_t call(char question, size_t size, const uint32_t *numbers)
+{
+    if (question == 'f')
+        return pnl_find(list, size, numbers[0], answer, sizeof answer);
+    if (question == 'r')
+        return pnl_reach(list, size, numbers[0], answer, sizeof answer);
+    return pnl_distance(list, size, numbers[0], numbers[1], answer, sizeof answer);
+}
+
+static int ask(char question, const uint32_t *numbers)
+{
+    size_t size = fread(list, 1, sizeof list, stdin);
+    int32_t returned;
+
+    /* A read that fails is not the end of the list. */
+    if (ferror(stdin))
+        return fail("cannot read the list: ", strerror(errno));
+    if (size > MOST)
+        return fail("too long: a list has at most 65,536 bytes", "");
+    /* The sheet has no refusal of its own here, so one is the list's. */
+    returned = pnl_sheet(list, size, answer, sizeof answer);
+    if (returned < 0)
+        return refused("the list stops, and ./run names the record", returned);
+    returned = call(question, size, numbers);
+    if (returned < 0)
+        return refused("no answer", returned);
+    print_answer(question);
+    if (fflush(stdout) != 0)
+        return fail("cannot write the answer: ", strerror(errno));
+    return 0;
+}
+
+int main(int argc, char **argv)
+{
+    static const char *const questions[] = { "find", "reach", "distance" };
+    uint32_t numbers[2] = { 0, 0 };
+    int i, wanted;
+
+    for (i = 0; i < 3 && (argc < 2 || strcmp(argv[1], questions[i]) != 0); i++)
+        ;
+    wanted = i == 2 ? 2 : 1;
+    if (i == 3 || argc != 2 + wanted)
+        return fail("a question is 'find TAG', 'reach FITTING' or 'distance FITTING FITTING'", "");
+    for (i = 0; i < wanted; i++)
+        if (!read_number(argv[2 + i], &numbers[i]))
+            return fail("a tag or a fitting is a number from 0 to 4294967295, in digits, not ", argv[2 + i]);
+    return ask(argv[1][0], numbers);
+}
