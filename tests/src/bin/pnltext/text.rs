@@ -44,8 +44,11 @@ fn lines(bytes: &[u8]) -> impl Iterator<Item = &[u8]> {
     text.split(|&byte| byte == b'\n')
 }
 
-/// Files that are no text of this kind at all.
+/// Files that are no text of this kind at all. A closed standard input reads as empty, too.
 fn check_kind(bytes: &[u8]) -> Result<(), String> {
+    if bytes.is_empty() {
+        return Err("the text is empty".to_string());
+    }
     if bytes.starts_with(b"\xFF\xFE") || bytes.starts_with(b"\xFE\xFF") {
         return Err("the text is saved as UTF-16 (\"Unicode\"): save it as UTF-8".to_string());
     }
@@ -148,7 +151,7 @@ mod tests {
         assert_eq!(read(text.as_bytes()), Ok(expected.clone()));
         let from_windows = format!("\u{feff}{}", text.replace('\n', "\r\n"));
         assert_eq!(read(from_windows.as_bytes()), Ok(expected));
-        assert_eq!(read(b""), Ok(vec![]));
+        assert_eq!(read(b"# nothing\n"), Ok(vec![]));
     }
 
     #[test]
@@ -173,6 +176,7 @@ mod tests {
             ("Pipe 0 1 5", 1, "small letters, `pipe`"),
             ("valve", 1, "`valve` is no word of a house"),
             ("PNL", 1, "a list and no text"),
+            ("", 1, "empty"),
             ("fitting\r\n# a\rfitting\r\n", 2, "carriage return"),
         ];
         for (text, line, words) in problems {
