@@ -1,0 +1,79 @@
+//! All four calls from Rust, through the archive; prints what examples/sheet.c prints.
+//!
+//!     ./build
+//!     rustc --edition 2021 -L target/staticlib examples/sheet.rs -o target/sheet-rust
+//!     target/sheet-rust examples/house.pnl
+//!
+//! In a crate, the three lines of tests/calls/build.rs say to Cargo where the archive is.
+
+#[link(name = "pnl", kind = "static")]
+extern "C" {
+    fn pnl_sheet(list: *const u8, list_len: usize, answer: *mut u8, answer_len: usize) -> i32;
+    fn pnl_find(list: *const u8, list_len: usize, tag: u32, answer: *mut u8, answer_len: usize) -> i32;
+    fn pnl_reach(list: *const u8, list_len: usize, fitting: u32, answer: *mut u8, answer_len: usize) -> i32;
+    fn pnl_distance(list: *const u8, list_len: usize, from: u32, to: u32, answer: *mut u8, answer_len: usize) -> i32;
+}
+
+const SHEET_ROW: usize = 5;
+const SHEET_MOST: usize = 81_920;
+const NOT_JOINED: u32 = 4_294_967_295;
+const NO_COUPLING: i32 = 8;
+
+/// The numbers of an answer, or the number of the refusal (include/pnl.h).
+type Answer = Result<Vec<u32>, i32>;
+
+/// Makes a call with room for every answer: where the room begins, and how many bytes it has.
+fn answer(call: impl FnOnce(*mut u8, usize) -> i32) -> Answer {
+    let mut room = vec![0; SHEET_MOST];
+    let returned = call(room.as_mut_ptr(), room.len());
+    let size = usize::try_from(returned).map_err(|_| -returned)?;
+    let numbers = room[..size].chunks_exact(4);
+    Ok(numbers.map(|bytes| u32::from_le_bytes([bytes[0], bytes[1], bytes[2], bytes[3]])).collect())
+}
+
+// Safe: each call reads the list and writes the room within the lengths that it is handed, and keeps neither.
+
+fn sheet(list: &[u8]) -> Answer {
+    answer(|room, size| unsafe { pnl_sheet(list.as_ptr(), list.len(), room, size) })
+}
+
+fn find(list: &[u8], tag: u32) -> Answer {
+    answer(|room, size| unsafe { pnl_find(list.as_ptr(), list.len(), tag, room, size) })
+}
+
+fn reach(list: &[u8], fitting: u32) -> Answer {
+    answer(|room, size| unsafe { pnl_reach(list.as_ptr(), list.len(), fitting, room, size) })
+}
+
+fn distance(list: &[u8], from: u32, to: u32) -> Answer {
+    answer(|room, size| unsafe { pnl_distance(list.as_ptr(), list.len(), from, to, room, size) })
+}
+
+fn print_distance(list: &[u8], from: u32, to: u32) {
+    let words = match distance(list, from, to) {
+        Ok(length) if length[0] == NOT_JOINED => "not joined".to_string(),
+        Ok(length) => format!("{} mm", length[0]),
+        Err(refusal) => format!("refusal {refusal}"),
+    };
+    println!("fittings {from} and {to}: {words}");
+}
+
+fn main() -> Result<(), String> {
+    let file = std::env::args().nth(1).ok_or("usage: sheet-rust LIST")?;
+    let house = std::fs::read(&file).map_err(|error| format!("cannot read {file}: {error}"))?;
+    let refused = |refusal| format!("refusal {refusal}");
+
+    for run in sheet(&house).map_err(refused)?.chunks_exact(SHEET_ROW) {
+        println!("run {} from {} to {}: {} couplings, {} mm", run[0], run[1], run[2], run[3], run[4]);
+    }
+    println!("tag 8195 is on run {}", find(&house, 8195).map_err(refused)?[0]);
+    let reached = reach(&house, 1).map_err(refused)?;
+    println!("fitting 1: {} mm to the low end, {} mm to the high end", reached[0], reached[1]);
+    if find(&house, 8194) == Err(NO_COUPLING) {
+        println!("tag 8194 is on no coupling");
+    }
+    print_distance(&house, 0, 6);
+    print_distance(&house, 0, 7);
+    print_distance(b"PNL\x01\0FF", 0, 1);
+    Ok(())
+}
