@@ -15,14 +15,14 @@ make_list() {
 # explain_stop FILE < SHEET: where the sheet ends with a stop, says on standard error at which line of a text that is; and of a list without
 # its mark, whether it looks like a text under another name.
 explain_stop() {
-    local last record refusal line
+    local last record refusal line first=$'^(\xEF\xBB\xBF)?[[:space:]]*(#|(fittings?|pipe)[[:space:]])'
     last=$(tail -n 1)
     [[ $last =~ ^stopped\ ([0-9]+)\ ([0-9]+)$ ]] || return 0
     record=${BASH_REMATCH[1]} refusal=${BASH_REMATCH[2]}
     if is_text "$1"; then
         "$pnltext" --stop "$record" "$refusal" "$1" >&2
     elif [ "$record $refusal" = "0 1" ]; then
-        line=$(LC_ALL=C grep -a -n -i -m 1 -E $'^(\xEF\xBB\xBF)?[[:space:]]*(#|(fittings?|pipe)[[:space:]])' "$1" | LC_ALL=C tr -cd '[:print:]') || return 0
+        line=$(LC_ALL=C grep -a -n -i -m 1 -E "$first" "$1" | LC_ALL=C tr -cd '[:print:]') || return 0
         echo "$1 looks like a house as text (line ${line:0:60}): the name of a text has to end in .txt" >&2
     fi
 }
