@@ -30,9 +30,10 @@
  *              pipe, the new coupling gets the base, and the end that stayed is the low end. Where the pipe joined two such runs, the
  *              fitting named first gets the base and the second the base plus 1; low is the far end on the first one's side.
  *   growing    a run that grows at its high end hangs its highest tag plus 1, at its low end its lowest minus 1.
- *   joining    of two runs the one with more couplings keeps its tags (on a tie that of the fitting named first); from its joined end
- *              outwards the next numbers go to its own joining fitting, to the other's, and to the other run's couplings in their order.
- *              Each of these that wore another tag before is re-hung.
+ *   joining    of two runs the one with more couplings keeps its tags (on a tie that of the fitting named first); outwards from its joined
+ *              end the next numbers, rising at its high end and falling at its low, go to its own joining fitting, to the other's, and
+ *              to the other run's couplings in their order. The other run's far end becomes the end on this side. Each coupling that
+ *              wore another tag before is re-hung.
  *   splitting  a pipe that lands on a coupling makes it a junction, without a tag; the two pieces keep their tags and sides.
  *
  * A caller finds a run by a tag that somebody read in the trench. No call gives the tag of a fitting.
