@@ -1,2 +1,4 @@
 pub mod CallLaws
+pub mod Apart
+pub mod TakenApart
 pub mod LentCounts
