@@ -3,7 +3,7 @@ use Rattle.tables.proofs.SameLengths.{SameLengths, same-refl, same-on}
 use Rattle.register.specs.Meaning.{stepMeans}
 use Rattle.register.specs.Records.{steppedIn, landRecordsIn}
 use Rattle.tables.specs.Steps.{tables}
-use Rattle.insertion.specs.Insertion.{counts}
+use Rattle.counters.specs.Answers.{counts}
 use native.Mathlib.Omega.{arith}
 use Prim.Native.Nat.{_+_, _<_}
 use mathlib.Core.Path.{_≡_, refl, ap, sym, _∙_}
