@@ -1,4 +1,4 @@
-// What a call with a list leaves and answers.
+// What `grow_from` leaves and answers.
 use counters::answers::ListAnswer;
 use counters::counts::Counts;
 

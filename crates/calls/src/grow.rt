@@ -12,9 +12,8 @@ ghost use Rattle.counters.specs.Answers.{counts, countsIn, listReply};
 ghost use Rattle.tables.specs.Steps.{tables};
 ghost use Rattle.admission.specs.Lent.{lent, outcome};
 
-// The head counters are the caller's, one by one: `grow` takes its counts apart for it.
-// `grow_with` is open, since the proof that `grow` and `land` share names its contract.
-pub fn grow_with(
+// The head's four numbers are lent one by one: `grow` takes the caller's counts apart.
+fn grow_with(
     vertices: &mut u16,
     edges: &mut u16,
     blocks: &mut u16,

@@ -11,7 +11,7 @@ ghost use Rattle.counters.specs.Answers.{counts, countsIn, listReply};
 ghost use Rattle.tables.specs.Steps.{tables};
 ghost use Rattle.admission.specs.Lent.{lent, outcome};
 
-// The head counters are the caller's, one by one: `land` takes its counts apart for it.
+// The head's four numbers are lent one by one: `land` takes the caller's counts apart.
 fn land_with(
     vertices: &mut u16,
     edges: &mut u16,

@@ -95,7 +95,7 @@ fn land_record(
 }
 
 // The records from a cursor on. Each takes at least a byte, so there are no more than bytes.
-// The head counters are the caller's: they are updated at each landed record.
+// "At each landed record the head counters are updated in the caller's copy": the four numbers are lent from there.
 fn land_records(
     vertices: &mut u16,
     edges: &mut u16,
@@ -184,7 +184,7 @@ pub fn land_list(
     }
 }
 
-// A whole list from empty, on tables that come cleared.
+// A whole list from empty, on tables that come cleared. The head lies here.
 pub fn grow_list(
     degrees: &mut [u16],
     sides: &mut [u16],

@@ -1,5 +1,5 @@
 use Rattle.model.specs.Tables.{noCounts}
-use mathlib.Core.Path.{refl, _∙_}
+use mathlib.Core.Path.{_∙_}
 use borrow.Author.Tests.{not-true, not-false}
 use Rattle.calls.proofs.CallLaws.{grow-refused, grow-done}
 use borrow.Author.Needs.{needs}
@@ -72,7 +72,7 @@ returns-2 c =
     let at-land-list = c .before .before .before .before .before .before .before .before .before .before in
     let at-if1 = at-land-list .before .before .before .before .before .before .before .before .before .before in
     let at-clear-if-fit = at-if1 .before .before .before .before .before .before .before .before .before .before .before .before .before .before .before .before .before .before .before .before .before in
-    grow-done _ _ _ _ _ _ _ _ _ _ (at-clear-if-fit .clear-if-fit .ensures .0) (at-clear-if-fit .clear-if-fit .ensures .1) (at-clear-if-fit .clear-if-fit .ensures .2) (not-false _ (at-if1 .if1 .left)) (at-land-list .land-list .ensures) (refl, refl)
+    grow-done _ _ _ _ _ _ _ _ (at-clear-if-fit .clear-if-fit .ensures .0) (at-clear-if-fit .clear-if-fit .ensures .1) (at-clear-if-fit .clear-if-fit .ensures .2) (not-false _ (at-if1 .if1 .left)) (at-land-list .land-list .ensures)
 
 -- the needs in the order of the code
 pub grow-with-spec : {M : Type 1} → statement M

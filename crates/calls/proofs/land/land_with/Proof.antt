@@ -12,7 +12,7 @@ returns c =
     let at-land-list = c .before .before .before .before .before .before .before .before .before .before in
     let at-enum-told = at-land-list .before .before .before .before .before .before .before .before .before .before in
     let at-pass-gate = at-enum-told .before .before .before .before .before .before .before .before .before .before .before .before in
-    land-done _ _ _ _ _ _ _ _ (ap gateRefusal (sym (at-enum-told .enum-told .given .1)) ∙ at-pass-gate .pass-gate .ensures .0) (at-pass-gate .pass-gate .ensures .1) (at-land-list .land-list .ensures) (refl, refl)
+    land-done _ _ _ _ _ _ (ap gateRefusal (sym (at-enum-told .enum-told .given .1)) ∙ at-pass-gate .pass-gate .ensures .0) (at-pass-gate .pass-gate .ensures .1) (at-land-list .land-list .ensures)
 
 returns-2 : tie.Need-returns-2
 unfolding registerFor lentSlice
