@@ -1,6 +1,6 @@
 pub mod CallLaws
 pub mod Apart
 pub mod TakenApart
-pub mod LastParameter
+pub mod Single
 pub mod WithList
 pub mod LentCounts

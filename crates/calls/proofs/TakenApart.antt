@@ -1,4 +1,7 @@
 -- `Counts`, lent by `&mut`, taken apart: each of its numbers is lent by `&mut` for a lifetime that is made for it, and comes back.
+--     taken-apart      the reference, its token, R and F ⊢ ⇛ the numbers' tokens in front of R, their references in front of F, and what is kept
+--     put-together     the tokens, what says the last numbers, and what is kept ⊢ ⇛ the reference at the last counts, its token, R and F
+-- R and F stand for the tokens of the other parameters and for what these own.
 use Prim.Native.Nat.{ℕ}
 use mathlib.Core.Path.{refl}
 use mathlib.Core.List.{[], _∷_, List}
@@ -24,7 +27,7 @@ use Rattle.counters.specs.declared.counts.Counts.{Counts}
 use Rattle.counters.proofs.counts.Counts as T
 use Rattle.calls.proofs.Apart.{nums, Numbers, Keys, ends, refs, lents, toks, lend-all, take-all}
 
--- the widths of the fields
+-- the widths of the fields; the counts as numbers of these widths, and back
 abbrev pub fields : List Width
 fields = w16 ∷ w16 ∷ w16 ∷ w32 ∷ []
 
@@ -40,6 +43,7 @@ module _ {M : Type 1} (𝓤 : URA M) (H : Heap 𝓤) (A : Atoms 𝓤) where
   Kept x κ q g = sep 𝓤 (sem 𝓤 H A (lents (x .ptr .0) (x .ptr .1) fields 0 g)) (sep 𝓤 (PartsBack 𝓤 H A fullShare (T.the-type .name) (nums fields) (x .ptr .0) (x .ptr .1))
       (sep 𝓤 (A .obor κ q (Body (mem T.the-row) (x .ptr .0) (x .ptr .1) (x .name))) (sep 𝓤 (A .obs (x .name) (T.the-row .coded .code (x .now))) (A .auth (x .name) (T.the-row .coded .code (x .now))))))
 
+  -- what is had once the counts are taken apart
   abbrev pub Cut : RefT Counts → Lft → Share → SProp 𝓤 → Fml → Keys fields → SProp 𝓤
   Cut x κ q R F g = sep 𝓤 (sep 𝓤 (toks 𝓤 H A fields g R) (sem 𝓤 H A (refs (x .ptr .0) (x .ptr .1) fields 0 (numbers (x .now)) g F))) (Kept x κ q g)
 
@@ -47,6 +51,7 @@ module _ {M : Type 1} (𝓤 : URA M) (H : Heap 𝓤) (A : Atoms 𝓤) where
     lawful : Lawfuls 𝓤 H A (rowsOf (nums fields))
     lawful = (uint-lawful 𝓤 H A W w16, (uint-lawful 𝓤 H A W w16, (uint-lawful 𝓤 H A W w16, (uint-lawful 𝓤 H A W w32, tt))))
 
+    -- the struct in memory is its fields in memory, and the way back
     apart : (c : Counts) (b o : ℕ) → ent 𝓤 (sem 𝓤 H A (mem T.the-row .lies c b o)) (sep 𝓤 (sem 𝓤 H A (partsAt fullShare (nums fields) 0 (numbers c) b o)) (PartsBack 𝓤 H A fullShare (T.the-type .name) (nums fields) b o))
     unfolding partOf
     apart c b o = struct-parts 𝓤 H A W fullShare (T.the-type .name) (nums fields) lawful (numbers c) b o

@@ -7,12 +7,12 @@ use denote.Builtin.{u8}
 use denote.Enum.Laws as EL
 use Rattle.counters.proofs.answers.ListAnswer as O
 use Rattle.counters.proofs.answers.ListAnswer.Laws as O′
-use Rattle.calls.proofs.LastParameter.{Passing, Told, byValue, value-told, shared}
+use Rattle.calls.proofs.Single.{Single, Told, byValue, value-told, shared}
 
-abbrev pub list : Passing 1
+abbrev pub list : Single 1
 list = shared u8
 
-abbrev pub reply : Passing 0
+abbrev pub reply : Single 0
 reply = byValue O.the-row O′.mir (EL.val O.the-type O′.the-laws)
 
 pub reply-told : {M : Type 1} (𝓤 : URA M) (H : Heap 𝓤) (A : Atoms 𝓤) → Given 𝓤 H A → Told reply

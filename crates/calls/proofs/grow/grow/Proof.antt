@@ -1,11 +1,11 @@
--- `grow` meets its contract: its MIR is walked in LentCounts.antt, for any callee. Here the callee is `grow_with`, and what that ensures is
--- what `grow` ensures.
+-- `grow` meets its contract: an instance of LentCounts.antt. It is passed a list last, its callee is `grow_with`, and what that ensures is what
+-- `grow` ensures.
 use base.Logic.{id⊢}
 use contract.Running.{givenOf, tables, tablesOf}
 use denote.Triple.Spec.{tripleOf}
 use denote.Triple.Table.{entered, cited}
 use denote.Builtin.{u8}
-use Rattle.calls.proofs.LastParameter.{shared-told}
+use Rattle.calls.proofs.Single.{shared-told}
 use Rattle.calls.proofs.LentCounts.{lent-meets}
 use Rattle.calls.proofs.WithList.{list, reply, reply-told}
 use Rattle.calls.proofs.grow.grow_with as callee

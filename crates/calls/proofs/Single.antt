@@ -1,7 +1,8 @@
--- The last parameter of a thin function, which it passes on to its callee: a number, a struct by value, a shared slice.
---     Passing n         a type of n lifetimes with one machine value, whose values are seen at exit as they were passed
---     rowAt, slotAt     the type, where k lifetimes of the function come before its own
---     Told              what a walk has to know of it: its machine value, and that this is of the MIR type
+-- Types with one machine value, whose values are seen at exit as they were passed: a number, a struct or an enum by value, a shared slice.
+-- A thin function's last parameter and its answer are such.
+--     Single n          such a type, of n lifetimes; k is how many of the function's lifetimes come before them
+--     rowAt, slotAt     it as a type, and as a place of a signature
+--     Told              what a walk has to know of it: the machine value, and that it is of the MIR type
 --     byValue, shared   a type that names no lifetime; `&[T]`
 use mathlib.Core.Path.{sym, subst}
 use Prim.Native.Nat.{ℕ, zero, suc}
@@ -21,7 +22,7 @@ use denote.Ref.{RefT, ptr, now}
 use denote.Slice.{ShrSlice, sliceTy, sliceVal, shr-slice-tells}
 use denote.Signature.{Slot, plain}
 
-pub record Passing (n : ℕ) : Type 1 where
+pub record Single (n : ℕ) : Type 1 where
   pub Denot : Type 0
   pub ty : ℕ → Ty
   pub written : ℕ → Written
@@ -30,7 +31,7 @@ pub record Passing (n : ℕ) : Type 1 where
   pub coded : Coded Denot
   pub value : Denot → Val
 
--- n lifetimes behind k others
+-- k lifetimes and n behind them
 abbrev pub behind : ℕ → ℕ → ℕ
 behind zero n = n
 behind (suc k) n = suc (behind k n)
@@ -39,7 +40,7 @@ abbrev pub lastOf : (k n : ℕ) → Lfts (behind k n) → Lfts n
 lastOf zero n κs = κs
 lastOf (suc k) n κs = lastOf k n (κs .1)
 
-abbrev pub rowAt : {n : ℕ} → Passing n → ℕ → Lfts n → RattleType
+abbrev pub rowAt : {n : ℕ} → Single n → ℕ → Lfts n → RattleType
 rowAt P k κs = record {
   Denot = P .Denot;
   mir = P .ty k ∷ [];
@@ -50,16 +51,16 @@ rowAt P k κs = record {
   coded = P .coded;
 }
 
-abbrev pub slotAt : {n : ℕ} → Passing n → (k : ℕ) → Slot (behind k n)
+abbrev pub slotAt : {n : ℕ} → Single n → (k : ℕ) → Slot (behind k n)
 slotAt {n} P k = plain (λ κs. rowAt P k (lastOf k n κs))
 
-pub record Told {n : ℕ} (P : Passing n) : Type 0 where
+pub record Told {n : ℕ} (P : Single n) : Type 0 where
   pub tells : (k : ℕ) (κs : Lfts n) → Tells (rowAt P k κs) (Is (rowAt P k κs)) (λ x. P .value x ∷ [])
   pub typed : (k : ℕ) (κs : Lfts n) (x : P .Denot) (v : Val) → Is (rowAt P k κs) x (v ∷ []) → T (hasTy (P .ty k) v) × WT v
 
 module _ (R : RattleType) where
   module _ (τ : Ty) (v : R .Denot → Val) where
-    abbrev pub byValue : Passing 0
+    abbrev pub byValue : Single 0
     byValue = record {
       Denot = R .Denot;
       ty = λ k. τ;
@@ -73,7 +74,7 @@ module _ (R : RattleType) where
     pub value-told : Tells R (Is R) (λ x. v x ∷ []) → ((x : R .Denot) (w : Val) → Is R x (w ∷ []) → T (hasTy τ w) × WT w) → Told byValue
     value-told tells typed = record { tells = λ k κs. tells; typed = λ k κs. typed }
 
-  abbrev pub shared : Passing 1
+  abbrev pub shared : Single 1
   shared = record {
     Denot = RefT (List (R .Denot));
     ty = λ k. sliceTy (tyRef (named k) imm (pointee (R .written)));
