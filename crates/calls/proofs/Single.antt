@@ -3,7 +3,7 @@
 --     Single n          such a type, of n lifetimes; k is how many of the function's lifetimes come before them
 --     rowAt, slotAt     it as a type, and as a place of a signature
 --     Told              what a walk has to know of it: the machine value, and that it is of the MIR type
---     byValue, shared   a type that names no lifetime; `&[T]`
+--     byValue, shared   such a type that names no lifetime; `&[T]`
 use mathlib.Core.Path.{sym, subst}
 use Prim.Native.Nat.{ℕ, zero, suc}
 use mathlib.Core.List.{[], _∷_, List}
@@ -36,6 +36,7 @@ abbrev pub behind : ℕ → ℕ → ℕ
 behind zero n = n
 behind (suc k) n = suc (behind k n)
 
+-- those n
 abbrev pub lastOf : (k n : ℕ) → Lfts (behind k n) → Lfts n
 lastOf zero n κs = κs
 lastOf (suc k) n κs = lastOf k n (κs .1)
