@@ -14,7 +14,8 @@ use Rattle.model.specs.Tables.{Counts, Tables, cleared, countsOf, edgeIn, edges
 use Rattle.model.specs.Notions.{Reachable, with-edge}
 use Rattle.model.proofs.Computing.{computing}
 use Rattle.tables.specs.Steps.{edgeOf, stored}
-use Rattle.insertion.specs.Insertion.{LandingIn, counts, done, landingIn, refusedIn}
+use Rattle.counters.specs.Answers.{counts}
+use Rattle.insertion.specs.Insertion.{LandingIn, done, landingIn, refusedIn}
 use Rattle.model.proofs.Registers.Held.{grow-again, grown-from, onVertices, vertices-grow}
 use Rattle.model.proofs.Registers.OnlyHeld.{grow-reaches, held-counts, held-tables, only-held, vertices-reach}
 use Rattle.model.proofs.Registers.Reachable.{reachable-empty}

@@ -14,7 +14,8 @@ use Rattle.model.specs.Tables.{Tables, Counts, edgeIn}
 use Rattle.model.proofs.Registers.Equality.{counts-parts}
 use Rattle.tables.specs.Steps.{edgeOf, tables, zeroed, Tells}
 use Rattle.tables.proofs.Lists.{differ}
-use Rattle.insertion.specs.Insertion.{AnswerIn, done, refusedIn, LandingIn, landingIn, counts, landIn}
+use Rattle.counters.specs.Answers.{counts}
+use Rattle.insertion.specs.Insertion.{AnswerIn, done, refusedIn, LandingIn, landingIn, landIn}
 use Rattle.tables.proofs.SameLengths.{SameLengths}
 use Rattle.holding.specs.Replay.{replayIn, regrowIn, Regrows}
 

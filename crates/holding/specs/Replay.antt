@@ -6,8 +6,9 @@ use mathlib.Core.List.{List}
 use lib.Dec.{leb}
 use Rattle.model.specs.Basics.{if_then_else_, maxVertices}
 use Rattle.model.specs.Tables.{Tables, Counts}
+use Rattle.counters.specs.Answers.{counts}
 use Rattle.tables.specs.Steps.{edgeOf}
-use Rattle.insertion.specs.Insertion.{done, refusedIn, LandingIn, landingIn, counts, landIn}
+use Rattle.insertion.specs.Insertion.{done, refusedIn, LandingIn, landingIn, landIn}
 
 -- n edges of the tables of ends and lengths, from number e on, landed on t
 unfoldable pub replayIn : List ℕ → List ℕ → ℕ → ℕ → Tables → Counts → LandingIn

@@ -11,7 +11,8 @@ use Rattle.model.specs.Graph.{Edge}
 use Rattle.model.specs.Format.{whole, stopped}
 use Rattle.model.specs.Tables.{Tables, Counts}
 use Rattle.tables.specs.Steps.{more16}
-use Rattle.insertion.specs.Insertion.{AnswerIn, done, refusedIn, landingIn, counts, landIn}
+use Rattle.counters.specs.Answers.{counts}
+use Rattle.insertion.specs.Insertion.{AnswerIn, done, refusedIn, landingIn, landIn}
 use Rattle.list.specs.Reading.{good, badHeader, RecordAt, ends, vertexTo, edgeTo, badRecord, headerAt, recordAt}
 use Rattle.register.specs.Records.{StepIn, ended, wentOn, stoppedIn, SteppedIn, steppedIn, stepOf, landVertexIn, landRecordIn, ReadingIn, readingIn, landRecordsIn, landListIn}
 

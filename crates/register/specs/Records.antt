@@ -6,8 +6,9 @@ use lib.Dec.{leb}
 use Rattle.model.specs.Basics.{if_then_else_, maxVertices}
 use Rattle.model.specs.Format.{Stop, whole, stopped}
 use Rattle.model.specs.Tables.{Tables, Counts}
+use Rattle.counters.specs.Answers.{counts}
 use Rattle.tables.specs.Steps.{more16}
-use Rattle.insertion.specs.Insertion.{AnswerIn, done, refusedIn, counts, landIn}
+use Rattle.insertion.specs.Insertion.{AnswerIn, done, refusedIn, landIn}
 use Rattle.list.specs.Reading.{good, RecordAt, ends, vertexTo, edgeTo, badHeader, badRecord, headerAt, recordAt}
 
 -- what stands behind a record: the end of the list; the counts and the next index; or the record's refusal

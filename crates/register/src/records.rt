@@ -14,11 +14,11 @@ use tables::access::one_more16;
 ghost use mathlib.Core.Path.{_≡_};
 ghost use lib.ListN.{length};
 ghost use Rattle.model.specs.Tables.{noCounts};
-ghost use Rattle.counters.specs.Answers.{countsIn};
+ghost use Rattle.counters.specs.Answers.{counts, countsIn, stopIn};
 ghost use Rattle.tables.specs.Steps.{tables};
 ghost use Rattle.insertion.specs.Meaning.{answerIn};
 ghost use Rattle.list.specs.Reading.{recordAt};
-ghost use Rattle.register.specs.Records.{landVertexIn, stepOf, steppedIn, landRecordIn, landRecordsIn, landListIn};
+ghost use Rattle.register.specs.Records.{landVertexIn, stepOf, steppedIn, landRecordIn, readingIn, landRecordsIn, landListIn};
 ghost use Rattle.register.specs.Meaning.{stepMeans, readingMeans};
 
 // What stands behind a record: the end of the list; the counts and the next record; or the record's refusal.
@@ -95,88 +95,96 @@ fn land_record(
 }
 
 // The records from a cursor on. Each takes at least a byte, so there are no more than bytes.
+// "At each landed record the head counters are updated in the caller's copy": the four numbers are lent from there.
 fn land_records(
+    vertices: &mut u16,
+    edges: &mut u16,
+    blocks: &mut u16,
+    relabellings: &mut u32,
     degrees: &mut [u16],
     sides: &mut [u16],
     ends: &mut [u16],
     lengths: &mut [u32],
     labels: &mut [u32],
-    counts: Counts,
     list: &[u8],
     from: Cursor,
-) -> Reading
-    ensures { λ r. ⌜ readingMeans (tables (now (degrees .exit)) (now (sides .exit)) (now (ends .exit)) (now (lengths .exit)) (now (labels .exit))) r
+) -> Stop
+    ensures { λ r. ⌜ readingIn (tables (now (degrees .exit)) (now (sides .exit)) (now (ends .exit)) (now (lengths .exit)) (now (labels .exit)))
+        (counts (now (vertices .exit)) (now (edges .exit)) (now (blocks .exit)) (now (relabellings .exit))) (stopIn r)
         ≡ landRecordsIn (now (list .entry)) (length (now (list .entry))) 0
         (tables (now (degrees .entry)) (now (sides .entry)) (now (ends .entry)) (now (lengths .entry)) (now (labels .entry)))
-        (countsIn counts) (from .at) ⌝ }
+        (counts (now (vertices .entry)) (now (edges .entry)) (now (blocks .entry)) (now (relabellings .entry))) (from .at) ⌝ }
 {
-    let mut sofar = counts;
     let mut at = from;
     let mut number: usize = 0;
     let mut left = list.len();
     while 0 < left {
+        let sofar = Counts {
+            vertices: *vertices,
+            edges: *edges,
+            blocks: *blocks,
+            relabellings: *relabellings,
+        };
         let step = land_record(degrees, sides, ends, lengths, labels, sofar, list, at);
         match step {
             Step::End => {
-                return Reading {
-                    counts: sofar,
-                    stop: Stop::Whole,
-                };
+                return Stop::Whole;
             }
-            Step::Landed(next_counts, next) => {
-                sofar = next_counts;
+            Step::Landed(counts, next) => {
+                *vertices = counts.vertices;
+                *edges = counts.edges;
+                *blocks = counts.blocks;
+                *relabellings = counts.relabellings;
                 at = next;
             }
             Step::Refused(refusal) => {
-                return Reading {
-                    counts: sofar,
-                    stop: Stop::Stopped(number, refusal),
-                };
+                return Stop::Stopped(number, refusal);
             }
         }
         number += 1;
         left -= 1;
     }
-    Reading {
-        counts: sofar,
-        stop: Stop::Whole,
-    }
+    Stop::Whole
 }
 
 // A whole list: the header, then the records.
 pub fn land_list(
+    vertices: &mut u16,
+    edges: &mut u16,
+    blocks: &mut u16,
+    relabellings: &mut u32,
     degrees: &mut [u16],
     sides: &mut [u16],
     ends: &mut [u16],
     lengths: &mut [u32],
     labels: &mut [u32],
-    counts: Counts,
     list: &[u8],
-) -> Reading
-    ensures { λ r. ⌜ readingMeans (tables (now (degrees .exit)) (now (sides .exit)) (now (ends .exit)) (now (lengths .exit)) (now (labels .exit))) r
+) -> Stop
+    ensures { λ r. ⌜ readingIn (tables (now (degrees .exit)) (now (sides .exit)) (now (ends .exit)) (now (lengths .exit)) (now (labels .exit)))
+        (counts (now (vertices .exit)) (now (edges .exit)) (now (blocks .exit)) (now (relabellings .exit))) (stopIn r)
         ≡ landListIn (tables (now (degrees .entry)) (now (sides .entry)) (now (ends .entry)) (now (lengths .entry)) (now (labels .entry)))
-        (countsIn counts) (now (list .entry)) ⌝ }
+        (counts (now (vertices .entry)) (now (edges .entry)) (now (blocks .entry)) (now (relabellings .entry))) (now (list .entry)) ⌝ }
 {
     let header = read_header(list);
     match header {
         Header::Good(from) => land_records(
+            vertices,
+            edges,
+            blocks,
+            relabellings,
             degrees,
             sides,
             ends,
             lengths,
             labels,
-            counts,
             list,
             from,
         ),
-        Header::Refused(refusal) => Reading {
-            counts,
-            stop: Stop::Stopped(0, refusal),
-        },
+        Header::Refused(refusal) => Stop::Stopped(0, refusal),
     }
 }
 
-// A whole list from empty, on tables that come cleared.
+// A whole list from empty, on tables that come cleared. The head lies here.
 pub fn grow_list(
     degrees: &mut [u16],
     sides: &mut [u16],
@@ -189,5 +197,29 @@ pub fn grow_list(
         ≡ landListIn (tables (now (degrees .entry)) (now (sides .entry)) (now (ends .entry)) (now (lengths .entry)) (now (labels .entry)))
         noCounts (now (list .entry)) ⌝ }
 {
-    land_list(degrees, sides, ends, lengths, labels, Counts::none(), list)
+    let mut vertices: u16 = 0;
+    let mut edges: u16 = 0;
+    let mut blocks: u16 = 0;
+    let mut relabellings: u32 = 0;
+    let stop = land_list(
+        &mut vertices,
+        &mut edges,
+        &mut blocks,
+        &mut relabellings,
+        degrees,
+        sides,
+        ends,
+        lengths,
+        labels,
+        list,
+    );
+    Reading {
+        counts: Counts {
+            vertices,
+            edges,
+            blocks,
+            relabellings,
+        },
+        stop,
+    }
 }
