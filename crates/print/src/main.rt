@@ -27,6 +27,8 @@ fn main() {
     let read = read_list(&mut list);
     match read {
         ReadAnswer::Bytes(n) => write_listing(&list[..n]),
-        ReadAnswer::Failed => complain(b"print: the list could not be read to its end, so nothing is printed\n"),
+        ReadAnswer::Failed => complain(
+            b"print: the list could not be read to its end, so nothing is printed\n",
+        ),
     }
 }

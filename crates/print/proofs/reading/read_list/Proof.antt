@@ -1,4 +1,4 @@
-use Rattle.print.proofs.Input.{more-moved, held}
+use Rattle.print.proofs.Input.{more-moved, counted, stop-held, back}
 use Prim.Native.Nat.{_-_, _≤_}
 use mathlib.Core.Path.{_≡_, sym, _∙_}
 use lib.ListN.{length}
@@ -16,28 +16,34 @@ abbrev μ-loop : tie.MeasureT-loop
 μ-loop list₀ done₀ list done = length list - done
 
 add-done : tie.Need-add-done Inv-loop μ-loop
-add-done c = 
-    let at-read = c .before .before .before .before .before .before in
-    let m = more-moved _ _ (at-read .read .result) (sfits-of (at-read .read .ok)) (at-read .read .ensures) (sym (c .before .told .given .1) ∙ c .before .before .before .told-by .ensures) in
+add-done c =
+    let at-step = c .before .before .before in
+    let at-read = at-step .before .before .before in
+    let m = more-moved (at-read .before .before .before .loop .done) _ _ (at-read .read .result) (sfits-of (at-read .read .ok)) (at-read .read .ensures) (sym (c .before .step .given .1) ∙ at-step .step-after .ensures) in
     omega (arith, m .1)
 
 loop-less : tie.Need-loop-less Inv-loop μ-loop
 loop-less c =
-    let at-read = c .before .before .before .before .before .before in
-    let m = more-moved _ _ (at-read .read .result) (sfits-of (at-read .read .ok)) (at-read .read .ensures) (sym (c .before .told .given .1) ∙ c .before .before .before .told-by .ensures) in
+    let at-step = c .before .before .before in
+    let at-read = at-step .before .before .before in
+    let m = more-moved (at-read .before .before .before .loop .done) _ _ (at-read .read .result) (sfits-of (at-read .read .ok)) (at-read .read .ensures) (sym (c .before .step .given .1) ∙ at-step .step-after .ensures) in
     omega (arith, m .0, m .1)
 
 loop-again : tie.Need-loop-again Inv-loop μ-loop
 loop-again c =
-    let at-read = c .before .before .before .before .before .before in
-    let m = more-moved _ _ (at-read .read .result) (sfits-of (at-read .read .ok)) (at-read .read .ensures) (sym (c .before .told .given .1) ∙ c .before .before .before .told-by .ensures) in
+    let at-step = c .before .before .before in
+    let at-read = at-step .before .before .before in
+    let m = more-moved (at-read .before .before .before .loop .done) _ _ (at-read .read .result) (sfits-of (at-read .read .ok)) (at-read .read .ensures) (sym (c .before .step .given .1) ∙ at-step .step-after .ensures) in
     (omega (arith, m .1), omega arith)
 
 returns : tie.Need-returns Inv-loop μ-loop
-returns c = held _ _ (omega arith)
+returns c =
+    let at-step = c .before .before .before in
+    let at-read = at-step .before .before .before in
+    stop-held (at-read .before .before .before .loop .done) _ (back (at-read .read .result)) _ (sym (c .before .step2 .given .1) ∙ at-step .step-after .ensures) (omega arith)
 
-returns-3 : tie.Need-returns-3 Inv-loop μ-loop
-returns-3 c = held _ _ (omega arith)
+returns-2 : tie.Need-returns-2 Inv-loop μ-loop
+returns-2 c = counted _ _ (omega arith)
 
 -- the needs in the order of the code
 pub read-list-spec : {M : Type 1} → statement M
@@ -60,7 +66,4 @@ read-list-spec =
     (λ c. search needs)
     returns
     (λ c. search needs)
-    (λ c. search needs)
-    (λ c. search needs)
-    (λ c. search needs)
-    returns-3)
+    returns-2)
