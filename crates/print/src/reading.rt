@@ -14,7 +14,8 @@ pub enum Step {
     Stop(ReadAnswer),
 }
 
-// What the system's read answered, behind so many bytes. A read that a signal interrupted has failed too (docs/DECISIONS.md).
+// What the system's read answered, behind so many bytes. One that a signal interrupted has failed too: nothing says that asking again
+// would end, and the program handles no signal, so a file, a pipe or a terminal gives it none.
 fn step_after(done: usize, got: isize) -> Step
     ensures { λ r. ⌜ r ≡ stepAfter done got ⌝ }
 {
