@@ -1,15 +1,34 @@
-// The printing program: reads one list on standard input and prints its sheet. All that it prints is built by `print_list`.
+// The printing program: reads one list on standard input and prints its sheet. All that it prints is built by `print_list`. What fails is
+// said on standard error: a Rattle program has no exit status of its own, so ./run gives one.
 mod listing;
+mod reading;
 
 use listing::MAX_LIST;
 use listing::ROOM;
 use listing::print_list;
+use reading::ReadAnswer;
+use reading::read_list;
+
+fn complain(what: &[u8]) {
+    io::write_all(libc::STDERR_FILENO, what);
+}
+
+fn write_listing(list: &[u8]) {
+    let mut out = [0u8; ROOM];
+    let k = print_list(list, &mut out);
+    if !io::write_all(libc::STDOUT_FILENO, &out[..k]) {
+        complain(b"print: the listing could not be written to its end\n");
+    }
+}
 
 fn main() {
     // Room for a byte more than a list may have, so that a longer one shows.
     let mut list = [0u8; MAX_LIST + 1];
-    let n = io::read_full(0, &mut list);
-    let mut out = [0u8; ROOM];
-    let k = print_list(&list[..n], &mut out);
-    io::write_all(1, &out[..k]);
+    let read = read_list(&mut list);
+    match read {
+        ReadAnswer::Bytes(n) => write_listing(&list[..n]),
+        ReadAnswer::Failed => complain(
+            b"print: the list could not be read to its end, so nothing is printed\n",
+        ),
+    }
 }
