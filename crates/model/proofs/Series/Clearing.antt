@@ -11,10 +11,10 @@ use lib.Dec.{ltb}
 use Rattle.model.specs.Basics.{if_then_else_, upTo}
 use Rattle.model.specs.Graph.{isRegular}
 use Rattle.model.specs.Register.{Register, empty}
-use Rattle.model.specs.Format.{growList}
-use Rattle.model.specs.Queries.{Reply, chainAt, find, found, listed, measure, measured, reach, reached, read, refuses, sheetNumbers, vertexWith}
+use Rattle.model.specs.Format.{growList, written}
+use Rattle.model.specs.Queries.{Reply, chainAt, find, found, listed, measure, measured, reach, reached, read, refuses, sheetNumbers, vertexWith, wrote}
 use Rattle.model.specs.Tables.{fits}
-use Rattle.model.specs.Calls.{Answer, Ask, Call, answer, answers, asks, effect, fills, finding, grows, lands, measuring, reaching, readEffect, sheeting}
+use Rattle.model.specs.Calls.{Answer, Ask, Call, answer, answers, asks, effect, fills, finding, grows, lands, measuring, reaching, readEffect, sheeting, writing}
 use Rattle.model.specs.Series.{Demand3, Landing, Made, accepts, after, afterCall, landedBy, makes, series, since, start}
 use Rattle.model.proofs.Basics.Booleans.{if-either}
 use Rattle.model.proofs.Series.Whole.{demand3}
@@ -28,6 +28,7 @@ refusalOf (found d) = 0
 refusalOf (reached low high) = 0
 refusalOf (measured l) = 0
 refusalOf (listed n) = 0
+refusalOf (wrote n) = 0
 refusalOf (refuses n) = n
 
 -- a result, or a refusal that is neither 21 nor 25: what a call on a register answers
@@ -65,6 +66,7 @@ own-answer (finding label) r = own-find r label
 own-answer (reaching v) r = own-reach r v
 own-answer (measuring v w) r = own-measure r v w
 own-answer (sheeting slice) r = own-fills slice (sheetNumbers r) _ (own 0 (omega arith))
+own-answer (writing slice) r = own-fills slice (written r) _ (own 0 (omega arith))
 
 own-effect : (c : Call) (r : Register) → Own ((effect c r) .reply)
 unfolding effect readEffect refusalOf
