@@ -2,17 +2,15 @@
 use mathlib.Core.Path.{_≡_, refl, sym, ap, _∙_}
 use Prim.Native.Nat.{ℕ, _+_, _*_, _≤_, _<_}
 use native.Mathlib.Omega.{arith}
-use mathlib.Core.Bool.{Bool, true, false}
-use mathlib.Core.List.{List, [], _∷_, map, _++_, append-nil}
+use mathlib.Core.List.{List, [], _∷_, _++_, append-nil}
 use lib.ListN.{length, getD, replicate, length-map}
 use borrow.Author.Tests.{lt-ltb, le-ltb}
-use Rattle.model.specs.Basics.{inFront, upTo}
-use Rattle.model.specs.Graph.{Edge}
+use Rattle.model.specs.Basics.{upTo}
 use Rattle.model.specs.Register.{Register}
 use Rattle.model.specs.Format.{edgeBytes, edgeRecords, header, listOf, written}
 use Rattle.model.specs.Queries.{Reply, refuses, wrote}
 use Rattle.model.specs.Tables.{Tables, Counts, countsOf, edgeIn, edgesIn, tablesOf}
-use Rattle.model.specs.Calls.{Answer, answer, effect, fills, writes, writing}
+use Rattle.model.specs.Calls.{answer, effect, fills, writes}
 use Rattle.model.proofs.Basics.Lists.{length-upTo}
 use Rattle.model.proofs.Registers.OnlyHeld.{held-counts, held-tables}
 use Rattle.model.proofs.Registers.ReadBack.{edges-read}

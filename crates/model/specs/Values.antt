@@ -1,4 +1,5 @@
--- Document 01, "Values to hold": those marked M, from the bytes of the lists, as one table; and some more that tell readings apart.
+-- Document 01, "Values to hold": those marked M, from the bytes of the lists, as one table; some more that tell readings apart; and those of
+-- document 02.
 use mathlib.Core.Path.{_≡_}
 use Prim.Native.Nat.{ℕ}
 use mathlib.Core.List.{List, [], _∷_, _++_}
