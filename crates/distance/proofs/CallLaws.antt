@@ -8,7 +8,7 @@ use lib.ListN.{length, length-replicate}
 use Rattle.model.specs.Basics.{maxVertices}
 use Rattle.model.specs.Queries.{Reply, measure}
 use Rattle.model.specs.Tables.{Counts, Tables, cleared}
-use Rattle.model.specs.Calls.{answers, effect, measures, scratchAfter, step}
+use Rattle.model.specs.Calls.{answer, answers, effect, measures, scratchAfter, step}
 use Rattle.model.proofs.Registers.OnlyHeld.{held-counts, held-tables}
 use Rattle.tables.specs.Steps.{zeroed}
 use Rattle.admission.specs.Lent.{lent, outcome}
@@ -36,7 +36,7 @@ module _ (t : Tables) (c : Counts) (s s′ : Tables) (h : none ≡ barred (lent 
   -- the search was made
   pub open-answers : (v w : ℕ) (s″ : Tables) (a : Reply) → s″ ≡ zeroed s′ → a ≡ measureIn t c v w
       → outcome t c s″ [] a ≡ step (measures v w) (lent t c s)
-  unfolding effect answers
+  unfolding effect answer answers
   open-answers v w s″ a z q = query-answered (measures v w) (lent t c s) s″ [] a h (z ∙ again ∙ e) holds
     where
       again : zeroed s′ ≡ s′

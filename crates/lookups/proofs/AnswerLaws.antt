@@ -10,7 +10,7 @@ use Rattle.model.specs.Basics.{maxVertices, inFront}
 use Rattle.model.specs.Register.{Register}
 use Rattle.model.specs.Queries.{Reply, concat, find, reach, sheet, sheetNumbers}
 use Rattle.model.specs.Tables.{Tables, Counts, tablesOf}
-use Rattle.model.specs.Calls.{finds, reaches, sheets, answers, effect, sheetEffect}
+use Rattle.model.specs.Calls.{answer, answers, effect, fills, finds, reaches, sheets}
 use Rattle.model.specs.Notions.{Reachable}
 use Rattle.model.proofs.Chains.Sheet.{sheet-length}
 use Rattle.model.proofs.Registers.OnlyHeld.{held-counts, held-tables}
@@ -32,14 +32,14 @@ labels-whole r g labels e =
 
 pub find-answers : (d s e l labels : List ℕ) (c : Counts) (label : ℕ) (a : Reply)
     → a ≡ findIn (tables d s e l (take maxVertices labels)) c label → Answers (finds label) (tables d s e l labels) c [] a
-unfolding effect answers
+unfolding effect answer answers
 find-answers d s e l labels c label a h r k =
     let w : take maxVertices labels ≡ labels = labels-whole r (k .reachable) labels (ap (λ (t : Tables). t .labels) (held-tables k)) in
     let f : findIn (tables d s e l labels) c label ≡ find r label = rw (held-tables k, held-counts k) at (find-agrees r (k .reachable) label) in
     rw (h, w, f)
 
 pub reach-answers : (t : Tables) (c : Counts) (v : ℕ) (a : Reply) → a ≡ reachIn t c v → Answers (reaches v) t c [] a
-unfolding effect answers
+unfolding effect answer answers
 reach-answers t c v a h r k =
     let f : reachIn t c v ≡ reach r v = rw (held-tables k, held-counts k) at (reach-agrees r (k .reachable) v) in
     rw (h, f)
@@ -50,7 +50,7 @@ numbers-are r = refl
 
 pub sheet-answers : (t : Tables) (c : Counts) (xs ys : List ℕ) (a : Reply) → sheeted ys a ≡ sheetedIn t c xs
     → Answers (sheets xs) t c ys a
-unfolding effect sheetEffect sheetedIn inFront
+unfolding effect answer fills sheetedIn inFront
 sheet-answers t c xs ys a h r k = go (ltb (length xs) (5 * length (sheet r))) refl
   where
     rows-are : sheetIn t c ≡ sheet r

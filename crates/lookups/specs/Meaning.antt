@@ -1,5 +1,5 @@
--- Document 01's values of the answers to find, reach and sheet.
-use Rattle.model.specs.Queries.{Reply, found, reached, listed, refuses}
+-- Document 01's values of the answers to find, reach and sheet, and document 02's to write.
+use Rattle.model.specs.Queries.{Reply, found, reached, listed, wrote, refuses}
 use Rattle.counters.specs.Refusals.{numberOf}
 use Rattle.lookups.specs.declared.find.FoundChain.{FoundChain}
 use Rattle.lookups.specs.declared.find.FoundChain.the-variants as find
@@ -7,6 +7,8 @@ use Rattle.lookups.specs.declared.reach.Reached.{Reached}
 use Rattle.lookups.specs.declared.reach.Reached.the-variants as reach
 use Rattle.lookups.specs.declared.sheet.Listed.{Listed}
 use Rattle.lookups.specs.declared.sheet.Listed.the-variants as sheet
+use Rattle.lookups.specs.declared.write.Written.{Written}
+use Rattle.lookups.specs.declared.write.Written.the-variants as write
 
 -- the name of a chain
 abbrev pub foundReply : FoundChain → Reply
@@ -22,3 +24,8 @@ reachedReply (reach.Refused x) = refuses (numberOf x)
 abbrev pub listedReply : Listed → Reply
 listedReply (sheet.Chains n) = listed n
 listedReply (sheet.Refused x) = refuses (numberOf x)
+
+-- the number of bytes
+abbrev pub writtenReply : Written → Reply
+writtenReply (write.Bytes n) = wrote n
+writtenReply (write.Refused x) = refuses (numberOf x)

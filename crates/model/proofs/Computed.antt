@@ -6,13 +6,13 @@ use lib.ListN.{length}
 use Rattle.model.specs.Basics.{floorLog, sum}
 use Rattle.model.specs.Graph.{Edge}
 use Rattle.model.specs.Register.{empty}
-use Rattle.model.specs.Format.{stopped}
+use Rattle.model.specs.Format.{listOf, stopped}
 use Rattle.model.specs.Distance.{joined}
 use Rattle.model.specs.Queries.{found, measured, reached, read, sheet}
 use Rattle.model.specs.Tables.{Tables, cleared, edgeLengths}
 use Rattle.model.specs.Calls.{effect, finds, grows, lands, measures, reaches}
 use Rattle.model.specs.Series.{Made, after, landedBy, landedEdges, relabelledBy, since}
-use Rattle.model.specs.Values.{edge, house, listOf, loop, ring}
+use Rattle.model.specs.Values.{edge, house, loop, ring}
 use Rattle.model.proofs.Computing.{computing}
 use Rattle.model.proofs.Values.{lists}
 

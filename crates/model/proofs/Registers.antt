@@ -11,3 +11,4 @@ pub mod RingTest
 pub mod Answers
 pub mod Small
 pub mod OnlyHeld
+pub mod Written

@@ -3,3 +3,4 @@ pub mod Told
 pub mod Calls
 pub mod Whole
 pub mod Clearing
+pub mod Writing

@@ -1,8 +1,8 @@
--- What holds of every register that landing leaves: seven theorems, each a record of claims in the words of specs/, and its proof. Such
+-- What holds of every register that landing leaves: eight theorems, each a record of claims in the words of specs/, and its proof. Such
 -- registers are what growing leaves, what landing a list in one of them and what a series of calls leave (`reachable-grown`, `-list` and
 -- `-after` in Series/Landings), and what lent tables hold (`only-held` in Registers/OnlyHeld).
 -- docs/THEORY.md has the argument, and the files on which each proof rests.
-use mathlib.Core.Path.{_≡_}
+use mathlib.Core.Path.{_≡_, sym, ap, _∙_}
 use mathlib.Core.Logic.{_≢_, _⊎_}
 use Prim.Native.Nat.{ℕ, _+_, _*_, _^_, _≤_, _<_}
 use native.Mathlib.Omega.{arith}
@@ -15,6 +15,7 @@ use lib.Dec.{eqb·suc-suc}
 use Rattle.model.specs.Basics.{floorLog, sum}
 use Rattle.model.specs.Graph.{Chain, Edge, chainLength, chainOf, degree, edgeAt, endOnwards, endsAt, isLeaf, isRegular, nameOf, onwards, walk}
 use Rattle.model.specs.Register.{Register, labelOf, landEdge, landVertex, landed, marksOf, refused, withEdge, withVertex}
+use Rattle.model.specs.Format.{Read, growList, whole, written}
 use Rattle.model.specs.Distance.{ChainWay, IsDistance, LooseWay, Way, distance, joined, Joins, lengthVia}
 use Rattle.model.specs.Queries.{find, measure, measured, reach, reached, refuses, sheetNumbers, lengthTo}
 use Rattle.model.specs.Tables.{Stored, edgeLengths, held, storedOf}
@@ -39,6 +40,7 @@ use Rattle.model.proofs.Registers.Kept.{kept-held}
 use Rattle.model.proofs.Series.Told.{history-told}
 use Rattle.model.proofs.Registers.Reachable.{either-order, kept, labelled, same-contents}
 use Rattle.model.proofs.Registers.OnlyHeld.{only-held}
+use Rattle.model.proofs.Registers.Written.{written-grows, written-length, written-same}
 use Rattle.model.proofs.Registers.Small.{chains-small, distances-small, labels-small}
 use Rattle.model.proofs.Registers.RingTest.{refused-closes, ring-decides}
 use Rattle.model.proofs.Registers.Answers.{find-none, finds-chain, measure-is, reach-chain, reach-of, reaches-add, reaches-own}
@@ -132,6 +134,18 @@ pub record ContentsFollow (r : Register) : Type 0 where
   pub either-order : (e : Edge) (s t : Register) → landVertex r ≡ landed s → landEdge r e ≡ landed t
       → (landEdge s e ≡ landed (withVertex t)) × (landVertex t ≡ landed (withVertex t))
   pub follow : (s : Register) → Reachable s → r .vertices ≡ s .vertices → r .edges ≡ s .edges → r ≡ s
+
+-- ---- 8. The written list
+
+-- Document 02, S-1. Growing from the list that is written of a register reads it to its end and leaves the register, and so the tables and
+-- the head that it was written of. The list follows from the edges and the number of vertices; so does its length.
+-- Series/Writing has the same of the calls `write` and `grow`.
+pub record WritesBack (r : Register) : Type 0 where
+  pub grows-back : growList (written r) ≡ record { register = r; stop = whole }
+  pub leaves-same : (s : Stored) → held s ≡ some r → storedOf ((growList (written r)) .register) ≡ s
+  pub same-bytes : (s : Register) → r .vertices ≡ s .vertices → r .edges ≡ s .edges → written r ≡ written s
+  pub length-is : length (written r) ≡ 5 + r .vertices + 9 * length (r .edges)
+  pub fits-32-bits : length (written r) < 2 ^ 32
 
 -- ---- the proofs
 
@@ -244,4 +258,16 @@ module _ (r : Register) (k : Reachable r) where
         nothing-else = λ s h. (only-held s r h) .stored-is;
         either-order = λ e s t h g. either-order r e s t h g;
         follow = λ s g v e. same-contents r s k g v e;
+      }
+
+  -- ---- 8
+
+  pub theorem-8 : WritesBack r
+  theorem-8 =
+      record {
+        grows-back = written-grows r k;
+        leaves-same = λ s h. ap (λ (d : Read). storedOf (d .register)) (written-grows r k) ∙ sym ((only-held s r h) .stored-is);
+        same-bytes = written-same r;
+        length-is = written-length r;
+        fits-32-bits = omega (arith, written-length r, l .few, l .room);
       }

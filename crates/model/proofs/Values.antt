@@ -1,11 +1,11 @@
--- The values that document 01 marks, and those that tell readings apart, computed from the definitions.
+-- The values that document 01 marks, those that tell readings apart, and those of document 02, computed from the definitions.
 use mathlib.Core.Path.{refl}
-use Rattle.model.specs.Values.{Marked, Readings, edge, edgeBytes, listOf, labelsAfter, relabelledAfter, stopAfter, findAfter, reachAfter, distanceAfter, house, ring, loop, tapped, oneEdge, secondLonger, tie, bothBare, ownChain, ownNeighbour, twoOfOne, tappedHigh}
+use Rattle.model.specs.Values.{Marked, Readings, WrittenBack, edge, labelsAfter, relabelledAfter, stopAfter, findAfter, reachAfter, distanceAfter, house, ring, loop, tapped, oneEdge, secondLonger, tie, bothBare, ownChain, ownNeighbour, twoOfOne, tappedHigh, writtenAfter, interleaved}
 use Rattle.model.proofs.Computing.{computing}
 
 -- the lists that they start from
 unfoldable pub lists : Unit {0}
-unfolding edge edgeBytes listOf labelsAfter relabelledAfter stopAfter findAfter reachAfter distanceAfter house ring loop tapped oneEdge secondLonger tie bothBare ownChain ownNeighbour twoOfOne tappedHigh
+unfolding edge labelsAfter relabelledAfter stopAfter findAfter reachAfter distanceAfter house ring loop tapped oneEdge secondLonger tie bothBare ownChain ownNeighbour twoOfOne tappedHigh writtenAfter interleaved
 lists = tt
 
 pub values : Marked
@@ -72,4 +72,17 @@ readings =
       c-stopped = refl;
       c-none = refl;
       c-sheet = refl;
+    }
+
+pub written-back : WrittenBack
+unfolding computing lists
+written-back =
+    record {
+      vertices-first = refl;
+      house-back = refl;
+      tie-back = refl;
+      stopped-back = refl;
+      nothing-landed = refl;
+      too-short = refl;
+      rest-stays = refl;
     }

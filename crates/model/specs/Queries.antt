@@ -1,4 +1,4 @@
--- Document 01, "What may be called": the answers to find, reach, distance and sheet, from a register.
+-- Document 01, "What may be called": what a call answers; the answers to find, reach, distance and sheet, from a register.
 use Prim.Native.Nat.{ℕ, min, max}
 use mathlib.Core.Bool.{true, false, not, _&&_}
 use mathlib.Core.List.{List, [], _∷_, _++_}
@@ -23,6 +23,8 @@ pub data Reply : Type 0 where
   measured : Distance → Reply
   -- sheet: the number of chains whose rows are now in the lent slice
   listed : ℕ → Reply
+  -- write: the number of bytes that are now in front in the lent slice
+  wrote : ℕ → Reply
   -- a refusal, by its number
   refuses : ℕ → Reply
 

@@ -1,29 +1,24 @@
--- Document 01, "Values to hold": those marked M, from the bytes of the lists, as one table; and some more that tell readings apart.
+-- Document 01, "Values to hold": those marked M, from the bytes of the lists, as one table; some more that tell readings apart; and those of
+-- document 02.
 use mathlib.Core.Path.{_≡_}
-use Prim.Native.Nat.{ℕ, _/_, _%_}
+use Prim.Native.Nat.{ℕ}
 use mathlib.Core.List.{List, [], _∷_, _++_}
 use lib.ListN.{take, replicate}
 use lib.IntN.{pos, negℤ}
+use Rattle.model.specs.Basics.{bytes4}
 use Rattle.model.specs.Graph.{Edge}
-use Rattle.model.specs.Format.{Stop, whole, stopped, growList}
+use Rattle.model.specs.Register.{empty}
+use Rattle.model.specs.Format.{Stop, whole, stopped, growList, edgeBytes, header, listOf, written}
 use Rattle.model.specs.Distance.{joined, notJoined}
-use Rattle.model.specs.Queries.{Reply, found, reached, measured, refuses, find, reach, measure}
-use Rattle.model.specs.FromC.{bytes4, cSheet, cFind, cReach, cDistance}
+use Rattle.model.specs.Queries.{Reply, found, reached, measured, wrote, refuses, find, reach, measure}
+use Rattle.model.specs.Calls.{answer, writing}
+use Rattle.model.specs.FromC.{cSheet, cFind, cReach, cDistance}
 use Rattle.model.specs.Printing.{ascii, printed}
 
 -- ---- lists
 
 unfoldable pub edge : ℕ → ℕ → ℕ → Edge
 edge a b len = record { first = a; second = b; len = len }
-
-unfoldable pub edgeBytes : List Edge → List ℕ
-edgeBytes [] = []
-edgeBytes (e ∷ es) =
-    0x50 ∷ e .first % 256 ∷ e .first / 256 ∷ e .second % 256 ∷ e .second / 256 ∷ bytes4 (e .len) ++ edgeBytes es
-
--- the bytes of a list: the header, n vertices, then edges
-unfoldable pub listOf : ℕ → List Edge → List ℕ
-listOf n es = ascii "PNL" ++ (1 ∷ 0 ∷ replicate n 0x46) ++ edgeBytes es
 
 -- what holds after growing from a list
 unfoldable pub labelsAfter : ℕ → List ℕ → List ℕ
@@ -157,3 +152,25 @@ pub record Readings : Type 0 where
   pub c-none : cDistance (listOf 2 []) 0 1 (replicate 4 7) ≡ record { slice = replicate 4 255; value = pos 4 }
   pub c-sheet : cSheet (oneEdge 1 0 3) (replicate 21 7)
       ≡ record { slice = bytes4 0 ++ bytes4 0 ++ bytes4 1 ++ bytes4 0 ++ bytes4 3 ++ (7 ∷ []); value = pos 20 }
+
+-- ---- document 02, S-1: the list back
+
+unfoldable pub writtenAfter : List ℕ → List ℕ
+writtenAfter bs = written ((growList bs) .register)
+
+-- a vertex between two edges: F F P F P
+unfoldable pub interleaved : List ℕ
+interleaved = header ++ (0x46 ∷ 0x46 ∷ edgeBytes (edge 1 0 70000)) ++ (0x46 ∷ edgeBytes (edge 1 2 1))
+
+pub record WrittenBack : Type 0 where
+  -- all vertices come first; version, ends as named, 70,000 mm
+  pub vertices-first : writtenAfter interleaved
+      ≡ ascii "PNL" ++ (1 ∷ 0 ∷ []) ++ ascii "FFFP" ++ (1 ∷ 0 ∷ 0 ∷ 0 ∷ 112 ∷ 17 ∷ 1 ∷ 0 ∷ []) ++ ascii "P" ++ (1 ∷ 0 ∷ 2 ∷ 0 ∷ 1 ∷ 0 ∷ 0 ∷ 0 ∷ [])
+  pub house-back : writtenAfter house ≡ house
+  -- which vertex an edge names first decides a tie, so it stays first
+  pub tie-back : writtenAfter (tie 3 2) ≡ tie 3 2
+  -- of a list that stops, what stands
+  pub stopped-back : writtenAfter (listOf 2 (edge 0 1 5 ∷ edge 0 0 5 ∷ [])) ≡ listOf 2 (edge 0 1 5 ∷ [])
+  pub nothing-landed : answer (writing (replicate 5 7)) empty ≡ record { slice = ascii "PNL" ++ (1 ∷ 0 ∷ []); reply = wrote 5 }
+  pub too-short : answer (writing (replicate 4 7)) empty ≡ record { slice = replicate 4 7; reply = refuses 9 }
+  pub rest-stays : answer (writing (replicate 7 7)) empty ≡ record { slice = ascii "PNL" ++ (1 ∷ 0 ∷ 7 ∷ 7 ∷ []); reply = wrote 5 }

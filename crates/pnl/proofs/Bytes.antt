@@ -1,12 +1,13 @@
 -- Numbers written as bytes, and what an answer slice holds then.
 use mathlib.Core.Path.{_≡_, refl, sym, _∙_}
-use Prim.Native.Nat.{ℕ, _*_, _/_, _%_, _≤_, _<_}
+use Prim.Native.Nat.{ℕ, _*_, _≤_, _<_}
 use native.Mathlib.Omega.{arith}
 use mathlib.Core.List.{List, [], _∷_, _++_, append-nil, append-assoc}
 use lib.ListN.{length}
 use lib.IntN.{ℤ, pos, negℤ}
 use borrow.Author.Tests.{lt-ltb, le-ltb}
-use Rattle.model.specs.FromC.{Returned, bytes4, bytesOf, returnsNumbers, returnsRefusal}
+use Rattle.model.specs.Basics.{bytes4}
+use Rattle.model.specs.FromC.{Returned, bytesOf, returnsNumbers, returnsRefusal}
 use Rattle.text.specs.Pages.{Page, page, write}
 use Rattle.text.proofs.PageLaws.{write-front}
 use Rattle.text.proofs.Pieces.{Pieces}
@@ -23,12 +24,6 @@ pub bytesOf-append : (ms ns : List ℕ) → bytesOf (ms ++ ns) ≡ bytesOf ms ++
 unfolding bytesOf
 bytesOf-append [] ns = refl
 bytesOf-append (m ∷ ms) ns = rw (bytesOf-append ms ns) (sym (append-assoc (bytes4 m) (bytesOf ms) (bytesOf ns)))
-
--- a number byte by byte
-pub word-law : (n a b c d : ℕ) (p q r s t : Page) → a ≡ n % 256 → q ≡ write (a ∷ []) p → b ≡ n / 256 % 256 → r ≡ write (b ∷ []) q
-    → c ≡ n / 65536 % 256 → s ≡ write (c ∷ []) r → d ≡ n / 16777216 % 256 → t ≡ write (d ∷ []) s → t ≡ write (bytes4 n) p
-unfolding bytes4 write
-word-law n a b c d p q r s t e₁ f₁ e₂ f₂ e₃ f₃ e₄ f₄ = rw (← e₁, ← e₂, ← e₃, ← e₄, ← f₁, ← f₂, ← f₃) f₄
 
 -- numbers one by one
 pub words : Pieces bytesOf

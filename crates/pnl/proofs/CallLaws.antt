@@ -9,7 +9,7 @@ use Rattle.model.specs.Register.{Register}
 use Rattle.model.specs.Format.{Stop, whole, stopped, growList}
 use Rattle.model.specs.FromC.{Returned, fromC, returnsNumbers, returnsRefusal, returnsReply}
 use Rattle.model.specs.Queries.{Reply, listed, find, reach, measure, sheet, sheetNumbers, concat}
-use Rattle.model.specs.Calls.{Effect, answers, effect}
+use Rattle.model.specs.Calls.{Effect, answer, answers, effect}
 use Rattle.model.specs.Tables.{Tables, Counts, cleared, noCounts, storedOf}
 use Rattle.model.specs.Notions.{HeldOf}
 use Rattle.model.proofs.Registers.OnlyHeld.{held-counts, held-tables}
@@ -65,7 +65,7 @@ module _ (d s e l lb : List ℕ) (c : Counts) (r : Register) (h : HeldOf (stored
 
   pub find-query : (label : ℕ) (a : Reply) → a ≡ findIn (tables d s e l (take maxVertices lb)) c label → z ≡ returnsReply r slice a
       → z ≡ returnsReply r slice (find r label)
-  unfolding effect answers
+  unfolding effect answer answers
   find-query label a p q =
       let k = find-answers d s e l lb c label a p r h in
       q ∙ ap (returnsReply r slice) (ap (λ (x : Effect). x .reply) (sym k))

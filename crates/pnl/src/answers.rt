@@ -6,13 +6,13 @@ use lookups::reach::Reached;
 use queries::numbers::wide;
 use search::shortest::Distance;
 use tables::access::at32;
-use text::writing::put_byte;
+use text::bytes::put_word;
 ghost use mathlib.Core.Path.{_≡_};
-ghost use Prim.Native.Nat.{_*_, _%_, _≤_};
+ghost use Prim.Native.Nat.{_*_, _≤_};
 ghost use lib.IntN.{pos, negℤ};
 ghost use lib.ListN.{length};
 ghost use Rattle.model.specs.Register.{Register};
-ghost use Rattle.model.specs.FromC.{bytes4, bytesOf, returnsNumbers, returnsReply};
+ghost use Rattle.model.specs.FromC.{bytesOf, returnsNumbers, returnsReply};
 ghost use Rattle.counters.specs.Refusals.{numberOf};
 ghost use Rattle.lookups.specs.Meaning.{foundReply, reachedReply};
 ghost use Rattle.distance.specs.Meaning.{measuredReply};
@@ -32,22 +32,6 @@ pub fn counted(n: usize) -> i32
     ensures { λ r. ⌜ r ≡ pos n ⌝ }
 {
     n as i32
-}
-
-fn byte_of(n: u32) -> u8
-    ensures { λ r. ⌜ r ≡ n % 256 ⌝ }
-{
-    (n % 256) as u8
-}
-
-// A number, its lowest byte first.
-fn put_word(out: &mut [u8], at: usize, n: u32) -> usize
-    ensures { λ r. ⌜ page (now (out .exit)) r ≡ write (bytes4 n) (page (now (out .entry)) at) ⌝ }
-{
-    let second = put_byte(out, at, byte_of(n));
-    let third = put_byte(out, second, byte_of(n / 256));
-    let fourth = put_byte(out, third, byte_of(n / 65536));
-    put_byte(out, fourth, byte_of(n / 16777216))
 }
 
 pub fn put_words(out: &mut [u8], at: usize, numbers: &[u32]) -> usize

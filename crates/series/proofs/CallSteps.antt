@@ -16,7 +16,7 @@ use denote.Triple.Entry.{Args, Res}
 use denote.Triple.Clauses.{AtExit, ClausesAt, Ended}
 use Rattle.model.specs.Queries.{Reply}
 use Rattle.model.specs.Tables.{Tables}
-use Rattle.model.specs.Calls.{Call, finds, grows, lands, measures, reaches, sheets, step}
+use Rattle.model.specs.Calls.{Call, finds, grows, lands, measures, reaches, sheets, step, writes}
 use Rattle.counters.specs.declared.counts.Counts.{Counts}
 use Rattle.counters.specs.declared.answers.ListAnswer.{ListAnswer}
 use Rattle.counters.specs.Answers.{countsIn, listReply}
@@ -24,10 +24,11 @@ use Rattle.tables.specs.Steps.{tables}
 use Rattle.admission.specs.Lent.{lent, outcome}
 use Rattle.calls.proofs.grow.grow as grow
 use Rattle.calls.proofs.land.land as land
-use Rattle.lookups.specs.Meaning.{foundReply, listedReply, reachedReply}
+use Rattle.lookups.specs.Meaning.{foundReply, listedReply, reachedReply, writtenReply}
 use Rattle.lookups.proofs.find.find as find
 use Rattle.lookups.proofs.reach.reach as reach
 use Rattle.lookups.proofs.sheet.sheet as sheet
+use Rattle.lookups.proofs.write.write as write
 use Rattle.distance.specs.Meaning.{measuredReply}
 use Rattle.distance.proofs.query.distance as distance
 
@@ -82,6 +83,10 @@ module _ {M : Type 1} (𝓤 : URA M) (H : Heap 𝓤) (A : Atoms 𝓤) (mem : Mem
   pub sheet-steps : (κs : Lfts 11) (a : Args sheet.signature κs)
       → sheet.clauses 𝓤 H A mem run κs a ≡ Ensures sheet.ended κs (λ r z. Steps a z (now (own z .0)) (listedReply r) (sheets (now (own a .0))))
   sheet-steps κs a = refl
+
+  pub write-steps : (κs : Lfts 11) (a : Args write.signature κs)
+      → write.clauses 𝓤 H A mem run κs a ≡ Ensures write.ended κs (λ r z. Steps a z (now (own z .0)) (writtenReply r) (writes (now (own a .0))))
+  write-steps κs a = refl
 
   pub distance-steps : (κs : Lfts 10) (a : Args distance.signature κs)
       → distance.clauses 𝓤 H A mem run κs a

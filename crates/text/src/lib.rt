@@ -1,3 +1,6 @@
-// Text, or numbers, written into a lent slice from a position on. Each function answers the next position, and stops at the slice's end.
+// Text, numbers, or the parts of a list, written into a lent slice from a position on. Each function answers the next position, and stops
+// at the slice's end.
+pub mod bytes;
 pub mod lines;
+pub mod records;
 pub mod writing;

@@ -10,10 +10,10 @@ use counters::sizes::EDGES;
 use counters::sizes::ENDS;
 use counters::sizes::SIDES;
 use counters::sizes::VERTICES;
-use lists::put_edge;
 use lists::put_edges;
 use lists::put_start;
 use text::lines::put_line4;
+use text::records::put_edge;
 use text::writing::put_byte;
 
 fn record_of(answer: ListAnswer) -> u64 {

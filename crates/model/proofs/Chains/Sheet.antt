@@ -7,20 +7,18 @@ use native.Mathlib.Nat.{add-zero}
 use native.Mathlib.Decide.{ℕ-discrete}
 use mathlib.Core.List.{List, [], _∷_, _++_}
 use lib.ListN.{length, drop, length-append}
-use lib.Dec.{ltb}
 use borrow.Author.Tests.{eq-eqb, ne-eqb, le-ltb}
 use Rattle.model.specs.Basics.{countFrom, inFront, sum, upTo}
 use Rattle.model.specs.Graph.{Edge, chainLength, edgeAt, lengthAt, nameOf}
 use Rattle.model.specs.Register.{Register}
 use Rattle.model.specs.Queries.{concat, listed, row, rowsOf, sheet, sheetNumbers}
 use Rattle.model.specs.Tables.{edgeLengths}
-use Rattle.model.specs.Calls.{Effect, sheetEffect}
+use Rattle.model.specs.Calls.{answer, fills, sheeting}
 use Rattle.model.specs.Series.{lengthColumn}
 use Rattle.model.proofs.Basics.Counting.{same-eq, same-ne}
 use Rattle.model.proofs.Walks.Degree.{Proper}
 use Rattle.model.proofs.Walks.RingFree.{RingFree}
 use Rattle.model.proofs.Basics.Total.{total, total-front}
-use Rattle.model.proofs.Basics.Booleans.{if-either}
 use Rattle.model.proofs.Chains.Sums.{named, chains-sum}
 
 -- ---- sums over the numbers below n, from the front and from the back
@@ -102,12 +100,8 @@ sheet-length r = length-rows (r .edges) (upTo (length (r .edges)))
 
 -- ---- the sheet in a slice
 
-pub sheet-leaves : (r : Register) (slice : List ℕ) → (sheetEffect r slice) .leaves ≡ r
-unfolding sheetEffect
-sheet-leaves r slice = if-either (λ (e : Effect). e .leaves ≡ r) (ltb (length slice) (length (sheetNumbers r))) _ _ refl refl
-
 -- a slice that is long enough
-pub sheet-into : (r : Register) (slice : List ℕ) → 5 * length (sheet r) ≤ length slice → sheetEffect r slice
-    ≡ record { leaves = r; slice = sheetNumbers r ++ drop (5 * length (sheet r)) slice; reply = listed (length (sheet r)) }
-unfolding sheetEffect inFront
+pub sheet-into : (r : Register) (slice : List ℕ) → 5 * length (sheet r) ≤ length slice → answer (sheeting slice) r
+    ≡ record { slice = sheetNumbers r ++ drop (5 * length (sheet r)) slice; reply = listed (length (sheet r)) }
+unfolding answer fills inFront
 sheet-into r slice h = rw (sheet-length r, le-ltb (length slice) (5 * length (sheet r)) h)

@@ -102,7 +102,7 @@ vertices-land (suc n) m h =
     ∙ vertices-land n (m + 1) (omega arith)
     ∙ ap {B = Landed} landed (ap onVertices e)
 
-empty-is : empty ≡ onVertices 0
+pub empty-is : empty ≡ onVertices 0
 unfolding empty onVertices
 empty-is = refl
 

@@ -40,7 +40,7 @@ same-contents r s k l v e =
 
 -- ---- a vertex and an edge land in either order, with the same register
 
-with-edge-vertices : (r : Register) (e : Edge) → (withEdge r e) .vertices ≡ r .vertices
+pub with-edge-vertices : (r : Register) (e : Edge) → (withEdge r e) .vertices ≡ r .vertices
 unfolding withEdge
 with-edge-vertices r e = refl
 

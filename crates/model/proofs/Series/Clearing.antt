@@ -11,10 +11,10 @@ use lib.Dec.{ltb}
 use Rattle.model.specs.Basics.{if_then_else_, upTo}
 use Rattle.model.specs.Graph.{isRegular}
 use Rattle.model.specs.Register.{Register, empty}
-use Rattle.model.specs.Format.{growList}
-use Rattle.model.specs.Queries.{Reply, chainAt, find, found, listed, measure, measured, reach, reached, read, refuses, sheetNumbers, vertexWith}
+use Rattle.model.specs.Format.{growList, written}
+use Rattle.model.specs.Queries.{Reply, chainAt, find, found, listed, measure, measured, reach, reached, read, refuses, sheetNumbers, vertexWith, wrote}
 use Rattle.model.specs.Tables.{fits}
-use Rattle.model.specs.Calls.{Call, Effect, answers, effect, finds, grows, lands, measures, reaches, readEffect, sheetEffect, sheets}
+use Rattle.model.specs.Calls.{Answer, Ask, Call, answer, answers, asks, effect, fills, finding, grows, lands, measuring, reaching, readEffect, sheeting, writing}
 use Rattle.model.specs.Series.{Demand3, Landing, Made, accepts, after, afterCall, landedBy, makes, series, since, start}
 use Rattle.model.proofs.Basics.Booleans.{if-either}
 use Rattle.model.proofs.Series.Whole.{demand3}
@@ -28,46 +28,55 @@ refusalOf (found d) = 0
 refusalOf (reached low high) = 0
 refusalOf (measured l) = 0
 refusalOf (listed n) = 0
+refusalOf (wrote n) = 0
 refusalOf (refuses n) = n
 
--- a result, or one of the refusals up to 9: what a call on a register answers
+-- a result, or a refusal that is neither 21 nor 25: what a call on a register answers
 abbrev Own : Reply → Type 0
-Own a = refusalOf a ≤ 9
+Own a = (refusalOf a ≢ 21) × (refusalOf a ≢ 25)
+
+own : (n : ℕ) → n ≤ 9 → (n ≢ 21) × (n ≢ 25)
+own n h = (λ e. omega arith, λ e. omega arith)
 
 own-find : (r : Register) (label : ℕ) → Own (find r label)
 unfolding find refusalOf
 own-find r label = go (vertexWith r label (upTo (r .vertices)))
   where
     go : (o : Option ℕ) → Own (elim o [ some v ↦ found (chainAt r v) | none ↦ refuses 8 ])
-    go (some v) = omega arith
-    go none = omega arith
+    go (some v) = own 0 (omega arith)
+    go none = own 8 (omega arith)
 
 own-reach : (r : Register) (v : ℕ) → Own (reach r v)
 unfolding reach refusalOf
 own-reach r v =
-    if-either Own (not (ltb v (r .vertices))) (refuses 5) _ (omega arith)
-    (if-either Own (not (isRegular (r .edges) v)) (refuses 8) _ (omega arith) (omega arith))
+    if-either Own (not (ltb v (r .vertices))) (refuses 5) _ (own 5 (omega arith))
+    (if-either Own (not (isRegular (r .edges) v)) (refuses 8) _ (own 8 (omega arith)) (own 0 (omega arith)))
 
 own-measure : (r : Register) (v w : ℕ) → Own (measure r v w)
 unfolding measure refusalOf
-own-measure r v w = if-either Own (not (ltb v (r .vertices) && ltb w (r .vertices))) (refuses 5) _ (omega arith) (omega arith)
+own-measure r v w = if-either Own (not (ltb v (r .vertices) && ltb w (r .vertices))) (refuses 5) _ (own 5 (omega arith)) (own 0 (omega arith))
 
-own-sheet : (r : Register) (slice : List ℕ) → Own ((sheetEffect r slice) .reply)
-unfolding sheetEffect refusalOf
-own-sheet r slice = if-either (λ (x : Effect). Own (x .reply)) (ltb (length slice) (length (sheetNumbers r))) _ _ (omega arith) (omega arith)
+own-fills : (slice ns : List ℕ) (a : Reply) → Own a → Own ((fills slice ns a) .reply)
+unfolding fills refusalOf
+own-fills slice ns a h = if-either (λ (x : Answer). Own (x .reply)) (ltb (length slice) (length ns)) _ _ (own 9 (omega arith)) h
+
+own-answer : (q : Ask) (r : Register) → Own ((answer q r) .reply)
+unfolding answer answers refusalOf
+own-answer (finding label) r = own-find r label
+own-answer (reaching v) r = own-reach r v
+own-answer (measuring v w) r = own-measure r v w
+own-answer (sheeting slice) r = own-fills slice (sheetNumbers r) _ (own 0 (omega arith))
+own-answer (writing slice) r = own-fills slice (written r) _ (own 0 (omega arith))
 
 own-effect : (c : Call) (r : Register) → Own ((effect c r) .reply)
-unfolding effect readEffect answers refusalOf
-own-effect (grows bs) r = omega arith
-own-effect (lands bs) r = omega arith
-own-effect (finds label) r = own-find r label
-own-effect (reaches v) r = own-reach r v
-own-effect (measures v w) r = own-measure r v w
-own-effect (sheets slice) r = own-sheet r slice
+unfolding effect readEffect refusalOf
+own-effect (grows bs) r = own 0 (omega arith)
+own-effect (lands bs) r = own 0 (omega arith)
+own-effect (asks q) r = own-answer q r
 
 twenty-one : (b : Bool) (x : Reply) → Own x → (if b then x else refuses 25) ≡ refuses 21 → ⊥
 unfolding refusalOf
-twenty-one true x h e = let z : refusalOf x ≡ 21 = ap refusalOf e in omega arith
+twenty-one true x h e = h .0 (ap refusalOf e)
 twenty-one false x h e = let z : _≡_ {A = ℕ} 25 21 = ap refusalOf e in omega arith
 
 pub never-21 : (ms : List Made) (m : Made) → (makes m (series ms start)) .reply ≢ refuses 21
@@ -86,10 +95,7 @@ since-append (m ∷ ms) ns r ls = since-append ms ns (afterCall m r) (if fits (m
 abbrev pub IsGrow : Call → Type 0
 IsGrow (grows bs) = Unit {0}
 IsGrow (lands bs) = ⊥
-IsGrow (finds label) = ⊥
-IsGrow (reaches v) = ⊥
-IsGrow (measures v w) = ⊥
-IsGrow (sheets slice) = ⊥
+IsGrow (asks q) = ⊥
 
 -- none of the calls clears: each is no grow, or is refused with 25
 abbrev pub NoneClears : List Made → Type 0
@@ -100,10 +106,7 @@ accepts-more : (c : Call) (r : Register) (ls ks : List Landing) → (IsGrow c �
 unfolding accepts
 accepts-more (grows bs) r ls ks n = absurd (n tt)
 accepts-more (lands bs) r ls ks n = append-assoc ls ks (landedBy r bs)
-accepts-more (finds label) r ls ks n = refl
-accepts-more (reaches v) r ls ks n = refl
-accepts-more (measures v w) r ls ks n = refl
-accepts-more (sheets slice) r ls ks n = refl
+accepts-more (asks q) r ls ks n = refl
 
 since-more : (ms : List Made) (r : Register) (ls ks : List Landing) → NoneClears ms → since ms r (ls ++ ks) ≡ ls ++ since ms r ks
 unfolding since

@@ -12,7 +12,7 @@ use Rattle.model.specs.Register.{Register, empty, labelOf}
 use Rattle.model.specs.Distance.{distance}
 use Rattle.model.specs.Queries.{Reply, find, listed, refuses, sheet, sheetNumbers}
 use Rattle.model.specs.Tables.{Stored, Tables, countsOf, edgeLengths, fits, storedOf}
-use Rattle.model.specs.Calls.{Call, Effect, Outcome, answers, effect, finds, measures, sheetEffect, sheets}
+use Rattle.model.specs.Calls.{Answer, Call, Outcome, answer, answers, effect, finds, measures, sheeting, sheets}
 use Rattle.model.specs.Series.{AtEnd, Demand3, DistanceAnswer, FindsOwn, Landing, Made, SheetAnswer, after, afterCall, landedEdges, lengthColumn, makes, series, since}
 use Rattle.model.specs.Notions.{Reachable}
 use Rattle.model.proofs.Walks.Degree.{Proper}
@@ -72,7 +72,7 @@ module _ (r : Register) (k : Kept r) where
     unfolding effect outcomeOf
     sheet-answer slice total e h =
         record {
-          reply-is = ap (λ (o : Outcome). o .reply) (asked-is (sheets slice)) ∙ ap (λ (x : Effect). x .reply) into;
+          reply-is = ap (λ (o : Outcome). o .reply) (asked-is (sheets slice)) ∙ ap (λ (x : Answer). x .reply) into;
           front = front;
           rest = ap (λ (xs : List ℕ). drop n xs) written ∙ parts .1;
           adds-up = ap (λ (xs : List ℕ). sum (lengthColumn xs)) front ∙ sheet-sum r proper rings ∙ e;
@@ -84,11 +84,11 @@ module _ (r : Register) (k : Kept r) where
         n : ℕ
         n = 5 * length (sheet r)
 
-        into : sheetEffect r slice ≡ record { leaves = r; slice = ns ++ drop n slice; reply = listed (length (sheet r)) }
+        into : answer (sheeting slice) r ≡ record { slice = ns ++ drop n slice; reply = listed (length (sheet r)) }
         into = sheet-into r slice h
 
         written : (asked (sheets slice)) .slice ≡ ns ++ drop n slice
-        written = ap (λ (o : Outcome). o .slice) (asked-is (sheets slice)) ∙ ap (λ (x : Effect). x .slice) into
+        written = ap (λ (o : Outcome). o .slice) (asked-is (sheets slice)) ∙ ap (λ (x : Answer). x .slice) into
 
         parts : (take n (ns ++ drop n slice) ≡ ns) × (drop n (ns ++ drop n slice) ≡ drop n slice)
         parts =
@@ -99,13 +99,13 @@ module _ (r : Register) (k : Kept r) where
         front = ap (λ (xs : List ℕ). take n xs) written ∙ parts .0
 
     find-answer : (v : ℕ) → isRegular (r .edges) v ≡ true → FindsOwn (r .edges) v ((asked (finds (labelOf r v))) .reply)
-    unfolding effect outcomeOf answers
+    unfolding effect answer outcomeOf answers
     find-answer v c =
         let told : (asked (finds (labelOf r v))) .reply ≡ find r (labelOf r v) = ap (λ (o : Outcome). o .reply) (asked-is (finds (labelOf r v))) in
         subst (λ (a : Reply). FindsOwn (r .edges) v a) (sym told) (finds-chain r (k .labelled) v c)
 
     distance-answer : (v w : ℕ) → v < r .vertices → w < r .vertices → DistanceAnswer (r .edges) v w ((asked (measures v w)) .reply)
-    unfolding effect outcomeOf answers
+    unfolding effect answer outcomeOf answers
     distance-answer v w a b =
         let l = distance (r .edges) v w in
         let e = is-distance (r .edges) v w in

@@ -1,7 +1,7 @@
 use Rattle.distance.proofs.CallLaws.{open-measurable, open-answers}
 use Rattle.admission.proofs.QueryLaws.{query-refused}
 use Rattle.admission.specs.Gate.{gateRefusal}
-use Rattle.model.specs.Calls.{measures, registerFor, lentSlice}
+use Rattle.model.specs.Calls.{measures, registerFor, lentSlice, lentTo}
 use mathlib.Core.Path.{refl, sym, ap, _∙_}
 use borrow.Author.Needs.{needs}
 use Rattle.distance.proofs.query.distance.Statement.{statement}
@@ -21,7 +21,7 @@ returns c =
     open-answers _ _ _ _ (ap gateRefusal (sym (at-enum-told .enum-told .given .1)) ∙ at-pass-gate .pass-gate .ensures .0) (at-pass-gate .pass-gate .ensures .1) _ _ _ _ (at-measure .measure .ensures .0) (at-measure .measure .ensures .1 _ _ _)
 
 returns-2 : tie.Need-returns-2
-unfolding registerFor lentSlice
+unfolding registerFor lentSlice lentTo
 returns-2 c =
     let at-pass-gate = c .before .before .before .before .before .before .before .before .before .before .before .before .before in
     query-refused (measures _ _) _ refl _ _ (ap gateRefusal (sym (c .before .passed .given .1)) ∙ at-pass-gate .pass-gate .ensures .0) (at-pass-gate .pass-gate .ensures .1)

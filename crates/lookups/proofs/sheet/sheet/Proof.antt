@@ -1,5 +1,5 @@
 use mathlib.Core.Path.{refl, sym, ap, _∙_}
-use Rattle.model.specs.Calls.{sheets, registerFor, lentSlice}
+use Rattle.model.specs.Calls.{sheets, registerFor, lentSlice, lentTo}
 use Rattle.admission.specs.Gate.{gateRefusal}
 use Rattle.lookups.proofs.AnswerLaws.{sheet-answers}
 use Rattle.admission.proofs.QueryLaws.{query-refused, query-answered}
@@ -15,7 +15,7 @@ returns c =
     (sheet-answers _ _ _ _ _ (c .before .before .sheet-in .ensures _))
 
 returns-2 : tie.Need-returns-2
-unfolding registerFor lentSlice
+unfolding registerFor lentSlice lentTo
 returns-2 c =
     let at-pass-gate = c .before .before .before .before .before .before .before .before .before .before .before .before .before in
     query-refused (sheets _) _ refl _ _ (ap gateRefusal (sym (c .before .passed .given .1)) ∙ at-pass-gate .pass-gate .ensures .0) (at-pass-gate .pass-gate .ensures .1)

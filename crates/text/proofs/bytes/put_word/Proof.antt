@@ -1,7 +1,7 @@
-use Rattle.pnl.proofs.Bytes.{word-law}
+use Rattle.text.proofs.ByteLaws.{word-law}
 use borrow.Author.Needs.{needs}
-use Rattle.pnl.proofs.answers.put_word.Statement.{statement}
-use Rattle.pnl.proofs.answers.put_word.Tie as tie
+use Rattle.text.proofs.bytes.put_word.Statement.{statement}
+use Rattle.text.proofs.bytes.put_word.Tie as tie
 
 returns : tie.Need-returns
 returns c =

@@ -1,0 +1,45 @@
+-- Numbers byte by byte, and the parts of a list.
+use mathlib.Core.Path.{_≡_, refl, sym}
+use Prim.Native.Nat.{ℕ, zero, suc, _-_, _/_, _%_, _≤_, _<_}
+use native.Mathlib.Nat.{not-suc-le-zero}
+use native.Mathlib.Numerals.{sub-one}
+use mathlib.Core.List.{List, [], _∷_, _++_}
+use lib.ListN.{replicate}
+use Rattle.model.specs.Basics.{bytes2, bytes4}
+use Rattle.model.specs.Format.{edgeBytes, header}
+use Rattle.text.specs.Pages.{Page, write}
+use Rattle.text.proofs.PageLaws.{write-append, write-two}
+
+pub two-law : (n a b : ℕ) (p q r : Page) → a ≡ n % 256 → q ≡ write (a ∷ []) p → b ≡ n / 256 % 256 → r ≡ write (b ∷ []) q
+    → r ≡ write (bytes2 n) p
+unfolding bytes2 write
+two-law n a b p q r e₁ f₁ e₂ f₂ = rw (← e₁, ← e₂, ← f₁) f₂
+
+pub word-law : (n a b c d : ℕ) (p q r s t : Page) → a ≡ n % 256 → q ≡ write (a ∷ []) p → b ≡ n / 256 % 256 → r ≡ write (b ∷ []) q
+    → c ≡ n / 65536 % 256 → s ≡ write (c ∷ []) r → d ≡ n / 16777216 % 256 → t ≡ write (d ∷ []) s → t ≡ write (bytes4 n) p
+unfolding bytes4 write
+word-law n a b c d p q r s t e₁ f₁ e₂ f₂ e₃ f₃ e₄ f₄ = rw (← e₁, ← e₂, ← e₃, ← e₄, ← f₁, ← f₂, ← f₃) f₄
+
+-- ---- a list
+
+pub header-law : (word : List ℕ) (p q r : Page) → word ≡ 0x50 ∷ 0x4E ∷ 0x4C ∷ [] → q ≡ write word p → r ≡ write (bytes2 1) q
+    → r ≡ write header p
+unfolding header
+header-law word p q r w e f = write-two (0x50 ∷ 0x4E ∷ 0x4C ∷ []) (bytes2 1) p q r (rw w at e) f
+
+pub edge-law : (a b len : ℕ) (p q r s t : Page) → q ≡ write (0x50 ∷ []) p → r ≡ write (bytes2 a) q → s ≡ write (bytes2 b) r
+    → t ≡ write (bytes4 len) s → t ≡ write (edgeBytes (record { first = a; second = b; len = len })) p
+unfolding edgeBytes
+edge-law a b len p q r s t e₁ e₂ e₃ e₄ =
+    write-two (0x50 ∷ bytes2 a) (bytes2 b ++ bytes4 len) p r t (write-two (0x50 ∷ []) (bytes2 a) p q r e₁ e₂)
+    (write-two (bytes2 b) (bytes4 len) r s t e₃ e₄)
+
+-- a loop that writes one byte n times: a turn of it, and its end
+pub copies-on : (x k : ℕ) (p q : Page) → 0 < k → q ≡ write (x ∷ []) p → write (replicate (k - 1) x) q ≡ write (replicate k x) p
+copies-on x zero p q h e = absurd (not-suc-le-zero h)
+copies-on x (suc k) p q h e = rw (sub-one, e) (sym (write-append (x ∷ []) (replicate k x) p))
+
+pub copies-end : (x k : ℕ) (p : Page) → k ≤ 0 → p ≡ write (replicate k x) p
+unfolding write
+copies-end x zero p h = refl
+copies-end x (suc k) p h = absurd (not-suc-le-zero h)
