@@ -6,7 +6,7 @@ use Prim.Native.Nat.{ℕ, _<_}
 use mathlib.Core.Bool.{true, false}
 use mathlib.Core.List.{List}
 use lib.ListN.{length, getD}
-use Rattle.model.specs.Graph.{Edge, Pass, edgeAt, endOf, endOnwards, far, isRegular, onRing, onwards, round, until, walk}
+use Rattle.model.specs.Graph.{Edge, Pass, edgeAt, endOf, endOnwards, far, isRegular, edgeOnRing, onwards, onceRound, until, walk}
 use Rattle.model.specs.Register.{Register}
 use Rattle.model.specs.Tables.{tablesOf}
 use Rattle.model.specs.Notions.{Reachable}
@@ -24,8 +24,8 @@ secondOf r d = (edgeAt (r .edges) d) .second
 
 -- round a ring
 pub record Around (r : Register) (d : ℕ) : Type 0 where
-  pub passed : until (firstOf r d) (walk (length (r .edges)) (r .edges) d (secondOf r d)) ≡ round (r .edges) d (firstOf r d)
-  pub ends-at : endOf (r .edges) (secondOf r d) (round (r .edges) d (firstOf r d)) ≡ firstOf r d
+  pub passed : until (firstOf r d) (walk (length (r .edges)) (r .edges) d (secondOf r d)) ≡ onceRound (r .edges) d (firstOf r d)
+  pub ends-at : endOf (r .edges) (secondOf r d) (onceRound (r .edges) d (firstOf r d)) ≡ firstOf r d
   pub two : getD ((tablesOf r) .degrees) (firstOf r d) 0 ≡ 2
 
 -- on a chain
@@ -37,11 +37,11 @@ pub record Both (r : Register) (d : ℕ) : Type 0 where
   pub back-ends : endOf (r .edges) (firstOf r d) (onwards (r .edges) d (firstOf r d)) ≡ endOnwards (r .edges) d (firstOf r d)
 
 pub record Ends (r : Register) (d : ℕ) : Type 0 where
-  pub ring : onRing (r .edges) d ≡ true → Around r d
-  pub chain : onRing (r .edges) d ≡ false → Both r d
+  pub ring : edgeOnRing (r .edges) d ≡ true → Around r d
+  pub chain : edgeOnRing (r .edges) d ≡ false → Both r d
 
 pub chain-ends : (r : Register) → Reachable r → (d : ℕ) → d < length (r .edges) → Ends r d
-unfolding onwards round endOnwards
+unfolding onwards onceRound endOnwards
 chain-ends r g d h = record { ring = around; chain = both }
   where
     es : List Edge
@@ -68,16 +68,16 @@ chain-ends r g d h = record { ring = around; chain = both }
     fb : far es d b ≡ a
     fb = far-second es pr d h
 
-    around : onRing es d ≡ true → Around r d
+    around : edgeOnRing es d ≡ true → Around r d
     around t =
         let k = round-end es pr d a at-a t in
         record {
           passed = ap (λ (w : ℕ). until a (walk (length es) es d w)) (sym fa);
-          ends-at = subst (λ (w : ℕ). endOf es w (round es d a) ≡ a) fa (k .0);
+          ends-at = subst (λ (w : ℕ). endOf es w (onceRound es d a) ≡ a) fa (k .0);
           two = two-read r g d a at-a (k .1);
         }
 
-    both : onRing es d ≡ false → Both r d
+    both : edgeOnRing es d ≡ false → Both r d
     both f =
         let at-end : At es (endOnwards es d b) (open-onto es pr d a at-a f) = subst (λ (w : ℕ). At es (endOnwards es d w) (open-onto es pr d a at-a f)) fa (open-at es pr d a at-a f) in
         let s : isRegular es (endOnwards es d b) ≡ false = subst (λ (w : ℕ). isRegular es (endOnwards es d w) ≡ false) fa (open-singular es pr d a at-a f) in

@@ -12,8 +12,8 @@ use lib.ListN.{length, getD}
 use lib.Dec.{eqb, ltb}
 use borrow.Author.Tests.{eq-eqb, ne-eqb, eqb-true, eqb-false, ltb-true}
 use Rattle.model.specs.Basics.{if_then_else_, maxVertices, sum}
-use Rattle.model.specs.Graph.{Edge, afterOf, chainLength, degree, endOf, endOnwards, far, isRegular, lengthAt, lengthsOf, lowerEdge, onRing, onwards, round, turn}
-use Rattle.model.specs.Labels.{ringAt}
+use Rattle.model.specs.Graph.{Edge, afterOf, chainLength, degree, endOf, endOnwards, far, isRegular, lengthAt, lengthsOf, lowerNumbered, edgeOnRing, onwards, onceRound, turn}
+use Rattle.model.specs.Labels.{vertexOnRing}
 use Rattle.model.specs.Distance.{lengthVia}
 use Rattle.model.specs.Register.{Register, lowEdgeOf}
 use Rattle.model.specs.Queries.{Reply, chainAt, find, lengthTo, reach, reached, refuses}
@@ -63,49 +63,49 @@ module _ (r : Register) (g : Reachable r) (d v : ℕ) (a : At (r .edges) v d) wh
   abbrev es₁ : List Edge
   es₁ = r .edges
 
-  way-is : wayOver (tablesOf r) (length es₁) d v ≡ walkedBy es₁ v (far es₁ d v) (round es₁ d v)
-  unfolding wayIn round onwards
+  way-is : wayOver (tablesOf r) (length es₁) d v ≡ walkedBy es₁ v (far es₁ d v) (onceRound es₁ d v)
+  unfolding wayIn onceRound onwards
   way-is =
       rw (far-is r d v (a .inside))
       (walks r g v (length es₁) d (far es₁ d v) (room r g) ((across es₁ d v (proper r g) a) .at))
 
-  end-is : endOver (tablesOf r) (length es₁) d v ≡ endOf es₁ (far es₁ d v) (round es₁ d v)
+  end-is : endOver (tablesOf r) (length es₁) d v ≡ endOf es₁ (far es₁ d v) (onceRound es₁ d v)
   unfolding endToIn
   end-is = ap (λ (w : WalkEnd). w .at) way-is
 
-  length-is-sum : lengthOver (tablesOf r) (length es₁) d v ≡ sum32 (lengthAt es₁ d) (sum (lengthsOf es₁ (map afterOf (round es₁ d v))))
+  length-is-sum : lengthOver (tablesOf r) (length es₁) d v ≡ sum32 (lengthAt es₁ d) (sum (lengthsOf es₁ (map afterOf (onceRound es₁ d v))))
   unfolding lengthToIn
   length-is-sum = rw (way-is, length-is r d (a .inside))
 
   -- in a ring
-  ring-two : onRing es₁ d ≡ true → getD ((tablesOf r) .degrees) (endOver (tablesOf r) (length es₁) d v) 0 ≡ 2
+  ring-two : edgeOnRing es₁ d ≡ true → getD ((tablesOf r) .degrees) (endOver (tablesOf r) (length es₁) d v) 0 ≡ 2
   ring-two t =
       let k = round-end es₁ (proper r g) d v a t in
       rw (end-is, k .0) (two-read r g d v a (k .1))
 
-  loop-sum : onRing es₁ d ≡ true → chainLength es₁ d ≡ lengthAt es₁ d + sum (lengthsOf es₁ (map afterOf (round es₁ d v)))
+  loop-sum : edgeOnRing es₁ d ≡ true → chainLength es₁ d ≡ lengthAt es₁ d + sum (lengthsOf es₁ (map afterOf (onceRound es₁ d v)))
   unfolding sum lengthsOf afters
   loop-sum t = ring-length es₁ (proper r g) d v a t
 
-  ring-way : onRing es₁ d ≡ true → lengthOver (tablesOf r) (length es₁) d v ≡ chainLength es₁ d
+  ring-way : edgeOnRing es₁ d ≡ true → lengthOver (tablesOf r) (length es₁) d v ≡ chainLength es₁ d
   ring-way t =
-      length-is-sum ∙ sum32-is (lengthAt es₁ d) (sum (lengthsOf es₁ (map afterOf (round es₁ d v)))) (omega (arith, loop-sum t, chains-small r g d (a .inside)))
+      length-is-sum ∙ sum32-is (lengthAt es₁ d) (sum (lengthsOf es₁ (map afterOf (onceRound es₁ d v)))) (omega (arith, loop-sum t, chains-small r g d (a .inside)))
       ∙ sym (loop-sum t)
 
   -- on a chain
-  open-other : onRing es₁ d ≡ false → getD ((tablesOf r) .degrees) (endOver (tablesOf r) (length es₁) d v) 0 ≢ 2
+  open-other : edgeOnRing es₁ d ≡ false → getD ((tablesOf r) .degrees) (endOver (tablesOf r) (length es₁) d v) 0 ≢ 2
   open-other f =
       rw (end-is, open-end es₁ (proper r g) d v a f)
       (other-read r g (open-onto es₁ (proper r g) d v a f) (endOnwards es₁ d (far es₁ d v)) (open-at es₁ (proper r g) d v a f) (open-singular es₁ (proper r g) d v a f))
 
-  open-way : onRing es₁ d ≡ false → lengthOver (tablesOf r) (length es₁) d v ≡ lengthTo es₁ d v
+  open-way : edgeOnRing es₁ d ≡ false → lengthOver (tablesOf r) (length es₁) d v ≡ lengthTo es₁ d v
   unfolding lengthTo lengthVia sum lengthsOf
   open-way f =
       rw (length-is-sum, round-open es₁ (proper r g) d v a f)
       (sum32-is (lengthAt es₁ d) (along es₁ d (far es₁ d v)) (omega (arith, reaches-small r g d v a f)))
 
 pub reach-agrees : (r : Register) → Reachable r → (v : ℕ) → reachIn (tablesOf r) (countsOf r) v ≡ reach r v
-unfolding reachIn reach countsOf isRegular ringAt
+unfolding reachIn reach countsOf isRegular vertexOnRing
 reach-agrees r g v = below (ltb v (r .vertices)) refl
   where
     es : List Edge
@@ -124,20 +124,20 @@ reach-agrees r g v = below (ltb v (r .vertices)) refl
     Ways = if eqb (getD (t .degrees) (endOver t (length es) low v) 0) 2 then reached 0 (lengthOver t (length es) low v)
         else reached (lengthOver t (length es) low v) (lengthOver t (length es) high v)
 
-    ways : degree es v ≡ 2 → (b : Bool) → ringAt es v ≡ b
-        → Ways ≡ (if ringAt es v then reached 0 (chainLength es (lowerEdge es v)) else reached (lengthTo es low v) (lengthTo es high v))
+    ways : degree es v ≡ 2 → (b : Bool) → vertexOnRing es v ≡ b
+        → Ways ≡ (if vertexOnRing es v then reached 0 (chainLength es (lowerNumbered es v)) else reached (lengthTo es low v) (lengthTo es high v))
     ways two true e =
         let at-low : At es v low = low-at r g v two in
-        let at-lower : At es v (lowerEdge es v) = lower-at es (proper r g) v (two-is es v two) in
-        let q : onRing es low ≡ true = ring-both es (proper r g) (lowerEdge es v) low v (two-is es v two) at-lower at-low e in
-        let l : chainLength es low ≡ chainLength es (lowerEdge es v) = one-length es (proper r g) low (lowerEdge es v) v (at-lower .inside) (chain-inner es (proper r g) (lowerEdge es v) (lowerEdge es v) v (at-lower .inside) (chain-has es (lowerEdge es v)) at-lower (two-is es v two)) at-low in
+        let at-lower : At es v (lowerNumbered es v) = lower-at es (proper r g) v (two-is es v two) in
+        let q : edgeOnRing es low ≡ true = ring-both es (proper r g) (lowerNumbered es v) low v (two-is es v two) at-lower at-low e in
+        let l : chainLength es low ≡ chainLength es (lowerNumbered es v) = one-length es (proper r g) low (lowerNumbered es v) v (at-lower .inside) (chain-inner es (proper r g) (lowerNumbered es v) (lowerNumbered es v) v (at-lower .inside) (chain-has es (lowerNumbered es v)) at-lower (two-is es v two)) at-low in
         rw (eq-eqb _ _ (ring-two r g low v at-low q), e, ring-way r g low v at-low q, l)
     ways two false e =
         let at-low : At es v low = low-at r g v two in
-        let at-lower : At es v (lowerEdge es v) = lower-at es (proper r g) v (two-is es v two) in
+        let at-lower : At es v (lowerNumbered es v) = lower-at es (proper r g) v (two-is es v two) in
         let x : Turned es v low = turned es v low (two-edges es v (proper r g) two) at-low in
-        let q : onRing es low ≡ false = ring-neither es (proper r g) (lowerEdge es v) low v (two-is es v two) at-lower at-low e in
-        let p : onRing es high ≡ false = ring-neither es (proper r g) (lowerEdge es v) high v (two-is es v two) at-lower (x .at) e in
+        let q : edgeOnRing es low ≡ false = ring-neither es (proper r g) (lowerNumbered es v) low v (two-is es v two) at-lower at-low e in
+        let p : edgeOnRing es high ≡ false = ring-neither es (proper r g) (lowerNumbered es v) high v (two-is es v two) at-lower (x .at) e in
         rw (ne-eqb _ _ (open-other r g low v at-low q), e, open-way r g low v at-low q, open-way r g high v (x .at) p)
 
     regular : (b : Bool) → v < r .vertices → eqb (degree es v) 2 ≡ b
@@ -145,13 +145,13 @@ reach-agrees r g v = below (ltb v (r .vertices)) refl
         else if eqb (getD (t .degrees) (endOver t (length es) (getD (t .sides) (2 * v) 0) v) 0) 2 then reached 0 (lengthOver t (length es) (getD (t .sides) (2 * v) 0) v)
         else reached (lengthOver t (length es) (getD (t .sides) (2 * v) 0) v) (lengthOver t (length es) (getD (t .sides) (2 * v + 1) 0) v))
         ≡ (if not (eqb (degree es v) 2) then refuses 8
-        else if ringAt es v then reached 0 (chainLength es (lowerEdge es v)) else reached (lengthTo es low v) (lengthTo es high v))
+        else if vertexOnRing es v then reached 0 (chainLength es (lowerNumbered es v)) else reached (lengthTo es low v) (lengthTo es high v))
     regular false l e = rw (degrees-read r v (omega (arith, few r g)), e)
     regular true l e =
         let h : v < maxVertices = omega (arith, few r g) in
         let two : degree es v ≡ 2 = eqb-true _ _ e in
         let k = sides-are r g v h two in
-        rw (degrees-read r v h, e, k .0, k .1) (ways two (ringAt es v) refl)
+        rw (degrees-read r v h, e, k .0, k .1) (ways two (vertexOnRing es v) refl)
 
     below : (b : Bool) → ltb v (r .vertices) ≡ b → reachIn (tablesOf r) (countsOf r) v ≡ reach r v
     below false e = rw e
@@ -209,7 +209,7 @@ module _ (r : Register) (g : Reachable r) where
       let low : ℕ = lowEdgeOf r v in
       let a : At es v low = low-at r g v two in
       rw ((sides-are r g v h two) .0)
-      (name-agrees r g low (a .inside) ∙ one-name r g v low (lowerEdge es v) (two-is es v two) a (lower-at es (proper r g) v (two-is es v two)))
+      (name-agrees r g low (a .inside) ∙ one-name r g v low (lowerNumbered es v) (two-is es v two) a (lower-at es (proper r g) v (two-is es v two)))
 
 labels-are : (r : Register) → (tablesOf r) .labels ≡ r .labels
 unfolding tablesOf

@@ -13,7 +13,7 @@ use borrow.Author.Tests.{eq-eqb, ne-eqb}
 use Rattle.model.specs.Basics.{if_then_else_, maxVertices}
 use Rattle.model.specs.Graph.{Edge, Pass, degree, endsAt, far, isLeaf, isRegular, onlyEdge, onwards, same}
 use Rattle.model.specs.Cases.{closesRing}
-use Rattle.model.specs.Labels.{Labelling, Marks, attach, base, close, extend, labelEdge, labelPath, mark, merge, relabelCount, splitAt, splitTwo}
+use Rattle.model.specs.Labels.{Labelling, Marks, attach, base, close, extend, labelEdge, labelPath, mark, merge, relabelCount, splitOrTap, splitTwo}
 use Rattle.model.specs.Register.{Register, marksOf}
 use Rattle.model.specs.Tables.{countsOf, tablesOf}
 use Rattle.model.specs.Notions.{Reachable}
@@ -207,10 +207,10 @@ module _ (r : Register) (e : Edge) (g : Reachable r) (fa : e .first < r .vertice
         abbrev c : Changed
         c = splitIn degrees sides ends (r .labels) (r .blocks) x y (length es)
 
-        q : SplitOne es Nobody (r .labels) (r .labels) x (r .blocks) c (splitAt es (r .blocks) x m)
+        q : SplitOne es Nobody (r .labels) (r .labels) x (r .blocks) c (splitOrTap es (r .blocks) x m)
         q = splits-single (proper r g) sh whole (r .blocks) x y two ny (omega (arith, few-blocks)) room-at
 
-        one-cut : Cut es e (r .labels) (Also x Nobody) c (splitAt es (r .blocks) x m)
+        one-cut : Cut es e (r .labels) (Also x Nobody) c (splitOrTap es (r .blocks) x m)
         one-cut = record { as-split = q .holds; only = only; all = λ v o t. inl (is-x v t (which v o)); blocks-are = q .blocks-are; counts = omega (arith, q .counts, relabelCount-same (r .labels)) }
           where
             only : (v : ℕ) → (v ≡ x) ⊎ ⊥ → (endsAt v e ≡ 1) × (degree es v ≡ 2)
@@ -221,15 +221,15 @@ module _ (r : Register) (e : Edge) (g : Reachable r) (fa : e .first < r .vertice
             is-x v t (inl i) = i
             is-x v t (inr i) = absurd (ny (rw i at t))
 
-        split-new-at : degree es y ≢ 1 → Stands new (r .labels) (splitNewIn degrees sides ends (r .labels) (r .blocks) x y (length es)) (splitAt es (r .blocks) x m)
+        split-new-at : degree es y ≢ 1 → Stands new (r .labels) (splitNewIn degrees sides ends (r .labels) (r .blocks) x y (length es)) (splitOrTap es (r .blocks) x m)
         unfolding splitNewIn
-        split-new-at ly = let st = opens (Also x Nobody) c (splitAt es (r .blocks) x m) one-cut (λ q. omega arith) ly in rw (same-x (c .sides)) at st
+        split-new-at ly = let st = opens (Also x Nobody) c (splitOrTap es (r .blocks) x m) one-cut (λ q. omega arith) ly in rw (same-x (c .sides)) at st
 
         split-extended-at : degree es y ≡ 1 → Stands new (r .labels) (splitExtendedIn degrees sides ends (r .labels) (r .blocks) x y (length es))
-            (extend es new ((splitAt es (r .blocks) x m) .blocks) y ((splitAt es (r .blocks) x m) .marks))
+            (extend es new ((splitOrTap es (r .blocks) x m) .blocks) y ((splitOrTap es (r .blocks) x m) .marks))
         unfolding splitExtendedIn
         split-extended-at one =
-            let st = extends-z (Also x Nobody) c (splitAt es (r .blocks) x m) one-cut y x oy ox yx one (λ t. omega arith) (omega (arith, q .blocks-few, few-blocks)) (q .small small)
+            let st = extends-z (Also x Nobody) c (splitOrTap es (r .blocks) x m) one-cut y x oy ox yx one (λ t. omega arith) (omega (arith, q .blocks-few, few-blocks)) (q .small small)
             (q .same y yx (singular-off (proper r g) sh x y two ny)) (sym (q .long)) in
             rw (same-x (c .sides), meet-same degrees (c .sides) y (length es) (not-zero y ly (λ t. omega arith))) at st
 

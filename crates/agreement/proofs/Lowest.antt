@@ -8,7 +8,7 @@ use mathlib.Core.List.{List, [], _∷_, _++_, map, reverse, reverse-cons, List·
 use lib.ListN.{length, getD}
 use borrow.Author.Tests.{eq-eqb, ne-eqb}
 use Rattle.model.specs.Basics.{least}
-use Rattle.model.specs.Graph.{Edge, Pass, afterOf, chainOf, edgeAt, endOf, endOnwards, far, isRegular, nameOf, onRing, onwards, openChain, ringChain, round, turn, until, walk}
+use Rattle.model.specs.Graph.{Edge, Pass, afterOf, chainOf, edgeAt, endOf, endOnwards, far, isRegular, nameOf, edgeOnRing, onwards, openChain, ringChain, onceRound, turn, until, walk}
 use Rattle.model.specs.Register.{Register}
 use Rattle.model.specs.Tables.{Tables, tablesOf}
 use Rattle.model.specs.Notions.{Reachable}
@@ -56,7 +56,7 @@ lower-reverse (x ∷ xs) z =
     rw (reverse-cons x xs) (lower-append (reverse xs) (x ∷ []) z ∙ lower-reverse xs (min x z) ∙ lower-min xs z x)
 
 -- a name by the walks from the edge's two ends, and by the one round a ring
-name-open : (es : List Edge) (d : ℕ) → onRing es d ≡ false
+name-open : (es : List Edge) (d : ℕ) → edgeOnRing es d ≡ false
     → nameOf es d ≡ lower (map afterOf (onwards es d ((edgeAt es d) .first))) (lower (map afterOf (onwards es d ((edgeAt es d) .second))) d)
 unfolding nameOf openChain lower
 name-open es d f =
@@ -65,10 +65,10 @@ name-open es d f =
     let own : min d (lower on d) ≡ lower on d = omega (arith, lower-most on d) in
     rw (chain-open es d f) (least-lower d (reverse back ++ (d ∷ on)) ∙ lower-append (reverse back) (d ∷ on) d ∙ lower-reverse back (lower (d ∷ on) d) ∙ ap (lower back) own)
 
-name-ring : (es : List Edge) (d : ℕ) → onRing es d ≡ true → nameOf es d ≡ lower (map afterOf (round es d ((edgeAt es d) .first))) d
+name-ring : (es : List Edge) (d : ℕ) → edgeOnRing es d ≡ true → nameOf es d ≡ lower (map afterOf (onceRound es d ((edgeAt es d) .first))) d
 unfolding nameOf ringChain lower
 name-ring es d t =
-    let on : List ℕ = map afterOf (round es d ((edgeAt es d) .first)) in
+    let on : List ℕ = map afterOf (onceRound es d ((edgeAt es d) .first)) in
     let own : min d (lower on d) ≡ lower on d = omega (arith, lower-most on d) in
     rw (chain-ring es d t) (least-lower d (d ∷ on) ∙ own)
 
@@ -132,12 +132,12 @@ name-agrees r g d h = go (chain-ends r g d h)
     b = (edgeAt es d) .second
 
     go : Ends r d → nameOver t (length es) d ≡ nameOf es d
-    go e = by e (true-or-false (onRing es d))
+    go e = by e (true-or-false (edgeOnRing es d))
       where
         first : lowestOver t a (length es) d d b ≡ lowestBy es d b (until a (walk (length es) es d b))
         first = lowest-agrees r g a (length es) d d b (at-second r g d h)
 
-        by : Ends r d → (onRing es d ≡ true) ⊎ (onRing es d ≡ false) → nameOver t (length es) d ≡ nameOf es d
+        by : Ends r d → (edgeOnRing es d ≡ true) ⊎ (edgeOnRing es d ≡ false) → nameOver t (length es) d ≡ nameOf es d
         by e (inl q) =
             let k = e .ring q in
             rw (first-read r d h, second-read r d h, first, k .passed, k .ends-at, eq-eqb _ _ (k .two)) (sym (name-ring es d q))

@@ -9,7 +9,7 @@ use mathlib.Core.List.{List, [], _∷_, _++_, map, reverse, reverse-reverse, Lis
 use lib.ListN.{length, getD, set, length-set}
 use lib.Seq.{getD-set-same, getD-set-other}
 use borrow.Author.Tests.{eq-eqb, ne-eqb}
-use Rattle.model.specs.Graph.{Chain, Edge, Pass, afterOf, chainOf, edgeAt, endOf, endOnwards, far, nameOf, onRing, onwards, openChain, ringChain, round, turn, until, walk}
+use Rattle.model.specs.Graph.{Chain, Edge, Pass, afterOf, chainOf, edgeAt, endOf, endOnwards, far, nameOf, edgeOnRing, onwards, openChain, ringChain, onceRound, turn, until, walk}
 use Rattle.model.specs.Register.{Register}
 use Rattle.model.specs.Tables.{Tables, tablesOf}
 use Rattle.model.specs.Notions.{Reachable}
@@ -118,11 +118,11 @@ pub record ChainMarked (xs ms : List ℕ) (d : ℕ) (ns : List ℕ) : Type 0 whe
   pub marks : (e : ℕ) → e < length ms → e ≢ d → Mem e xs → getD ns e 0 ≢ 0
   pub others : (e : ℕ) → (Mem e xs → ⊥) → getD ns e 0 ≡ getD ms e 0
 
-ring-edges : (es : List Edge) (d : ℕ) → onRing es d ≡ true → (chainOf es d) .edges ≡ d ∷ map afterOf (round es d ((edgeAt es d) .first))
+ring-edges : (es : List Edge) (d : ℕ) → edgeOnRing es d ≡ true → (chainOf es d) .edges ≡ d ∷ map afterOf (onceRound es d ((edgeAt es d) .first))
 unfolding ringChain
 ring-edges es d t = ap (λ (c : Chain). c .edges) (chain-ring es d t)
 
-open-edges : (es : List Edge) (d : ℕ) → onRing es d ≡ false
+open-edges : (es : List Edge) (d : ℕ) → edgeOnRing es d ≡ false
     → (chainOf es d) .edges ≡ reverse (map afterOf (onwards es d ((edgeAt es d) .first))) ++ (d ∷ map afterOf (onwards es d ((edgeAt es d) .second)))
 unfolding openChain
 open-edges es d f = ap (λ (c : Chain). c .edges) (chain-open es d f)
@@ -164,7 +164,7 @@ open-marked ms d bs cs =
 pub chain-marked : (r : Register) → Reachable r → (ms : List ℕ) (d : ℕ) → d < length (r .edges)
     → ChainMarked ((chainOf (r .edges) d) .edges) ms d (markChainOver (tablesOf r) (length (r .edges)) ms d)
 unfolding markChainIn
-chain-marked r g ms d h = by (chain-ends r g d h) (true-or-false (onRing es d))
+chain-marked r g ms d h = by (chain-ends r g d h) (true-or-false (edgeOnRing es d))
   where
     es : List Edge
     es = r .edges
@@ -181,10 +181,10 @@ chain-marked r g ms d h = by (chain-ends r g d h) (true-or-false (onRing es d))
     first : markOver t a (length es) ms d b ≡ markedBy es ms b (until a (walk (length es) es d b))
     first = mark-agrees r g a (length es) ms d b (at-second r g d h)
 
-    by : Ends r d → (onRing es d ≡ true) ⊎ (onRing es d ≡ false) → ChainMarked ((chainOf es d) .edges) ms d (markChainOver t (length es) ms d)
+    by : Ends r d → (edgeOnRing es d ≡ true) ⊎ (edgeOnRing es d ≡ false) → ChainMarked ((chainOf es d) .edges) ms d (markChainOver t (length es) ms d)
     by e (inl q) =
         let k = e .ring q in
-        rw (first-read r d h, second-read r d h, first, k .passed, k .ends-at, eq-eqb _ _ (k .two), ring-edges es d q) (ring-marked ms d (map afterOf (round es d a)))
+        rw (first-read r d h, second-read r d h, first, k .passed, k .ends-at, eq-eqb _ _ (k .two), ring-edges es d q) (ring-marked ms d (map afterOf (onceRound es d a)))
     by e (inr q) =
         let k = e .chain q in
         rw (

@@ -6,8 +6,8 @@ use native.Mathlib.Decide.{ℕ-discrete}
 use mathlib.Core.Bool.{true, false}
 use mathlib.Core.List.{List, [], _∷_}
 use borrow.Author.Tests.{eq-eqb, ne-eqb}
-use Rattle.model.specs.Graph.{Edge, Pass, degree, far, lowerEdge, round}
-use Rattle.model.specs.Labels.{passes, ringAt}
+use Rattle.model.specs.Graph.{Edge, Pass, degree, far, lowerNumbered, onceRound}
+use Rattle.model.specs.Labels.{passes, vertexOnRing}
 use Rattle.model.proofs.Basics.Booleans.{not-both, true-or-false}
 use Rattle.model.proofs.Walks.Degree.{Proper}
 use Rattle.model.proofs.Walks.Turn.{At}
@@ -62,29 +62,29 @@ tours-share {es} pr {x} {d} {q} {y} {d′} {q′} {path} {path′} t t′ z on f
     let k : Cut es d′ (far es d′ y) path′ q′ y (s .after) = cut (s .after) (t′ .trail) (r .after-in) in
     tour-follow pr t (edge-on pr t z (s .after) on (rw (f .at-is) at (r .after-at))) (trail-at pr ((across es d′ y pr (t′ .d-at)) .at) (k .before)) (k .behind)
 
-module _ (es : List Edge) (pr : Proper es) (a b : ℕ) (ca : degree es a ≡ 2) (cb : degree es b ≡ 2) (ab : a ≢ b) (ra : ringAt es a ≡ true) where
-  tour-a : (q : ℕ) × Tour es a (lowerEdge es a) q (round es (lowerEdge es a) a)
-  unfolding ringAt
-  tour-a = ring-tour es pr (lowerEdge es a) a ra (lower-at es pr a ca)
+module _ (es : List Edge) (pr : Proper es) (a b : ℕ) (ca : degree es a ≡ 2) (cb : degree es b ≡ 2) (ab : a ≢ b) (ra : vertexOnRing es a ≡ true) where
+  tour-a : (q : ℕ) × Tour es a (lowerNumbered es a) q (onceRound es (lowerNumbered es a) a)
+  unfolding vertexOnRing
+  tour-a = ring-tour es pr (lowerNumbered es a) a ra (lower-at es pr a ca)
 
   -- a vertex of a's round lies on a ring
-  pub ring-too : InPath (round es (lowerEdge es a) a) b → ringAt es b ≡ true
-  unfolding ringAt
+  pub ring-too : InPath (onceRound es (lowerNumbered es a) a) b → vertexOnRing es b ≡ true
+  unfolding vertexOnRing
   ring-too f =
-      let at : At es b (lowerEdge es b) = lower-at es pr b cb in
-      tour-ring pr (tour-a .1) (lowerEdge es b) (edge-on pr (tour-a .1) b (lowerEdge es b) (is-of f) at) (at .inside)
+      let at : At es b (lowerNumbered es b) = lower-at es pr b cb in
+      tour-ring pr (tour-a .1) (lowerNumbered es b) (edge-on pr (tour-a .1) b (lowerNumbered es b) (is-of f) at) (at .inside)
 
-  is-inner : OnTour pr (tour-a .1) b → InPath (round es (lowerEdge es a) a) b
+  is-inner : OnTour pr (tour-a .1) b → InPath (onceRound es (lowerNumbered es a) a) b
   is-inner (is-x e) = absurd (ab (sym e))
   is-inner (is-of f) = f
 
-  module _ (rb : ringAt es b ≡ true) where
-    tour-b : (q : ℕ) × Tour es b (lowerEdge es b) q (round es (lowerEdge es b) b)
-    unfolding ringAt
-    tour-b = ring-tour es pr (lowerEdge es b) b rb (lower-at es pr b cb)
+  module _ (rb : vertexOnRing es b ≡ true) where
+    tour-b : (q : ℕ) × Tour es b (lowerNumbered es b) q (onceRound es (lowerNumbered es b) b)
+    unfolding vertexOnRing
+    tour-b = ring-tour es pr (lowerNumbered es b) b rb (lower-at es pr b cb)
 
-    pub meets-back : InPath (round es (lowerEdge es b) b) a → InPath (round es (lowerEdge es a) a) b
+    pub meets-back : InPath (onceRound es (lowerNumbered es b) b) a → InPath (onceRound es (lowerNumbered es a) a) b
     meets-back f = is-inner (tours-share pr (tour-a .1) (tour-b .1) a (is-x refl) f)
 
-    pub shares : (z : ℕ) → InPath (round es (lowerEdge es a) a) z → InPath (round es (lowerEdge es b) b) z → InPath (round es (lowerEdge es a) a) b
+    pub shares : (z : ℕ) → InPath (onceRound es (lowerNumbered es a) a) z → InPath (onceRound es (lowerNumbered es b) b) z → InPath (onceRound es (lowerNumbered es a) a) b
     shares z f g = is-inner (tours-share pr (tour-a .1) (tour-b .1) z (is-of f) g)

@@ -10,8 +10,8 @@ use lib.ListN.{length, getD, length-append}
 use lib.Dec.{eqb}
 use borrow.Author.Tests.{lt-ltb, le-ltb}
 use Rattle.model.specs.Basics.{if_then_else_}
-use Rattle.model.specs.Graph.{Edge, Pass, degree, far, isRegular, lowerEdge, onRing, round, turn}
-use Rattle.model.specs.Labels.{passes, ringAt}
+use Rattle.model.specs.Graph.{Edge, Pass, degree, far, isRegular, lowerNumbered, edgeOnRing, onceRound, turn}
+use Rattle.model.specs.Labels.{passes, vertexOnRing}
 use Rattle.tables.specs.Steps.{farIn, turnIn}
 use Rattle.tables.specs.Rounds.{backIn, lowerIn, ringIn, roundIn}
 use Rattle.tables.specs.declared.rings.Round.{Round as Answer}
@@ -32,7 +32,7 @@ use Rattle.agreement.proofs.Lockstep.{Shows, shows-regular, shows-singu
 
 -- ---- from v along d, and to v again: d is on a ring
 
-pub arrives-ring : (es : List Edge) → Proper es → {d v q : ℕ} {ss : List Pass} → At es v d → isRegular es v ≡ true → Trail es d (far es d v) ss q v → onRing es d ≡ true
+pub arrives-ring : (es : List Edge) → Proper es → {d v q : ℕ} {ss : List Pass} → At es v d → isRegular es v ≡ true → Trail es d (far es d v) ss q v → edgeOnRing es d ≡ true
 arrives-ring es pr {d} {v} {q} {ss} a c u =
     let x : Across es d v = across es d v pr a in
     let f : First es d (far es d v) ss q v = first-time u in
@@ -45,21 +45,21 @@ arrives-ring es pr {d} {v} {q} {ss} a c u =
 
 -- ---- the lower-numbered edge, by the sides
 
-low-first : (es : List Edge) (v : ℕ) (t : TwoEdges es v) → lowerEdge es v ≡ t .low
-unfolding lowerEdge
+low-first : (es : List Edge) (v : ℕ) (t : TwoEdges es v) → lowerNumbered es v ≡ t .low
+unfolding lowerNumbered
 low-first es v t = rw (t .list)
 
-pub lower-at : (es : List Edge) → Proper es → (v : ℕ) → degree es v ≡ 2 → At es v (lowerEdge es v)
+pub lower-at : (es : List Edge) → Proper es → (v : ℕ) → degree es v ≡ 2 → At es v (lowerNumbered es v)
 lower-at es pr v two = let t : TwoEdges es v = two-edges es v pr two in rw (low-first es v t) (t .low-at)
 
-pub lower-is : (es : List Edge) → Proper es → (sides lows : List ℕ) (v : ℕ) → degree es v ≡ 2 → Linked es sides lows v → lowerIn sides v ≡ lowerEdge es v
+pub lower-is : (es : List Edge) → Proper es → (sides lows : List ℕ) (v : ℕ) → degree es v ≡ 2 → Linked es sides lows v → lowerIn sides v ≡ lowerNumbered es v
 unfolding lowerIn
 lower-is es pr sides lows v two k = go (two-edges es v pr two)
   where
-    go : TwoEdges es v → lowerIn sides v ≡ lowerEdge es v
+    go : TwoEdges es v → lowerIn sides v ≡ lowerNumbered es v
     go t = by (t .only (getD lows v 0) (k .low-at two))
       where
-        by : (getD lows v 0 ≡ t .low) ⊎ (getD lows v 0 ≡ t .high) → lowerIn sides v ≡ lowerEdge es v
+        by : (getD lows v 0 ≡ t .low) ⊎ (getD lows v 0 ≡ t .high) → lowerIn sides v ≡ lowerNumbered es v
         by (inl e) =
             let h : turn es (getD lows v 0) v ≡ t .high = turn-between es v (getD lows v 0) (t .high) t (k .low-at two) (t .high-at) (λ q. omega (arith, t .differ, e, q)) in
             let p = k .regular two in
@@ -118,9 +118,9 @@ module _ {es : List Edge} (pr : Proper es) {degrees sides ends lows : List ℕ} 
 
   module _ (two : degree es v ≡ 2) where
     abbrev d : ℕ
-    d = lowerEdge es v
+    d = lowerNumbered es v
 
-    at-v : At es v (lowerEdge es v)
+    at-v : At es v (lowerNumbered es v)
     at-v = lower-at es pr v two
 
     regular : isRegular es v ≡ true
@@ -137,20 +137,20 @@ module _ {es : List Edge} (pr : Proper es) {degrees sides ends lows : List ℕ} 
     by-lower =
         rw (lower-is es pr sides lows v two (sh .links v (sh .below v d at-v)), shows-turn sh pr at-v regular refl, sh .fars-are d v (at-v .inside), sh .fars-are (turn es d v) v (nx .at .inside))
 
-    pub ring-yes : ringAt es v ≡ true → ringIn degrees sides ends v w (length es) ≡ backIn (length (round es (lowerEdge es v) v)) (passes w (round es (lowerEdge es v) v))
-    unfolding ringAt
+    pub ring-yes : vertexOnRing es v ≡ true → ringIn degrees sides ends v w (length es) ≡ backIn (length (onceRound es (lowerNumbered es v) v)) (passes w (onceRound es (lowerNumbered es v) v))
+    unfolding vertexOnRing
     ring-yes e =
         let r : Round es d v = ring-round es pr d v e at-v in
-        let u : Trail es (turn es d v) (far es (turn es d v) v) (backwards (round es d v)) d v =
-        subst (λ (q : ℕ). Trail es q (far es q v) (backwards (round es d v)) d v) (sym (r .back))
-        (subst (λ (z : ℕ). Trail es (r .last) (far es (r .last) v) (backwards (round es d v)) d z) (x .again) (trail-back pr (x .at) (r .trail))) in
-        let z : 0 + length (round es d v) ≡ length (round es d v) = omega arith in
+        let u : Trail es (turn es d v) (far es (turn es d v) v) (backwards (onceRound es d v)) d v =
+        subst (λ (q : ℕ). Trail es q (far es q v) (backwards (onceRound es d v)) d v) (sym (r .back))
+        (subst (λ (z : ℕ). Trail es (r .last) (far es (r .last) v) (backwards (onceRound es d v)) d z) (x .again) (trail-back pr (x .at) (r .trail))) in
+        let z : 0 + length (onceRound es d v) ≡ length (onceRound es d v) = omega arith in
         sym by-lower ∙ goes-round (length es) 0 false refl (x .at) (nx .across .at) (r .trail) u regular regular
-        (sym (length-backwards (round es d v))) (r .off) (first-short es pr (x .at) (r .trail) (r .off))
-        ∙ ap (λ (n : ℕ). backIn n (passes w (round es d v))) z
+        (sym (length-backwards (onceRound es d v))) (r .off) (first-short es pr (x .at) (r .trail) (r .off))
+        ∙ ap (λ (n : ℕ). backIn n (passes w (onceRound es d v))) z
 
-    pub ring-no : ringAt es v ≡ false → ringIn degrees sides ends v w (length es) ≡ NoRing
-    unfolding ringAt
+    pub ring-no : vertexOnRing es v ≡ false → ringIn degrees sides ends v w (length es) ≡ NoRing
+    unfolding vertexOnRing
     ring-no e = sym by-lower ∙ sym (ends-first (length es) 0 false (turn es d v) (far es (turn es d v) v) (x .at) (en .trail) (en .singular) (off (meets-or v (en .trail))))
       where
         en : Ended es d (far es d v)

@@ -7,7 +7,7 @@ use mathlib.Core.Bool.{Bool, true, false}
 use mathlib.Core.List.{List, [], _∷_, _++_, append-nil}
 use lib.ListN.{length, getD}
 use borrow.Author.Tests.{eq-eqb, ne-eqb}
-use Rattle.model.specs.Graph.{Edge, Pass, edgeAt, endOf, endOnwards, far, isRegular, onRing, onwards, round, until}
+use Rattle.model.specs.Graph.{Edge, Pass, edgeAt, endOf, endOnwards, far, isRegular, edgeOnRing, onwards, onceRound, until}
 use Rattle.model.specs.Register.{Register}
 use Rattle.model.specs.Tables.{tablesOf}
 use Rattle.model.specs.Notions.{Reachable}
@@ -39,38 +39,38 @@ module _ (es : List Edge) (pr : Proper es) (d v : ℕ) (a : At es v d) where
   x = across es d v pr a
 
   -- on a chain nobody who sets out from v comes to v
-  ends : onRing es d ≡ false → Onwards es d (far es d v)
+  ends : edgeOnRing es d ≡ false → Onwards es d (far es d v)
   ends f = onwards-ends es pr d (far es d v) (x .at) (off-ring es pr d (a .inside) f (far es d v) (x .at))
 
-  pub round-open : onRing es d ≡ false → round es d v ≡ onwards es d (far es d v)
-  unfolding round
+  pub round-open : edgeOnRing es d ≡ false → onceRound es d v ≡ onwards es d (far es d v)
+  unfolding onceRound
   round-open f = until-off v (onwards es d (far es d v)) (go (meets-or v ((ends f) .trail)))
     where
       go : Meets es d (far es d v) (onwards es d (far es d v)) ((ends f) .onto) ((ends f) .to) v → Off (onwards es d (far es d v)) v
       go (misses o) = o
-      go (meets front rest onto parts u w o l) = absurd (not-both (onRing es d) (arrives-ring es pr a (first-regular w l) u) f)
+      go (meets front rest onto parts u w o l) = absurd (not-both (edgeOnRing es d) (arrives-ring es pr a (first-regular w l) u) f)
 
-  pub open-end : onRing es d ≡ false → endOf es (far es d v) (round es d v) ≡ endOnwards es d (far es d v)
+  pub open-end : edgeOnRing es d ≡ false → endOf es (far es d v) (onceRound es d v) ≡ endOnwards es d (far es d v)
   unfolding endOnwards
   open-end f = rw (round-open f)
 
-  pub open-singular : onRing es d ≡ false → isRegular es (endOnwards es d (far es d v)) ≡ false
+  pub open-singular : edgeOnRing es d ≡ false → isRegular es (endOnwards es d (far es d v)) ≡ false
   open-singular f = let o = ends f in rw (o .ends-at) (o .singular)
 
   -- .. which is the end of an edge
-  pub open-onto : onRing es d ≡ false → ℕ
+  pub open-onto : edgeOnRing es d ≡ false → ℕ
   open-onto f = (ends f) .onto
 
-  pub open-at : (f : onRing es d ≡ false) → At es (endOnwards es d (far es d v)) (open-onto f)
+  pub open-at : (f : edgeOnRing es d ≡ false) → At es (endOnwards es d (far es d v)) (open-onto f)
   unfolding open-onto ends
   open-at f = let o = ends f in subst (λ (w : ℕ). At es w (o .onto)) (sym (o .ends-at)) (trail-at pr (x .at) (o .trail))
 
   -- the way that goes on to a singular vertex does not stop at one before
-  pub past-singular : onRing es d ≡ false → (home : ℕ) → isRegular es home ≡ false → until home (onwards es d (far es d v)) ≡ onwards es d (far es d v)
+  pub past-singular : edgeOnRing es d ≡ false → (home : ℕ) → isRegular es home ≡ false → until home (onwards es d (far es d v)) ≡ onwards es d (far es d v)
   past-singular f home q = until-off home (onwards es d (far es d v)) (singular-off ((ends f) .trail) home q)
 
   -- round a ring one comes to v again
-  pub round-end : onRing es d ≡ true → (endOf es (far es d v) (round es d v) ≡ v) × (isRegular es v ≡ true)
+  pub round-end : edgeOnRing es d ≡ true → (endOf es (far es d v) (onceRound es d v) ≡ v) × (isRegular es v ≡ true)
   round-end t = let k : Round es d v = ring-round es pr d v t a in (trail-endOf (k .trail), k .regular)
 
 pub far-first : (es : List Edge) (d : ℕ) → far es d ((edgeAt es d) .first) ≡ (edgeAt es d) .second

@@ -11,7 +11,7 @@ use lib.ListN.{length, getD, replicate, length-append, length-map, length-replic
 use lib.Dec.{eqb}
 use borrow.Author.Tests.{eq-eqb, ne-eqb, eqb-true, eqb-false}
 use Rattle.model.specs.Basics.{countFrom, least, maxEdges, maxVertices, sum, upTo}
-use Rattle.model.specs.Graph.{Chain, Edge, Pass, afterOf, atOf, chainLength, chainOf, edgeAt, endOnwards, lengthAt, lengthsOf, nameOf, onRing, onwards, openChain, ringChain, round, until, walk}
+use Rattle.model.specs.Graph.{Chain, Edge, Pass, afterOf, atOf, chainLength, chainOf, edgeAt, endOnwards, lengthAt, lengthsOf, nameOf, edgeOnRing, onwards, openChain, ringChain, onceRound, until, walk}
 use Rattle.model.specs.Register.{Register}
 use Rattle.model.specs.Queries.{row, rowsOf, sheet}
 use Rattle.model.specs.Tables.{Tables, countsOf, tablesOf}
@@ -48,23 +48,23 @@ inner-is : (xs ys : List Pass) → length (reverse (map atOf xs) ++ map atOf ys)
 inner-is xs ys =
     omega (arith, length-append (reverse (map atOf xs)) (map atOf ys), length-reverse (map atOf xs), length-map xs atOf, length-map ys atOf)
 
-row-open : (es : List Edge) (d : ℕ) → onRing es d ≡ false → row es d ≡ rowBy es d ((edgeAt es d) .first) ((edgeAt es d) .second)
+row-open : (es : List Edge) (d : ℕ) → edgeOnRing es d ≡ false → row es d ≡ rowBy es d ((edgeAt es d) .first) ((edgeAt es d) .second)
 unfolding row openChain endOnwards
 row-open es d f =
     let back : List Pass = onwards es d ((edgeAt es d) .first) in
     let on : List Pass = onwards es d ((edgeAt es d) .second) in
     rw (chain-by-walks es d f, chain-open es d f, inner-is back on)
 
-ring-sum : (es : List Edge) (d : ℕ) → onRing es d ≡ true
-    → chainLength es d ≡ lengthAt es d + sum (lengthsOf es (map afterOf (round es d ((edgeAt es d) .first))))
+ring-sum : (es : List Edge) (d : ℕ) → edgeOnRing es d ≡ true
+    → chainLength es d ≡ lengthAt es d + sum (lengthsOf es (map afterOf (onceRound es d ((edgeAt es d) .first))))
 unfolding chainLength ringChain sum lengthsOf
 ring-sum es d t = rw (chain-ring es d t)
 
-row-ring : (es : List Edge) (d : ℕ) → onRing es d ≡ true → row es d ≡ ringBy es d ((edgeAt es d) .first) (round es d ((edgeAt es d) .first))
+row-ring : (es : List Edge) (d : ℕ) → edgeOnRing es d ≡ true → row es d ≡ ringBy es d ((edgeAt es d) .first) (onceRound es d ((edgeAt es d) .first))
 unfolding row ringChain
 row-ring es d t =
     let a : ℕ = (edgeAt es d) .first in
-    let ss : List Pass = round es d a in
+    let ss : List Pass = onceRound es d a in
     let x : ℕ = lower (map atOf ss) a in
     let l : least a (map atOf ss) ≡ x = least-lower a (map atOf ss) in
     let i : min x x ≡ x = omega arith in
@@ -77,7 +77,7 @@ rowOver t = rowIn (t .degrees) (t .sides) (t .ends) (t .lengths)
 
 pub row-agrees : (r : Register) → Reachable r → (d : ℕ) → d < length (r .edges) → rowOver (tablesOf r) (length (r .edges)) d ≡ row (r .edges) d
 unfolding rowIn
-row-agrees r g d h = by (chain-ends r g d h) (true-or-false (onRing es d))
+row-agrees r g d h = by (chain-ends r g d h) (true-or-false (edgeOnRing es d))
   where
     es : List Edge
     es = r .edges
@@ -97,10 +97,10 @@ row-agrees r g d h = by (chain-ends r g d h) (true-or-false (onRing es d))
     second : walkOver t (endOnwards es d b) (length es) d a ≡ walkedBy es (endOnwards es d b) a (until (endOnwards es d b) (walk (length es) es d a))
     second = walks r g (endOnwards es d b) (length es) d a (room r g) (at-first r g d h)
 
-    by : Ends r d → (onRing es d ≡ true) ⊎ (onRing es d ≡ false) → rowOver t (length es) d ≡ row es d
+    by : Ends r d → (edgeOnRing es d ≡ true) ⊎ (edgeOnRing es d ≡ false) → rowOver t (length es) d ≡ row es d
     by e (inl q) =
         let k = e .ring q in
-        let ss : List Pass = round es d a in
+        let ss : List Pass = onceRound es d a in
         rw (
           first-read r d h,
           second-read r d h,

@@ -9,8 +9,8 @@ use mathlib.Core.List.{List, [], _∷_}
 use lib.ListN.{length, getD, set, length-set, List·getD-eq-default}
 use lib.Seq.{getD-set-same, getD-set-other}
 use Rattle.model.specs.Basics.{if_then_else_, maxVertices}
-use Rattle.model.specs.Graph.{Edge, Pass, degree, lowerEdge, round}
-use Rattle.model.specs.Labels.{Labelling, Marks, base, labelPath, mark, next, relabelCount, ringAt, split, splitAt, tap}
+use Rattle.model.specs.Graph.{Edge, Pass, degree, lowerNumbered, onceRound}
+use Rattle.model.specs.Labels.{Labelling, Marks, base, labelPath, mark, next, relabelCount, vertexOnRing, split, splitOrTap, tap}
 use Rattle.tables.specs.Steps.{most16, most32, setPair}
 use Rattle.tables.specs.declared.rings.Round.{Round as Answer}
 use Rattle.tables.specs.declared.rings.Round.the-variants.{NoRing, Ring}
@@ -108,10 +108,10 @@ laid-as es below S sides labels m label path b o k =
 
 module _ {es : List Edge} (pr : Proper es) {degrees sides₀ ends lows₀ : List ℕ} (sh : Shows es degrees sides₀ ends lows₀) (v : ℕ) (two : degree es v ≡ 2) where
   abbrev d : ℕ
-  d = lowerEdge es v
+  d = lowerNumbered es v
 
   abbrev rd : List Pass
-  rd = round es (lowerEdge es v) v
+  rd = onceRound es (lowerNumbered es v) v
 
   at-v : At es v d
   at-v = lower-at es pr v two
@@ -122,27 +122,27 @@ module _ {es : List Edge} (pr : Proper es) {degrees sides₀ ends lows₀ : List
   x : Across es d v
   x = across es d v pr at-v
 
-  module _ (t : ringAt es v ≡ true) where
+  module _ (t : vertexOnRing es v ≡ true) where
     r : Round es d v
-    unfolding ringAt
+    unfolding vertexOnRing
     r = ring-round es pr d v t at-v
 
-    pub rd-between : AllBetween es (round es (lowerEdge es v) v)
+    pub rd-between : AllBetween es (onceRound es (lowerNumbered es v) v)
     rd-between = trail-between pr (x .at) (r .trail)
 
-    pub rd-once : Once (round es (lowerEdge es v) v)
+    pub rd-once : Once (onceRound es (lowerNumbered es v) v)
     rd-once = first-at-once es pr (x .at) (r .trail) (r .off)
 
-    pub rd-short : length (round es (lowerEdge es v) v) < length es
+    pub rd-short : length (onceRound es (lowerNumbered es v) v) < length es
     rd-short = first-short es pr (x .at) (r .trail) (r .off)
 
-    pub rd-off : Off (round es (lowerEdge es v) v) v
+    pub rd-off : Off (onceRound es (lowerNumbered es v) v) v
     rd-off = r .off
 
     pub tap-lays : (S : ℕ → Type 0) (sides lows labels : List ℕ) (k : ℕ) → ((u : ℕ) → u < maxVertices → (S u → ⊥) → Linked es sides lows u)
-        → (S v → ⊥) → ((u : ℕ) → S u → Off (round es (lowerEdge es v) v) u) → base k + length es < most32
-        → let l = layIn true (base k) (round es (lowerEdge es v) v) sides labels in
-        tapIn degrees sides ends labels v k (length (round es (lowerEdge es v) v)) ≡ marksIn (bareIn (l .sides) (l .labels) v .sides) (bareIn (l .sides) (l .labels) v .labels) (l .count)
+        → (S v → ⊥) → ((u : ℕ) → S u → Off (onceRound es (lowerNumbered es v) v) u) → base k + length es < most32
+        → let l = layIn true (base k) (onceRound es (lowerNumbered es v) v) sides labels in
+        tapIn degrees sides ends labels v k (length (onceRound es (lowerNumbered es v) v)) ≡ marksIn (bareIn (l .sides) (l .labels) v .sides) (bareIn (l .sides) (l .labels) v .labels) (l .count)
     unfolding tapIn
     tap-lays S sides lows labels k links nv off b =
         rw (lower-is es pr sides lows v two (links v below-v nv), sh .fars-are d v (at-v .inside), relabel-all pr sh true sides labels (base k) (x .at) (r .trail) (omega (arith, rd-short)) rd-once turns)
@@ -164,7 +164,7 @@ pub record SplitOne (es : List Edge) (S : ℕ → Type 0) (ts labels : List ℕ)
   pub holds : SplitAs es (Also v S) (g .sides) (g .labels) (l .marks)
   pub blocks-are : g .blocks ≡ l .blocks
   pub counts : relabelCount ts (g .labels) ≡ relabelCount ts labels + g .relabellings
-  pub same : (u : ℕ) → u ≢ v → (ringAt es v ≡ true → Off (round es (lowerEdge es v) v) u) → getD (g .labels) u 0 ≡ getD labels u 0
+  pub same : (u : ℕ) → u ≢ v → (vertexOnRing es v ≡ true → Off (onceRound es (lowerNumbered es v) v) u) → getD (g .labels) u 0 ≡ getD labels u 0
   pub long : length (g .labels) ≡ length labels
   pub small : ((u : ℕ) → getD labels u 0 < most32) → (u : ℕ) → getD (g .labels) u 0 < most32
   pub blocks-few : l .blocks ≤ blocks + 1
@@ -173,9 +173,9 @@ module _ {es : List Edge} (pr : Proper es) {degrees sides₀ ends lows₀ : List
     (S : ℕ → Type 0) (ts sides labels : List ℕ) (m : Marks) (blocks : ℕ) (k : SplitAs es S sides labels m) (nv : S v → ⊥)
     (lt : length ts ≡ length labels) (v-same : getD labels v 0 ≡ getD ts v 0) (few : blocks < most16) (room : base (blocks + 1) + length es < most32) where
   abbrev around : List Pass
-  around = round es (lowerEdge es v) v
+  around = onceRound es (lowerNumbered es v) v
 
-  splits-ring : (t : ringAt es v ≡ true) → ((u : ℕ) → S u → Off around u) → ((i : ℕ) (s : Pass) → Ith s i around → getD labels (s .at) 0 ≡ getD ts (s .at) 0)
+  splits-ring : (t : vertexOnRing es v ≡ true) → ((u : ℕ) → S u → Off around u) → ((i : ℕ) (s : Pass) → Ith s i around → getD labels (s .at) 0 ≡ getD ts (s .at) 0)
       → SplitOne es S ts labels v blocks (splitBy (Ring (length around)) degrees sides ends labels blocks v w)
       (record { blocks = blocks + 1; marks = split v (labelPath true (base (blocks + 1)) around m) })
   unfolding bareIn
@@ -217,12 +217,12 @@ module _ {es : List Edge} (pr : Proper es) {degrees sides₀ ends lows₀ : List
     blocks-few = omega arith;
   }
 
-  pub splits-one : (ringAt es v ≡ true → (u : ℕ) → S u → Off around u) → (ringAt es v ≡ true → (i : ℕ) (s : Pass) → Ith s i around → getD labels (s .at) 0 ≡ getD ts (s .at) 0)
-      → SplitOne es S ts labels v blocks (splitBy (byTest (ringAt es v) (length (round es (lowerEdge es v) v))) degrees sides ends labels blocks v w) (splitAt es blocks v m)
-  unfolding splitAt tap
-  splits-one off on-same = go (ringAt es v) refl
+  pub splits-one : (vertexOnRing es v ≡ true → (u : ℕ) → S u → Off around u) → (vertexOnRing es v ≡ true → (i : ℕ) (s : Pass) → Ith s i around → getD labels (s .at) 0 ≡ getD ts (s .at) 0)
+      → SplitOne es S ts labels v blocks (splitBy (byTest (vertexOnRing es v) (length (onceRound es (lowerNumbered es v) v))) degrees sides ends labels blocks v w) (splitOrTap es blocks v m)
+  unfolding splitOrTap tap
+  splits-one off on-same = go (vertexOnRing es v) refl
     where
-      go : (b : Bool) → ringAt es v ≡ b
+      go : (b : Bool) → vertexOnRing es v ≡ b
           → SplitOne es S ts labels v blocks (splitBy (byTest b (length around)) degrees sides ends labels blocks v w)
           (if b then record { blocks = blocks + 1; marks = split v (labelPath true (base (blocks + 1)) around m) } else record { blocks = blocks; marks = split v m })
       go true t = splits-ring t (off t) (on-same t)

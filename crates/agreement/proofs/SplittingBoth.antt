@@ -9,8 +9,8 @@ use mathlib.Core.List.{List, [], _∷_}
 use lib.ListN.{length, getD, set, length-set}
 use lib.Seq.{set-set, set-comm}
 use Rattle.model.specs.Basics.{maxVertices}
-use Rattle.model.specs.Graph.{Edge, Pass, degree, lowerEdge, round}
-use Rattle.model.specs.Labels.{Labelling, Marks, base, labelPath, next, onOneRing, passes, relabelCount, ringAt, split, splitAt, splitTwo, tap}
+use Rattle.model.specs.Graph.{Edge, Pass, degree, lowerNumbered, onceRound}
+use Rattle.model.specs.Labels.{Labelling, Marks, base, labelPath, next, onOneRing, passes, relabelCount, vertexOnRing, split, splitOrTap, splitTwo, tap}
 use Rattle.tables.specs.Steps.{most16, most32, sum32}
 use Rattle.tables.specs.Rounds.{backIn, ringIn}
 use Rattle.tables.specs.declared.rings.Round.the-variants.{Shared}
@@ -34,23 +34,23 @@ use Rattle.agreement.proofs.Splitting.{Also, SplitAs, SplitOne, bared-a
 -- ---- the answer of the ring test
 
 module _ {es : List Edge} (pr : Proper es) {degrees sides ends lows : List ℕ} (sh : Shows es degrees sides ends lows) (v w : ℕ) (two : degree es v ≡ 2) where
-  pub by-test : (ringAt es v ≡ true → Off (round es (lowerEdge es v) v) w)
-      → ringIn degrees sides ends v w (length es) ≡ byTest (ringAt es v) (length (round es (lowerEdge es v) v))
+  pub by-test : (vertexOnRing es v ≡ true → Off (onceRound es (lowerNumbered es v) v) w)
+      → ringIn degrees sides ends v w (length es) ≡ byTest (vertexOnRing es v) (length (onceRound es (lowerNumbered es v) v))
   unfolding backIn
-  by-test off = go (true-or-false (ringAt es v))
+  by-test off = go (true-or-false (vertexOnRing es v))
     where
-      go : (ringAt es v ≡ true) ⊎ (ringAt es v ≡ false) → ringIn degrees sides ends v w (length es) ≡ byTest (ringAt es v) (length (round es (lowerEdge es v) v))
-      go (inl t) = ring-yes pr sh v w two t ∙ rw (t, passes-off w (round es (lowerEdge es v) v) (off t))
+      go : (vertexOnRing es v ≡ true) ⊎ (vertexOnRing es v ≡ false) → ringIn degrees sides ends v w (length es) ≡ byTest (vertexOnRing es v) (length (onceRound es (lowerNumbered es v) v))
+      go (inl t) = ring-yes pr sh v w two t ∙ rw (t, passes-off w (onceRound es (lowerNumbered es v) v) (off t))
       go (inr t) = ring-no pr sh v w two t ∙ rw t
 
-  pub by-shared : ringAt es v ≡ true → InPath (round es (lowerEdge es v) v) w → ringIn degrees sides ends v w (length es) ≡ Shared (length (round es (lowerEdge es v) v))
+  pub by-shared : vertexOnRing es v ≡ true → InPath (onceRound es (lowerNumbered es v) v) w → ringIn degrees sides ends v w (length es) ≡ Shared (length (onceRound es (lowerNumbered es v) v))
   unfolding backIn
-  by-shared t f = ring-yes pr sh v w two t ∙ rw (passes-in w (round es (lowerEdge es v) v) f)
+  by-shared t f = ring-yes pr sh v w two t ∙ rw (passes-in w (onceRound es (lowerNumbered es v) v) f)
 
   -- a singular vertex lies on no ring
-  pub singular-off : (degree es w ≡ 2 → ⊥) → ringAt es v ≡ true → Off (round es (lowerEdge es v) v) w
+  pub singular-off : (degree es w ≡ 2 → ⊥) → vertexOnRing es v ≡ true → Off (onceRound es (lowerNumbered es v) v) w
   singular-off n t i s j e =
-      let b : Between es (s .at) (s .before) (s .after) = between-ith (round es (lowerEdge es v) v) (rd-between pr sh v two t) i s j in
+      let b : Between es (s .at) (s .before) (s .after) = between-ith (onceRound es (lowerNumbered es v) v) (rd-between pr sh v two t) i s j in
       n (subst (λ (u : ℕ). degree es u ≡ 2) e (is-two es (s .at) (b .regular)))
 
 abbrev pub Nobody : ℕ → Type 0
@@ -66,7 +66,7 @@ whole-as sh e ls ll = record { kept = record { labels-are = e; links = λ v b n.
 module _ {es : List Edge} (pr : Proper es) {degrees sides ends labels : List ℕ} {m : Marks} (sh : Shows es degrees sides ends (m .lows)) (k : SplitAs es Nobody sides labels m)
     (blocks : ℕ) where
   pub splits-single : (v w : ℕ) → degree es v ≡ 2 → degree es w ≢ 2 → blocks < most16 → base (blocks + 1) + length es < most32
-      → SplitOne es Nobody labels labels v blocks (splitIn degrees sides ends labels blocks v w (length es)) (splitAt es blocks v m)
+      → SplitOne es Nobody labels labels v blocks (splitIn degrees sides ends labels blocks v w (length es)) (splitOrTap es blocks v m)
   unfolding splitIn
   splits-single v w two sw few room =
       rw (by-test pr sh v w two (singular-off pr sh v w two sw))
@@ -122,10 +122,10 @@ module _ {es : List Edge} (pr : Proper es) {degrees sides ends labels : List ℕ
     (blocks a b : ℕ) (ca : degree es a ≡ 2) (cb : degree es b ≡ 2) (ab : a ≢ b) (few : blocks + 1 < most16) (room : 8192 * (blocks + 2) + length es < most32)
     (long : length labels ≤ most16) where
   abbrev rda : List Pass
-  rda = round es (lowerEdge es a) a
+  rda = onceRound es (lowerNumbered es a) a
 
   abbrev rdb : List Pass
-  rdb = round es (lowerEdge es b) b
+  rdb = onceRound es (lowerNumbered es b) b
 
   ba : b ≢ a
   ba e = ab (sym e)
@@ -136,35 +136,35 @@ module _ {es : List Edge} (pr : Proper es) {degrees sides ends labels : List ℕ
 
   -- ---- not on one ring
   module _ (o : onOneRing es a b ≡ false) where
-    off-ab : ringAt es a ≡ true → Off rda b
+    off-ab : vertexOnRing es a ≡ true → Off rda b
     unfolding onOneRing
     off-ab t = not-passed b rda (rw t at o)
 
-    no-ab : ringAt es a ≡ true → InPath rda b → ⊥
+    no-ab : vertexOnRing es a ≡ true → InPath rda b → ⊥
     no-ab t f = off-ab t (f .index) (f .pass-is) (f .ith) (f .at-is)
 
-    off-ba : ringAt es b ≡ true → Off rdb a
+    off-ba : vertexOnRing es b ≡ true → Off rdb a
     off-ba t i s j e =
         let f : InPath rdb a = record { index = i; pass-is = s; ith = j; at-is = e } in
-        let ra : ringAt es a ≡ true = ring-too es pr b a cb ca ba t f in
+        let ra : vertexOnRing es a ≡ true = ring-too es pr b a cb ca ba t f in
         no-ab ra (meets-back es pr a b ca cb ab ra t f)
 
-    off-each : ringAt es b ≡ true → ringAt es a ≡ true → (z : ℕ) → InPath rdb z → Off rda z
+    off-each : vertexOnRing es b ≡ true → vertexOnRing es a ≡ true → (z : ℕ) → InPath rdb z → Off rda z
     off-each tb ta z f i s j e = no-ab ta (shares es pr a b ca cb ab ta tb z (record { index = i; pass-is = s; ith = j; at-is = e }) f)
 
     abbrev l₁ : Labelling
-    l₁ = splitAt es blocks a m
+    l₁ = splitOrTap es blocks a m
 
     abbrev g₁ : Changed
-    g₁ = splitBy (byTest (ringAt es a) (length rda)) degrees sides ends labels blocks a b
+    g₁ = splitBy (byTest (vertexOnRing es a) (length rda)) degrees sides ends labels blocks a b
 
     q₁ : SplitOne es Nobody labels labels a blocks g₁ l₁
     q₁ = splits-one pr sh a b ca Nobody labels sides labels m blocks k (λ s. s) refl refl (omega arith) (base-small blocks (omega arith)) (λ t u s. absurd s) (λ t i s j. refl)
 
     abbrev g₂ : Changed
-    g₂ = splitBy (byTest (ringAt es b) (length rdb)) degrees (g₁ .sides) ends (g₁ .labels) (l₁ .blocks) b a
+    g₂ = splitBy (byTest (vertexOnRing es b) (length rdb)) degrees (g₁ .sides) ends (g₁ .labels) (l₁ .blocks) b a
 
-    q₂ : SplitOne es (Also a Nobody) labels (g₁ .labels) b (l₁ .blocks) g₂ (splitAt es (l₁ .blocks) b (l₁ .marks))
+    q₂ : SplitOne es (Also a Nobody) labels (g₁ .labels) b (l₁ .blocks) g₂ (splitOrTap es (l₁ .blocks) b (l₁ .marks))
     q₂ =
         splits-one pr sh b a cb (Also a Nobody) labels (g₁ .sides) (g₁ .labels) (l₁ .marks) (l₁ .blocks) (q₁ .holds) not-a (sym (q₁ .long)) (q₁ .same b ba off-ab)
         (omega (arith, q₁ .blocks-few)) (base-small (l₁ .blocks) (q₁ .blocks-few)) off-a on-same
@@ -173,11 +173,11 @@ module _ {es : List Edge} (pr : Proper es) {degrees sides ends labels : List ℕ
         not-a (inl e) = ba e
         not-a (inr s) = s
 
-        off-a : ringAt es b ≡ true → (u : ℕ) → (u ≡ a) ⊎ ⊥ → Off rdb u
+        off-a : vertexOnRing es b ≡ true → (u : ℕ) → (u ≡ a) ⊎ ⊥ → Off rdb u
         off-a t u (inl e) = rw e (off-ba t)
         off-a t u (inr s) = absurd s
 
-        on-same : ringAt es b ≡ true → (i : ℕ) (s : Pass) → Ith s i rdb → getD (g₁ .labels) (s .at) 0 ≡ getD labels (s .at) 0
+        on-same : vertexOnRing es b ≡ true → (i : ℕ) (s : Pass) → Ith s i rdb → getD (g₁ .labels) (s .at) 0 ≡ getD labels (s .at) 0
         on-same t i s j = q₁ .same (s .at) (off-ba t i s j) (λ ta. off-each t ta (s .at) (record { index = i; pass-is = s; ith = j; at-is = refl }))
 
     sums : relabelCount labels (g₂ .labels) ≡ sum32 (g₁ .relabellings) (g₂ .relabellings)
@@ -188,22 +188,22 @@ module _ {es : List Edge} (pr : Proper es) {degrees sides ends labels : List ℕ
     both-apart : SplitTwo es labels a b (splitBothIn degrees sides ends labels blocks a b (length es)) (splitTwo es blocks a b m)
     unfolding splitBothIn splitTwo
     both-apart =
-        rw (by-test pr sh a b ca off-ab, by-test pr sh b a cb off-ba, left-test (ringAt es b) (length rdb), q₁ .blocks-are, o)
+        rw (by-test pr sh a b ca off-ab, by-test pr sh b a cb off-ba, left-test (vertexOnRing es b) (length rdb), q₁ .blocks-are, o)
         (record { holds = q₂ .holds; blocks-are = q₂ .blocks-are; counts = sums })
 
   -- ---- on one ring
   module _ (o : onOneRing es a b ≡ true) where
-    both : (ringAt es a ≡ true) × (passes b rda ≡ true)
+    both : (vertexOnRing es a ≡ true) × (passes b rda ≡ true)
     unfolding onOneRing
-    both = and-true (ringAt es a) (passes b rda) o
+    both = and-true (vertexOnRing es a) (passes b rda) o
 
-    ra : ringAt es a ≡ true
+    ra : vertexOnRing es a ≡ true
     ra = both .0
 
     on-a : InPath rda b
     on-a = passed b rda (both .1)
 
-    rb : ringAt es b ≡ true
+    rb : vertexOnRing es b ≡ true
     rb = ring-too es pr a b ca cb ab ra on-a
 
     on-b : InPath rdb a
@@ -263,7 +263,7 @@ module _ {es : List Edge} (pr : Proper es) {degrees sides ends labels : List ℕ
         counted ∙ z ∙ sym (sum32-is (laid .count) 0 (omega (arith, count-most)))
 
     both-one : SplitTwo es labels a b (splitBothIn degrees sides ends labels blocks a b (length es)) (splitTwo es blocks a b m)
-    unfolding splitBothIn splitTwo splitAt tap leftFor
+    unfolding splitBothIn splitTwo splitOrTap tap leftFor
     both-one =
         rw (by-shared pr sh a b ca ra on-a, by-shared pr sh b a cb rb on-b, more16-is blocks (omega arith), tapped, o, ra)
         (record { holds = held; blocks-are = refl; counts = last })

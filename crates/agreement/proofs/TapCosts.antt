@@ -6,8 +6,8 @@ use native.Mathlib.Omega.{arith}
 use mathlib.Core.Bool.{true}
 use mathlib.Core.List.{List}
 use lib.ListN.{length, set}
-use Rattle.model.specs.Graph.{Edge, Pass, degree, lowerEdge, round}
-use Rattle.model.specs.Labels.{base, ringAt}
+use Rattle.model.specs.Graph.{Edge, Pass, degree, lowerNumbered, onceRound}
+use Rattle.model.specs.Labels.{base, vertexOnRing}
 use Rattle.model.specs.Register.{Register}
 use Rattle.model.specs.Tables.{tablesOf}
 use Rattle.model.specs.Notions.{Reachable}
@@ -28,12 +28,12 @@ use Rattle.agreement.proofs.Costs.{Older, lay-costs, lay-costs-less}
 use Rattle.agreement.proofs.Tables.{shows}
 use Rattle.agreement.proofs.Registers.{proper, room}
 
-module _ (r : Register) (g : Reachable r) (v : ℕ) (two : degree (r .edges) v ≡ 2) (t : ringAt (r .edges) v ≡ true) where
+module _ (r : Register) (g : Reachable r) (v : ℕ) (two : degree (r .edges) v ≡ 2) (t : vertexOnRing (r .edges) v ≡ true) where
   abbrev es : List Edge
   es = r .edges
 
   abbrev rd : List Pass
-  rd = round es (lowerEdge es v) v
+  rd = onceRound es (lowerNumbered es v) v
 
   sh : Shows es ((tablesOf r) .degrees) ((tablesOf r) .sides) ((tablesOf r) .ends) (r .lows)
   sh = shows r g
@@ -56,9 +56,9 @@ module _ (r : Register) (g : Reachable r) (v : ℕ) (two : degree (r .edges) v �
   pub tap-costs : tapIn ((tablesOf r) .degrees) ((tablesOf r) .sides) ((tablesOf r) .ends) (r .labels) v (r .blocks + 1) (length rd) .count ≡ length rd
   tap-costs = lays (r .labels) ∙ lay-costs (base (r .blocks + 1)) rd ((tablesOf r) .sides) (r .labels) (rd-once (proper r g) sh v two t) older
 
-  pub tap-costs-less : (w : ℕ) → InPath (round (r .edges) (lowerEdge (r .edges) v) v) w
-      → tapIn ((tablesOf r) .degrees) ((tablesOf r) .sides) ((tablesOf r) .ends) (set (r .labels) w 0) v (r .blocks + 1) (length (round (r .edges) (lowerEdge (r .edges) v) v)) .count + 1
-      ≡ length (round (r .edges) (lowerEdge (r .edges) v) v)
+  pub tap-costs-less : (w : ℕ) → InPath (onceRound (r .edges) (lowerNumbered (r .edges) v) v) w
+      → tapIn ((tablesOf r) .degrees) ((tablesOf r) .sides) ((tablesOf r) .ends) (set (r .labels) w 0) v (r .blocks + 1) (length (onceRound (r .edges) (lowerNumbered (r .edges) v) v)) .count + 1
+      ≡ length (onceRound (r .edges) (lowerNumbered (r .edges) v) v)
   tap-costs-less w f =
       ap (λ (n : ℕ). n + 1) (lays (set (r .labels) w 0))
       ∙ lay-costs-less (base (r .blocks + 1)) rd ((tablesOf r) .sides) (r .labels) w (rd-once (proper r g) sh v two t) older f
