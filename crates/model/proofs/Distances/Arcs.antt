@@ -7,7 +7,7 @@ use mathlib.Core.Bool.{true, false}
 use mathlib.Core.List.{List, [], _∷_, _++_, map, map-append, reverse-reverse, List·Memᴰ as Mem, List·Memᴰ·cases-cons as mem-cases}
 use lib.ListN.{length, getD}
 use Rattle.model.specs.Basics.{sum}
-use Rattle.model.specs.Graph.{Edge, Pass, afterOf, atOf, chainLength, chainOf, edgeAt, edgeOnRing, far, incident, isRegular, lengthsOf, onceRound, turn, until}
+use Rattle.model.specs.Graph.{Edge, Pass, afterOf, atOf, chainOf, edgeAt, edgeOnRing, far, incident, isRegular, lengthsOf, onceRound, turn}
 use Rattle.model.specs.Distance.{ChainWay, Distance, Hop, IsDistance, arc, distance, joined, last, notJoined, stay, stop, stretch}
 use Rattle.model.specs.Notions.{ShorterWay}
 use Rattle.model.proofs.Basics.Booleans.{not-both}
@@ -26,7 +26,7 @@ use Rattle.model.proofs.Chains.Partition.{first-at, own-round, ring-inn
 use Rattle.model.proofs.Chains.Reaches.{one-length, ring-length}
 use Rattle.model.proofs.Distances.Distance.{is-distance}
 use Rattle.model.proofs.Distances.HopTrails.{HopTrail, along-back, alongEdges, hop-trail}
-use Rattle.model.proofs.Distances.TrailHops.{Before, along-part, before}
+use Rattle.model.proofs.Distances.TrailHops.{along-part, before}
 use Rattle.model.proofs.Distances.Hops.{chains-distance}
 
 once-part : (front rest : List Pass) → Once (front ++ rest) → Once rest
