@@ -1,10 +1,9 @@
 -- The walk from a vertex along its edge until it is home: once round a ring, or, on a chain, the whole walk to its end.
 use mathlib.Core.Path.{_≡_, refl, sym, ap, _∙_, subst}
 use mathlib.Core.Logic.{_≢_}
-use Prim.Native.Nat.{ℕ, zero, suc, _≤_, _<_}
-use native.Mathlib.Nat.{not-suc-le-zero}
-use mathlib.Core.Bool.{Bool, true, false}
-use mathlib.Core.List.{List, [], _∷_, _++_, append-nil}
+use Prim.Native.Nat.{ℕ, _<_}
+use mathlib.Core.Bool.{true, false}
+use mathlib.Core.List.{List, [], _++_, append-nil}
 use lib.ListN.{length, getD}
 use borrow.Author.Tests.{eq-eqb, ne-eqb}
 use Rattle.model.specs.Graph.{Edge, Pass, edgeAt, endOf, endOnwards, far, isRegular, edgeOnRing, onwards, onceRound, until}
@@ -17,16 +16,11 @@ use Rattle.model.proofs.Walks.Turn.{At}
 use Rattle.model.proofs.Walks.Joins.{Across, across, proper-at}
 use Rattle.model.proofs.Walks.Ended.{singular-off}
 use Rattle.model.proofs.Walks.Places.{Off}
-use Rattle.model.proofs.Walks.Trail.{Trail, done, pass, trail-at, trail-endOf}
-use Rattle.model.proofs.Walks.Returns.{off-ring}
+use Rattle.model.proofs.Walks.Trail.{trail-at, trail-endOf}
+use Rattle.model.proofs.Walks.Returns.{first-regular, off-ring}
 use Rattle.model.proofs.Walks.Round.{Meets, misses, meets, meets-or, Round, arrives-ring, ring-round, until-append}
 use Rattle.model.proofs.Walks.Whole.{Onwards, onwards-ends}
-use Rattle.agreement.proofs.Registers.{proper}
-use Rattle.agreement.proofs.Chaining.{Step, at-first, steps, stops}
-
-first-regular : {es : List Edge} {d v q w : ℕ} {ss : List Pass} → Trail es d v ss q w → 1 ≤ length ss → isRegular es v ≡ true
-first-regular done h = absurd (not-suc-le-zero h)
-first-regular (pass t c e u) h = c
+use Rattle.agreement.proofs.Chaining.{steps, stops}
 
 pub until-off : (v : ℕ) (ss : List Pass) → Off ss v → until v ss ≡ ss
 unfolding until
