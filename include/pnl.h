@@ -9,7 +9,7 @@
  *   Returns    the count of answer bytes, 0 or more; or a refusal, one of the PNL_REFUSED constants, all below 0.
  *   Answer     bytes of `answer` behind the count stay as they were. Under a refusal all of them do.
  *   Order      the list's refusal comes first: in the header NO_MARK, CUT, VERSION; in a record UNKNOWN_KIND, CUT, then
- *              TOO_MANY_FITTINGS, or NOT_LANDED, SAME_FITTING, LENGTH, TOO_MANY_PIPES, RING. Then come the refusals of the call,
+ *              TOO_MANY_FITTINGS, or NOT_LANDED, SAME_FITTING, LENGTH, TOO_MANY_PIPES. Then come the refusals of the call,
  *              SHORT_ANSWER last. Whether NOT_LANDED is the list's or the call's, pnl_sheet tells: it has none of its own.
  *   Lengths    list_len and answer_len are in bytes, of any size. A pointer may be null where its length is 0.
  *   Overlap    `list` and `answer` must not overlap.
@@ -65,7 +65,6 @@ enum pnl_refusal {
     PNL_REFUSED_LENGTH = -7,            /* a pipe of length 0 or above 100,000 mm */
     PNL_REFUSED_TOO_MANY_FITTINGS = -22, /* a 4,097th fitting */
     PNL_REFUSED_TOO_MANY_PIPES = -23,   /* a 4,097th pipe */
-    PNL_REFUSED_RING = -24,             /* a pipe that closes a ring of couplings only */
     /* The call. */
     PNL_REFUSED_NO_COUPLING = -8,       /* a tag that no coupling wears, or a fitting that is no coupling */
     PNL_REFUSED_SHORT_ANSWER = -9       /* the answer does not fit in answer_len bytes */

@@ -73,7 +73,6 @@ static void compare_refusals(void)
     REFUSED(PNL_REFUSED_LENGTH, pnl_sheet(LIST(HEADER "FF" "P\0\0\1\0\0\0\0\0"), ROOM));
     REFUSED(PNL_REFUSED_TOO_MANY_FITTINGS, full_sheet(4097, 0));
     REFUSED(PNL_REFUSED_TOO_MANY_PIPES, full_sheet(4, 4097));
-    REFUSED(PNL_REFUSED_RING, pnl_sheet(LIST(HEADER "FF" PIPE PIPE), ROOM));
     REFUSED(PNL_REFUSED_NO_COUPLING, pnl_find(LIST(HOUSE), 0, ROOM));
     REFUSED(PNL_REFUSED_SHORT_ANSWER, pnl_sheet(LIST(HOUSE), answer, 0));
 }

@@ -1,23 +1,43 @@
--- Which table function an insertion is, by which of its ends are leaves.
+-- Which table function an insertion is, by two tests of each end: is it a leaf, is it regular.
 use mathlib.Core.Path.{_≡_, refl}
-use Prim.Native.Nat.{ℕ}
-use mathlib.Core.Bool.{Bool}
+use Prim.Native.Nat.{ℕ, zero, suc}
+use native.Mathlib.Omega.{arith}
+use mathlib.Core.Bool.{Bool, true, false}
 use mathlib.Core.List.{List}
 use lib.Dec.{eqb}
+use borrow.Author.Tests.{ne-eqb}
 use Rattle.model.specs.Basics.{if_then_else_}
 use Rattle.model.specs.Cases.{Class, branch, caseOf, classOf, isolated, leaf, regular}
-use Rattle.insertion.specs.Placing.{Placed, openBothIn, placeExtend, placeIn, placeMerge, placementFor}
+use Rattle.insertion.specs.Placing.{Placed, extendedIn, mergedIn, newIn, placeIn, splitBothNewIn, splitExtendedIn, splitNewIn}
 use Rattle.model.proofs.Labels.Cases.{class-leaf, isLeafClass}
 
-module _ (degrees sides ends labels : List ℕ) (blocks a b e n : ℕ) where
-  abbrev pub byLeaves : Bool → Bool → Placed
-  byLeaves la lb =
-      if la
-      then (if lb then placeMerge degrees sides ends labels blocks a b e n else placeExtend degrees sides ends labels blocks a a b e)
-      else (if lb then placeExtend degrees sides ends labels blocks b a b e else openBothIn degrees sides labels blocks a b e)
+unfoldable isRegularClass : Class → Bool
+isRegularClass isolated = false
+isRegularClass leaf = false
+isRegularClass regular = true
+isRegularClass branch = false
 
-  place-class : (c k : Class) → placeIn (caseOf c k) degrees sides ends labels blocks a b e n ≡ byLeaves (isLeafClass c) (isLeafClass k)
-  unfolding placeIn placementFor caseOf isLeafClass
+class-regular : (n : ℕ) → eqb n 2 ≡ isRegularClass (classOf n)
+unfolding isRegularClass classOf
+class-regular zero = refl
+class-regular (suc zero) = refl
+class-regular (suc (suc zero)) = refl
+class-regular (suc (suc (suc n))) = ne-eqb (suc (suc (suc n))) 2 (λ z. omega arith)
+
+module _ (degrees sides ends labels : List ℕ) (blocks a b e : ℕ) where
+  abbrev pub byEnds : Bool → Bool → Bool → Bool → Placed
+  byEnds la lb ra rb =
+      if la
+      then (if lb then mergedIn degrees sides ends labels blocks a b e
+      else if rb then splitExtendedIn degrees sides ends labels blocks b a e
+      else extendedIn degrees sides ends labels blocks a b e)
+      else (if lb then (if ra then splitExtendedIn degrees sides ends labels blocks a b e else extendedIn degrees sides ends labels blocks b a e)
+      else if ra then (if rb then splitBothNewIn degrees sides ends labels blocks a b e else splitNewIn degrees sides ends labels blocks a b e)
+      else if rb then splitNewIn degrees sides ends labels blocks b a e
+      else newIn degrees sides ends labels blocks a b e)
+
+  place-class : (c k : Class) → placeIn (caseOf c k) degrees sides ends labels blocks a b e ≡ byEnds (isLeafClass c) (isLeafClass k) (isRegularClass c) (isRegularClass k)
+  unfolding caseOf isLeafClass isRegularClass
   place-class isolated isolated = refl
   place-class isolated leaf = refl
   place-class isolated regular = refl
@@ -35,5 +55,5 @@ module _ (degrees sides ends labels : List ℕ) (blocks a b e n : ℕ) where
   place-class branch regular = refl
   place-class branch branch = refl
 
-  pub place-leaves : (p q : ℕ) → placeIn (caseOf (classOf p) (classOf q)) degrees sides ends labels blocks a b e n ≡ byLeaves (eqb p 1) (eqb q 1)
-  place-leaves p q = rw (class-leaf p, class-leaf q) (place-class (classOf p) (classOf q))
+  pub place-ends : (p q : ℕ) → placeIn (caseOf (classOf p) (classOf q)) degrees sides ends labels blocks a b e ≡ byEnds (eqb p 1) (eqb q 1) (eqb p 2) (eqb q 2)
+  place-ends p q = rw (class-leaf p, class-leaf q, class-regular p, class-regular q) (place-class (classOf p) (classOf q))

@@ -1,25 +1,29 @@
--- A walk over the tables of a register is the walk over its edges: it ends where that one ends, passes as many regular vertices,
--- and the sum of its lengths is never cut at 32 bits.
+-- A walk over the tables of a register is the walk over its edges until its home: it ends where that one ends, passes as many regular
+-- vertices, and the sum of its lengths is never cut at 32 bits.
 use mathlib.Core.Path.{_≡_, refl, ap}
-use mathlib.Core.Logic.{_≢_}
-use Prim.Native.Nat.{ℕ, zero, suc, _+_, _*_, _≤_, _<_}
+use mathlib.Core.Logic.{_≢_, _⊎_, inl, inr}
+use Prim.Native.Nat.{ℕ, zero, suc, _+_, _*_, _≤_, _<_, min}
 use native.Mathlib.Omega.{arith}
-use native.Mathlib.Decide.{decLt}
-use mathlib.Core.Bool.{Bool, true, false}
+use native.Mathlib.Decide.{decLt, ℕ-discrete}
+use borrow.Author.Tests.{eq-eqb, ne-eqb}
+use lib.Dec.{eqb}
+use mathlib.Core.Bool.{Bool, true, false, _&&_}
 use mathlib.Core.List.{List, [], _∷_, map}
 use lib.ListN.{length, getD, length-map, List·getD-eq-default}
 use Rattle.model.specs.Basics.{maxEdges, maxLength, sum}
-use Rattle.model.specs.Graph.{Edge, Pass, afterOf, edgeAt, endOf, endOnwards, far, isRegular, lengthAt, lengthsOf, noEdge, onwards, turn, walk}
+use Rattle.model.specs.Graph.{Edge, Pass, afterOf, atOf, edgeAt, endOf, far, isRegular, lengthAt, lengthsOf, noEdge, turn, until, walk}
 use Rattle.model.specs.Register.{Register}
 use Rattle.model.specs.Tables.{Tables, tablesOf}
 use Rattle.model.specs.Notions.{Reachable}
 use Rattle.tables.specs.Steps.{farIn, turnIn}
 use Rattle.tables.proofs.Sums.{sum32-is}
-use Rattle.queries.specs.Chains.{WalkEnd, walkEnd, walkAhead, walkIn}
+use Rattle.queries.specs.Chains.{WalkEnd, goesOnIn, walkEnd, walkAhead, walkIn}
 use Rattle.queries.proofs.WalkLaws.{walkIn-on, walkIn-stop}
 use Rattle.model.proofs.Walks.Degree.{end-first, end-second}
 use Rattle.model.proofs.Walks.Turn.{At}
 use Rattle.model.proofs.Walks.Joins.{proper-at}
+use Rattle.model.proofs.Basics.Booleans.{true-or-false}
+use Rattle.model.proofs.Walks.Round.{length-until, until-no, until-yes}
 use Rattle.model.proofs.Walks.Trail.{walk-on, walk-stop, Next, next-edge}
 use Rattle.model.proofs.Registers.ReadBack.{length-read}
 use Rattle.agreement.proofs.Lockstep.{Shows, shows-regular, shows-singular, shows-turn}
@@ -81,6 +85,51 @@ module _ (r : Register) (g : Reachable r) (d v : ℕ) (a : At (r .edges) v d) wh
   pub stops : isRegular (r .edges) v ≡ false → getD ((tablesOf r) .degrees) v 0 ≢ 2
   stops q = shows-singular reachable-shows a q
 
+-- a walker that is not home goes on
+module _ (r : Register) (g : Reachable r) (home d v : ℕ) (a : At (r .edges) v d) where
+  pub goes-not : isRegular (r .edges) v ≡ false → goesOnIn ((tablesOf r) .degrees) home v ≡ false
+  unfolding goesOnIn
+  goes-not q = rw (ne-eqb _ _ (stops r g d v a q))
+
+  pub goes-home : v ≡ home → goesOnIn ((tablesOf r) .degrees) home v ≡ false
+  unfolding goesOnIn
+  goes-home e = rw (eq-eqb v home e) (and-false (eqb (getD ((tablesOf r) .degrees) v 0) 2))
+    where
+      and-false : (b : Bool) → b && false ≡ false
+      and-false true = refl
+      and-false false = refl
+
+  pub goes-on : isRegular (r .edges) v ≡ true → v ≢ home → goesOnIn ((tablesOf r) .degrees) home v ≡ true
+  unfolding goesOnIn
+  goes-on q n = rw (eq-eqb _ _ ((steps r g d v a q) .regular), ne-eqb v home n)
+
+-- what a walk passes before it is home, by its first step
+module _ (home n : ℕ) (es : List Edge) (d v : ℕ) where
+  pub before-none : isRegular es v ≡ false → until home (walk (suc n) es d v) ≡ []
+  unfolding until
+  before-none q = rw (walk-stop (suc n) es d v q)
+
+  pub before-home : isRegular es v ≡ true → v ≡ home → until home (walk (suc n) es d v) ≡ []
+  before-home q e = rw (walk-on n es d v q) (until-yes home _ _ e)
+
+  pub before-on : isRegular es v ≡ true → v ≢ home
+      → until home (walk (suc n) es d v) ≡ record { before = d; at = v; after = turn es d v } ∷ until home (walk n es (turn es d v) (far es (turn es d v) v))
+  before-on q e = rw (walk-on n es d v q) (until-no home _ _ e)
+
+-- the three ways of a first step
+pub data First (r : Register) (home v : ℕ) : Type 0 where
+  at-end : isRegular (r .edges) v ≡ false → First r home v
+  at-home : isRegular (r .edges) v ≡ true → v ≡ home → First r home v
+  onward : isRegular (r .edges) v ≡ true → v ≢ home → First r home v
+
+pub first-step : (r : Register) (home v : ℕ) → First r home v
+first-step r home v = go (true-or-false (isRegular (r .edges) v)) (ℕ-discrete v home)
+  where
+    go : (isRegular (r .edges) v ≡ true) ⊎ (isRegular (r .edges) v ≡ false) → Dec (v ≡ home) → First r home v
+    go (inr q) e = at-end q
+    go (inl q) (yes e) = at-home q e
+    go (inl q) (no n) = onward q n
+
 -- ---- the sum of lengths
 
 walk-most : (n : ℕ) (es : List Edge) (d v : ℕ) → length (walk n es d v) ≤ n
@@ -97,27 +146,35 @@ unfolding sum lengthsOf
 sum-most es [] h = omega arith
 sum-most es (x ∷ xs) h = omega (arith, h x, sum-most es xs h)
 
--- a walk of n steps
-walk-sum : (r : Register) → Reachable r → (n d v : ℕ) → sum (lengthsOf (r .edges) (map afterOf (walk n (r .edges) d v))) ≤ maxLength * n
-walk-sum r g n d v =
+-- a walk of at most n steps
+walk-sum : (r : Register) → Reachable r → (home n d v : ℕ) → sum (lengthsOf (r .edges) (map afterOf (until home (walk n (r .edges) d v)))) ≤ maxLength * n
+walk-sum r g home n d v =
     let ss : List Pass = walk n (r .edges) d v in
-    omega (arith, sum-most (r .edges) (map afterOf ss) (length-few r g), length-map ss afterOf, walk-most n (r .edges) d v)
+    let us : List Pass = until home ss in
+    let m : length us ≤ n = omega (arith, length-until home ss, walk-most n (r .edges) d v) in
+    omega (arith, sum-most (r .edges) (map afterOf us) (length-few r g), length-map us afterOf, m)
+
+-- ---- the least of x and the numbers of a list, x compared last
+
+unfoldable pub lower : List ℕ → ℕ → ℕ
+lower [] x = x
+lower (y ∷ ys) x = min y (lower ys x)
 
 -- ---- the walk
 
 -- the walk over tables
-abbrev pub walkOver : Tables → ℕ → ℕ → ℕ → WalkEnd
+abbrev pub walkOver : Tables → ℕ → ℕ → ℕ → ℕ → WalkEnd
 walkOver t = walkIn (t .degrees) (t .sides) (t .ends) (t .lengths)
 
 -- what a walk from v that passes `ss` comes to
-abbrev walkedBy : List Edge → ℕ → List Pass → WalkEnd
-walkedBy es v ss = walkEnd (endOf es v ss) (length ss) (sum (lengthsOf es (map afterOf ss)))
+abbrev pub walkedBy : List Edge → ℕ → ℕ → List Pass → WalkEnd
+walkedBy es home v ss = walkEnd (endOf es v ss) (length ss) (sum (lengthsOf es (map afterOf ss))) (lower (map atOf ss) home)
 
-module _ (r : Register) (g : Reachable r) where
-  walks : (n d v : ℕ) → n ≤ maxEdges → At (r .edges) v d → walkOver (tablesOf r) n d v ≡ walkedBy (r .edges) v (walk n (r .edges) d v)
-  unfolding walkIn walkAhead walk endOf sum lengthsOf afterOf
+module _ (r : Register) (g : Reachable r) (home : ℕ) where
+  pub walks : (n d v : ℕ) → n ≤ maxEdges → At (r .edges) v d → walkOver (tablesOf r) home n d v ≡ walkedBy (r .edges) home v (until home (walk n (r .edges) d v))
+  unfolding walkIn walkAhead walk until endOf sum lengthsOf afterOf atOf lower
   walks zero d v m a = refl
-  walks (suc n) d v m a = go (isRegular es v) refl (λ c at. walks n c (far es c v) (omega arith) at)
+  walks (suc n) d v m a = go (first-step r home v) (λ c at. walks n c (far es c v) (omega arith) at)
     where
       es : List Edge
       es = r .edges
@@ -126,27 +183,25 @@ module _ (r : Register) (g : Reachable r) where
       t = tablesOf r
 
       Goal : Type 0
-      Goal = walkOver t (suc n) d v ≡ walkedBy es v (walk (suc n) es d v)
+      Goal = walkOver t home (suc n) d v ≡ walkedBy es home v (until home (walk (suc n) es d v))
 
-      go : (b : Bool) → isRegular es v ≡ b
-          → ((c : ℕ) → At es (far es c v) c → walkOver t n c (far es c v) ≡ walkedBy es (far es c v) (walk n es c (far es c v))) → Goal
-      go false q ih = rw (walk-stop (suc n) es d v q, walkIn-stop (t .degrees) (t .sides) (t .ends) (t .lengths) (suc n) d v (stops r g d v a q))
-      go true q ih =
+      stop : goesOnIn (t .degrees) home v ≡ false → until home (walk (suc n) es d v) ≡ [] → Goal
+      stop q e = rw (e, walkIn-stop (t .degrees) (t .sides) (t .ends) (t .lengths) home (suc n) d v q)
+
+      go : First r home v
+          → ((c : ℕ) → At es (far es c v) c → walkOver t home n c (far es c v) ≡ walkedBy es home (far es c v) (until home (walk n es c (far es c v)))) → Goal
+      go (at-end q) ih = stop (goes-not r g home d v a q) (before-none home n es d v q)
+      go (at-home q e) ih = stop (goes-home r g home d v a e) (before-home home n es d v q e)
+      go (onward q e) ih =
           let c : ℕ = turn es d v in
           let x : Step r d v = steps r g d v a q in
-          let k : 1 + length (walk n es c (far es c v)) ≡ suc (length (walk n es c (far es c v))) = omega arith in
+          let us : List Pass = until home (walk n es c (far es c v)) in
+          let k : 1 + length us ≡ suc (length us) = omega arith in
           rw (
-            walk-on n es d v q,
-            walkIn-on (t .degrees) (t .sides) (t .ends) (t .lengths) n d v c (far es c v) (x .regular) (x .turns) (x .arrives),
+            before-on home n es d v q e,
+            walkIn-on (t .degrees) (t .sides) (t .ends) (t .lengths) home n d v c (far es c v) (goes-on r g home d v a q e) (x .turns) (x .arrives),
             ih c (x .at),
             length-is r c (x .inside),
-            sum32-is (lengthAt es c) (sum (lengthsOf es (map afterOf (walk n es c (far es c v)))))
-                (omega (arith, length-few r g c, walk-sum r g n c (far es c v))),
+            sum32-is (lengthAt es c) (sum (lengthsOf es (map afterOf us))) (omega (arith, length-few r g c, walk-sum r g home n c (far es c v))),
             k,
           )
-
-  pub walk-agrees : (d v : ℕ) → At (r .edges) v d
-      → walkOver (tablesOf r) (length (r .edges)) d v
-      ≡ walkEnd (endOnwards (r .edges) d v) (length (onwards (r .edges) d v)) (sum (lengthsOf (r .edges) (map afterOf (onwards (r .edges) d v))))
-  unfolding endOnwards onwards
-  walk-agrees d v a = walks (length (r .edges)) d v (room r g) a

@@ -1,37 +1,45 @@
 -- Find and reach over the tables answer what the definitions answer.
 use mathlib.Core.Path.{_≡_, refl, sym, ap, _∙_}
 use mathlib.Core.Logic.{_≢_}
-use Prim.Native.Nat.{ℕ, zero, suc, _+_, _*_, _<_}
+use Prim.Native.Nat.{ℕ, zero, suc, _+_, _*_, _≤_, _<_}
 use native.Mathlib.Omega.{arith}
 use native.Mathlib.Nat.{not-suc-le-zero}
 use native.Mathlib.Decide.{ℕ-discrete}
 use mathlib.Core.Bool.{Bool, true, false, not}
 use mathlib.Core.Option.{Option, none, some, Option·none-ne-some, Option·some-injective, Option·some-ne-none}
-use mathlib.Core.List.{List, [], _∷_}
+use mathlib.Core.List.{List, [], _∷_, map}
 use lib.ListN.{length, getD}
 use lib.Dec.{eqb, ltb}
-use borrow.Author.Tests.{ne-eqb, eqb-true, eqb-false, ltb-true}
+use borrow.Author.Tests.{eq-eqb, ne-eqb, eqb-true, eqb-false, ltb-true}
 use Rattle.model.specs.Basics.{if_then_else_, maxVertices, sum}
-use Rattle.model.specs.Graph.{Edge, degree, far, isRegular, lengthAt, lengthsOf, turn}
+use Rattle.model.specs.Graph.{Edge, afterOf, chainLength, degree, endOf, endOnwards, far, isRegular, lengthAt, lengthsOf, lowerNumbered, edgeOnRing, onwards, onceRound, turn}
+use Rattle.model.specs.Labels.{vertexOnRing}
 use Rattle.model.specs.Distance.{lengthVia}
 use Rattle.model.specs.Register.{Register, lowEdgeOf}
-use Rattle.model.specs.Queries.{chainAt, find, lengthTo, reach, reached, refuses}
+use Rattle.model.specs.Queries.{Reply, chainAt, find, lengthTo, reach, reached, refuses}
 use Rattle.model.specs.Tables.{Tables, countsOf, tablesOf}
 use Rattle.model.specs.Notions.{Reachable}
+use Rattle.tables.specs.Steps.{sum32}
 use Rattle.tables.proofs.Sums.{sum32-is}
-use Rattle.queries.specs.Chains.{firstAt, firstFrom}
-use Rattle.queries.specs.Finding.{findIn, lengthToIn, reachIn}
+use Rattle.queries.specs.Chains.{WalkEnd, firstAt, firstFrom}
+use Rattle.queries.specs.Finding.{endToIn, findIn, lengthToIn, reachIn, wayIn}
 use Rattle.model.proofs.Walks.Degree.{is-two, two-is}
-use Rattle.model.proofs.Walks.Turn.{At, Turned, TwoEdges, turned, two-edges}
+use Rattle.model.proofs.Walks.Turn.{At, Turned, turned, two-edges}
+use Rattle.model.proofs.Walks.Trail.{afters}
 use Rattle.model.proofs.Walks.Joins.{across}
-use Rattle.model.proofs.Chains.Reaches.{along}
-use Rattle.model.proofs.Registers.Labelled.{Labelled, label-not-zero, regular-landed}
+use Rattle.model.proofs.Chains.Own.{chain-inner, lower-at, ring-both, ring-neither}
+use Rattle.model.proofs.Chains.Partition.{chain-has}
+use Rattle.model.proofs.Chains.Reaches.{along, one-length, ring-length}
+use Rattle.model.proofs.Registers.Facts.{LabelFacts}
+use Rattle.model.proofs.Registers.Founded.{Founded, regular-landed}
+use Rattle.model.proofs.Registers.Labelled.{label-facts}
 use Rattle.model.proofs.Registers.Answers.{find-none, find-own}
-use Rattle.model.proofs.Registers.Small.{reaches-small}
+use Rattle.model.proofs.Registers.Small.{chains-small, reaches-small}
 use Rattle.agreement.proofs.Lists.{PairAt}
 use Rattle.agreement.proofs.Tables.{degrees-read, far-is, sides-linked}
-use Rattle.agreement.proofs.Registers.{few, labelled, labels-long, low-at, no-label, proper}
-use Rattle.agreement.proofs.Chaining.{length-is, walk-agrees}
+use Rattle.agreement.proofs.Registers.{few, founded, labels-long, low-at, no-label, proper, room}
+use Rattle.agreement.proofs.Chaining.{length-is, walkedBy, walks}
+use Rattle.agreement.proofs.Rounds.{open-at, open-end, open-onto, open-singular, other-read, round-end, round-open, two-read}
 use Rattle.agreement.proofs.Lowest.{nameOver, name-agrees, one-name}
 
 -- the sides of a regular vertex
@@ -41,19 +49,63 @@ sides-are r g v h two = sides-linked r g v h .regular two
 
 -- ---- reach
 
+abbrev wayOver : Tables → ℕ → ℕ → ℕ → WalkEnd
+wayOver t = wayIn (t .degrees) (t .sides) (t .ends) (t .lengths)
+
 abbrev lengthOver : Tables → ℕ → ℕ → ℕ → ℕ
 lengthOver t = lengthToIn (t .degrees) (t .sides) (t .ends) (t .lengths)
 
-length-to : (r : Register) → Reachable r → (d v : ℕ) → At (r .edges) v d → lengthOver (tablesOf r) (length (r .edges)) d v ≡ lengthTo (r .edges) d v
-unfolding lengthToIn lengthTo lengthVia sum lengthsOf
-length-to r g d v a =
-    let es : List Edge = r .edges in
-    let w : ℕ = far es d v in
-    rw (length-is r d (a .inside), far-is r d v (a .inside), walk-agrees r g d w ((across es d v (proper r g) a) .at))
-    (sum32-is (lengthAt es d) (along es d w) (omega (arith, reaches-small r g d v a)))
+abbrev endOver : Tables → ℕ → ℕ → ℕ → ℕ
+endOver t = endToIn (t .degrees) (t .sides) (t .ends) (t .lengths)
+
+-- the way from a vertex along its edge
+module _ (r : Register) (g : Reachable r) (d v : ℕ) (a : At (r .edges) v d) where
+  abbrev es₁ : List Edge
+  es₁ = r .edges
+
+  way-is : wayOver (tablesOf r) (length es₁) d v ≡ walkedBy es₁ v (far es₁ d v) (onceRound es₁ d v)
+  unfolding wayIn onceRound onwards
+  way-is =
+      rw (far-is r d v (a .inside))
+      (walks r g v (length es₁) d (far es₁ d v) (room r g) ((across es₁ d v (proper r g) a) .at))
+
+  end-is : endOver (tablesOf r) (length es₁) d v ≡ endOf es₁ (far es₁ d v) (onceRound es₁ d v)
+  unfolding endToIn
+  end-is = ap (λ (w : WalkEnd). w .at) way-is
+
+  length-is-sum : lengthOver (tablesOf r) (length es₁) d v ≡ sum32 (lengthAt es₁ d) (sum (lengthsOf es₁ (map afterOf (onceRound es₁ d v))))
+  unfolding lengthToIn
+  length-is-sum = rw (way-is, length-is r d (a .inside))
+
+  -- in a ring
+  ring-two : edgeOnRing es₁ d ≡ true → getD ((tablesOf r) .degrees) (endOver (tablesOf r) (length es₁) d v) 0 ≡ 2
+  ring-two t =
+      let k = round-end es₁ (proper r g) d v a t in
+      rw (end-is, k .0) (two-read r g d v a (k .1))
+
+  loop-sum : edgeOnRing es₁ d ≡ true → chainLength es₁ d ≡ lengthAt es₁ d + sum (lengthsOf es₁ (map afterOf (onceRound es₁ d v)))
+  unfolding sum lengthsOf afters
+  loop-sum t = ring-length es₁ (proper r g) d v a t
+
+  ring-way : edgeOnRing es₁ d ≡ true → lengthOver (tablesOf r) (length es₁) d v ≡ chainLength es₁ d
+  ring-way t =
+      length-is-sum ∙ sum32-is (lengthAt es₁ d) (sum (lengthsOf es₁ (map afterOf (onceRound es₁ d v)))) (omega (arith, loop-sum t, chains-small r g d (a .inside)))
+      ∙ sym (loop-sum t)
+
+  -- on a chain
+  open-other : edgeOnRing es₁ d ≡ false → getD ((tablesOf r) .degrees) (endOver (tablesOf r) (length es₁) d v) 0 ≢ 2
+  open-other f =
+      rw (end-is, open-end es₁ (proper r g) d v a f)
+      (other-read r g (open-onto es₁ (proper r g) d v a f) (endOnwards es₁ d (far es₁ d v)) (open-at es₁ (proper r g) d v a f) (open-singular es₁ (proper r g) d v a f))
+
+  open-way : edgeOnRing es₁ d ≡ false → lengthOver (tablesOf r) (length es₁) d v ≡ lengthTo es₁ d v
+  unfolding lengthTo lengthVia sum lengthsOf
+  open-way f =
+      rw (length-is-sum, round-open es₁ (proper r g) d v a f)
+      (sum32-is (lengthAt es₁ d) (along es₁ d (far es₁ d v)) (omega (arith, reaches-small r g d v a f)))
 
 pub reach-agrees : (r : Register) → Reachable r → (v : ℕ) → reachIn (tablesOf r) (countsOf r) v ≡ reach r v
-unfolding reachIn reach countsOf isRegular
+unfolding reachIn reach countsOf isRegular vertexOnRing
 reach-agrees r g v = below (ltb v (r .vertices)) refl
   where
     es : List Edge
@@ -65,17 +117,41 @@ reach-agrees r g v = below (ltb v (r .vertices)) refl
     low : ℕ
     low = lowEdgeOf r v
 
+    high : ℕ
+    high = turn es low v
+
+    Ways : Reply
+    Ways = if eqb (getD (t .degrees) (endOver t (length es) low v) 0) 2 then reached 0 (lengthOver t (length es) low v)
+        else reached (lengthOver t (length es) low v) (lengthOver t (length es) high v)
+
+    ways : degree es v ≡ 2 → (b : Bool) → vertexOnRing es v ≡ b
+        → Ways ≡ (if vertexOnRing es v then reached 0 (chainLength es (lowerNumbered es v)) else reached (lengthTo es low v) (lengthTo es high v))
+    ways two true e =
+        let at-low : At es v low = low-at r g v two in
+        let at-lower : At es v (lowerNumbered es v) = lower-at es (proper r g) v (two-is es v two) in
+        let q : edgeOnRing es low ≡ true = ring-both es (proper r g) (lowerNumbered es v) low v (two-is es v two) at-lower at-low e in
+        let l : chainLength es low ≡ chainLength es (lowerNumbered es v) = one-length es (proper r g) low (lowerNumbered es v) v (at-lower .inside) (chain-inner es (proper r g) (lowerNumbered es v) (lowerNumbered es v) v (at-lower .inside) (chain-has es (lowerNumbered es v)) at-lower (two-is es v two)) at-low in
+        rw (eq-eqb _ _ (ring-two r g low v at-low q), e, ring-way r g low v at-low q, l)
+    ways two false e =
+        let at-low : At es v low = low-at r g v two in
+        let at-lower : At es v (lowerNumbered es v) = lower-at es (proper r g) v (two-is es v two) in
+        let x : Turned es v low = turned es v low (two-edges es v (proper r g) two) at-low in
+        let q : edgeOnRing es low ≡ false = ring-neither es (proper r g) (lowerNumbered es v) low v (two-is es v two) at-lower at-low e in
+        let p : edgeOnRing es high ≡ false = ring-neither es (proper r g) (lowerNumbered es v) high v (two-is es v two) at-lower (x .at) e in
+        rw (ne-eqb _ _ (open-other r g low v at-low q), e, open-way r g low v at-low q, open-way r g high v (x .at) p)
+
     regular : (b : Bool) → v < r .vertices → eqb (degree es v) 2 ≡ b
         → (if not (eqb (getD (t .degrees) v 0) 2) then refuses 8
+        else if eqb (getD (t .degrees) (endOver t (length es) (getD (t .sides) (2 * v) 0) v) 0) 2 then reached 0 (lengthOver t (length es) (getD (t .sides) (2 * v) 0) v)
         else reached (lengthOver t (length es) (getD (t .sides) (2 * v) 0) v) (lengthOver t (length es) (getD (t .sides) (2 * v + 1) 0) v))
-        ≡ (if not (eqb (degree es v) 2) then refuses 8 else reached (lengthTo es low v) (lengthTo es (turn es low v) v))
+        ≡ (if not (eqb (degree es v) 2) then refuses 8
+        else if vertexOnRing es v then reached 0 (chainLength es (lowerNumbered es v)) else reached (lengthTo es low v) (lengthTo es high v))
     regular false l e = rw (degrees-read r v (omega (arith, few r g)), e)
     regular true l e =
         let h : v < maxVertices = omega (arith, few r g) in
         let two : degree es v ≡ 2 = eqb-true _ _ e in
         let k = sides-are r g v h two in
-        let x : Turned es v low = turned es v low (two-edges es v (proper r g) two) (low-at r g v two) in
-        rw (degrees-read r v h, e, k .0, k .1, length-to r g low v (low-at r g v two), length-to r g (turn es low v) v (x .at))
+        rw (degrees-read r v h, e, k .0, k .1) (ways two (vertexOnRing es v) refl)
 
     below : (b : Bool) → ltb v (r .vertices) ≡ b → reachIn (tablesOf r) (countsOf r) v ≡ reach r v
     below false e = rw e
@@ -132,9 +208,8 @@ module _ (r : Register) (g : Reachable r) where
       let es : List Edge = r .edges in
       let low : ℕ = lowEdgeOf r v in
       let a : At es v low = low-at r g v two in
-      let e : TwoEdges es v = two-edges es v (proper r g) two in
-      rw ((sides-are r g v h two) .0, e .list)
-      (name-agrees r g low (a .inside) ∙ one-name r g v low (e .low) (two-is es v two) a (e .low-at))
+      rw ((sides-are r g v h two) .0)
+      (name-agrees r g low (a .inside) ∙ one-name r g v low (lowerNumbered es v) (two-is es v two) a (lower-at es (proper r g) v (two-is es v two)))
 
 labels-are : (r : Register) → (tablesOf r) .labels ≡ r .labels
 unfolding tablesOf
@@ -144,23 +219,26 @@ pub find-agrees : (r : Register) → Reachable r → (label : ℕ) → findIn (t
 unfolding findIn countsOf firstAt
 find-agrees r g label = zero? (eqb label 0) refl
   where
-    k : Labelled r
-    k = labelled r g
+    f : Founded r
+    f = founded r g
+
+    k : LabelFacts r
+    k = label-facts r g
 
     search : label ≢ 0 → (o : Option ℕ) → firstFrom 0 label (r .labels) ≡ o → findIn (tablesOf r) (countsOf r) label ≡ find r label
     search n none e =
         rw (ne-eqb label 0 n, labels-are r, e, findIn)
-        (sym (find-none r label (λ v q. first-none 0 label (r .labels) e v (omega (arith, regular-landed r k v q, few r g, labels-long r g)))))
+        (sym (find-none r label (λ v q. first-none 0 label (r .labels) e v (omega (arith, regular-landed r f v q, few r g, labels-long r g)))))
     search n (some v) e =
         let w : Holds 0 label v (r .labels) = first-some 0 label v (r .labels) e in
         let i : v ≡ w .place = omega (arith, w .found-at) in
         let l : getD (r .labels) v 0 ≡ label = rw i (w .label-is) in
         let two : degree (r .edges) v ≡ 2 = worn-regular r g v label n l in
         rw (ne-eqb label 0 n, labels-are r, e, findIn, chain-found r g v (omega (arith, w .inside, labels-long r g)) two)
-        (sym (find-own r k v (two-is (r .edges) v two)) ∙ ap (find r) l)
+        (sym (find-own r f k v (two-is (r .edges) v two)) ∙ ap (find r) l)
 
     zero? : (b : Bool) → eqb label 0 ≡ b → findIn (tablesOf r) (countsOf r) label ≡ find r label
     zero? true e =
         rw (e, findIn)
-        (sym (find-none r label (λ v q h. omega (arith, eqb-true label 0 e, label-not-zero r k v (is-two (r .edges) v q)))))
+        (sym (find-none r label (λ v q h. omega (arith, eqb-true label 0 e, k .not-zero v (is-two (r .edges) v q)))))
     zero? false e = search (eqb-false label 0 e) (firstFrom 0 label (r .labels)) refl

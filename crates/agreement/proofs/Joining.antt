@@ -3,7 +3,7 @@ use mathlib.Core.Path.{_≡_, refl, sym, ap, _∙_}
 use mathlib.Core.Logic.{_≢_}
 use Prim.Native.Nat.{ℕ, _+_, _*_, _≤_, _<_}
 use native.Mathlib.Omega.{arith}
-use mathlib.Core.Bool.{Bool, true, false, not}
+use mathlib.Core.Bool.{Bool, true, not}
 use mathlib.Core.List.{List, [], _∷_, _++_}
 use lib.ListN.{length, getD, set}
 use lib.Dec.{eqb}
@@ -13,14 +13,13 @@ use Rattle.model.specs.Labels.{Labelling, Marks, attach, base, inwards, joinPat
 use Rattle.tables.specs.Steps.{most32}
 use Rattle.tables.proofs.Sums.{nextIn-is}
 use Rattle.labels.specs.Labelling.{countAhead, labelVertexIn}
-use Rattle.labels.specs.Merging.{Merged, beginIn, joinIn, merged}
+use Rattle.labels.specs.Merging.{Changed, beginIn, changed, joinIn}
 use Rattle.labels.proofs.Merges.{join-law}
 use Rattle.model.proofs.Walks.Degree.{Proper, is-two}
 use Rattle.model.proofs.Walks.Turn.{At, Between, between-back}
 use Rattle.model.proofs.Walks.Joins.{across}
 use Rattle.model.proofs.Walks.Trail.{trail-cons}
 use Rattle.model.proofs.Walks.Ended.{trail-short}
-use Rattle.model.proofs.Walks.RingFree.{RingFree}
 use Rattle.model.proofs.Walks.Places.{here, later, Off, off-cons, Once, once-cons}
 use Rattle.model.proofs.Labels.Relabellings.{relabelCount-bare, relabelCount-same}
 use Rattle.model.proofs.Labels.Inwards.{Inward, inward, trail-regular}
@@ -31,9 +30,8 @@ use Rattle.agreement.proofs.Passes.{AllBetween, all-old, between-ith, t
 use Rattle.agreement.proofs.Laying.{Everywhere, HoldsMarks, Turns, lay-counts, lay-kept, layIn, next-most, relabel-lays, turn-other}
 use Rattle.agreement.proofs.Extending.{HoldsLabelling, attach-none, attach-some, leaf-at, leaf-between}
 
--- no ring; the tables hold labelling g; the count is that of the relabelled
-pub record MergedAs (es : List Edge) (labels : List ℕ) (p : Merged) (g : Labelling) : Type 0 where
-  pub ring : p .ring ≡ false
+-- the tables hold labelling g; the count is that of the relabelled
+pub record ChangedAs (es : List Edge) (labels : List ℕ) (p : Changed) (g : Labelling) : Type 0 where
   pub holds : HoldsLabelling es (p .sides) (p .labels) (p .blocks) g
   pub counts : relabelCount labels (p .labels) ≡ p .relabellings
 
@@ -41,7 +39,6 @@ pub record MergedAs (es : List Edge) (labels : List ℕ) (p : Merged) (g : Label
 pub record Ground (es : List Edge) (n : Edge) (degrees sides ends labels : List ℕ) (m : Marks) : Type 0 where
   pub proper : Proper es
   pub differ : n .first ≢ n .second
-  pub rings : RingFree es
   pub room : length es ≤ maxEdges
   pub below : (v d : ℕ) → At (es ++ (n ∷ [])) v d → v < maxVertices
   pub shows : Shows es degrees sides ends (m .lows)
@@ -88,7 +85,7 @@ module _ {es : List Edge} {n : Edge} {degrees sides ends labels : List ℕ} {m :
 
   -- the walk from y inwards
   iy : Inward es y dy (inwards es y)
-  iy = inward es pr (k .rings) y dy ly ay
+  iy = inward es pr y dy ly ay
 
   walk-at : At es (far es dy y) dy
   walk-at = (across es dy y pr ay) .at
@@ -182,17 +179,16 @@ module _ {es : List Edge} {n : Edge} {degrees sides ends labels : List ℕ} {m :
 
   pub joins : (blocks : ℕ) → 0 < length (inwards es x)
       → let j = joinIn degrees sides ends labels x y (length es) (length es) in
-      MergedAs new labels (merged false (j .sides) (j .labels) blocks (j .count)) (attach blocks dx (inwards es x) path m)
+      ChangedAs new labels (changed (j .sides) (j .labels) blocks (j .count)) (attach blocks dx (inwards es x) path m)
   joins blocks h = go (first-of (inwards es x) h)
     where
       go : ((u : Pass) × (us : List Pass) × (inwards es x ≡ u ∷ us))
           → let j = joinIn degrees sides ends labels x y (length es) (length es) in
-          MergedAs new labels (merged false (j .sides) (j .labels) blocks (j .count)) (attach blocks dx (inwards es x) path m)
+          ChangedAs new labels (changed (j .sides) (j .labels) blocks (j .count)) (attach blocks dx (inwards es x) path m)
       go (u, us, e) =
-          let hd = trail-cons (rw e at ((inward es pr (k .rings) x dx lx ax) .trail)) in
+          let hd = trail-cons (rw e at ((inward es pr x dx lx ax) .trail)) in
           let c : isRegular es (u .at) ≡ true = rw (hd .0) (hd .1) in
           rw (join-lays (u .at) (hd .0) c, e, attach-some blocks dx u us path m) (record {
-            ring = refl;
             holds = record { kept = laid-kept (up (u .at)) (label (u .at)); blocks-are = refl };
             counts = laid-counts (up (u .at)) (label (u .at));
           })
@@ -209,11 +205,10 @@ module _ {es : List Edge} {n : Edge} {degrees sides ends labels : List ℕ} {m :
 
   pub begins : (blocks : ℕ) → inwards es x ≡ [] → inwards es y ≡ [] → getD labels x 0 ≡ 0 → getD labels y 0 ≡ 0
       → let w = beginIn sides labels x dx y dy (length es) (blocks + 1) in
-      MergedAs new labels (merged false (w .sides) (w .labels) (blocks + 1) 0) (attach blocks dx (inwards es x) path m)
+      ChangedAs new labels (changed (w .sides) (w .labels) (blocks + 1) 0) (attach blocks dx (inwards es x) path m)
   begins blocks a b zx zy =
       let p = begin-lays (blocks + 1) b in
       rw (a, attach-none blocks dx path m) (record {
-        ring = refl;
         holds = record { kept = rw (p .0, p .1) (laid-kept true (base (blocks + 1))); blocks-are = refl };
         counts = begin-counts (blocks + 1) zx zy;
       })

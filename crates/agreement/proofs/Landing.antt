@@ -10,7 +10,6 @@ use lib.Dec.{eqb, leb, ltb}
 use borrow.Author.Tests.{eqb-false, leb-false, ltb-true, not-false}
 use Rattle.model.specs.Basics.{if_then_else_, maxEdges, maxLength}
 use Rattle.model.specs.Graph.{Edge}
-use Rattle.model.specs.Cases.{closesRing}
 use Rattle.model.specs.Labels.{labelEdge, relabelCount}
 use Rattle.model.specs.Register.{Landed, Register, landEdge, landed, marksOf, refused, withEdge}
 use Rattle.model.specs.Tables.{Counts, Tables, countsOf, tablesOf}
@@ -27,7 +26,7 @@ use Rattle.agreement.proofs.Lists.{ends-stored, lengths-stored}
 use Rattle.agreement.proofs.Relabelled.{relabelled-most}
 use Rattle.agreement.proofs.Tables.{degrees-are, linked-sides}
 use Rattle.agreement.proofs.Registers.{labels-long}
-use Rattle.agreement.proofs.Inserting.{Stands, ring-placed, stands}
+use Rattle.agreement.proofs.Inserting.{Stands, stands}
 
 -- what the definition leaves, as tables and counts
 unfoldable pub shownIn : Register → Landed → LandingIn
@@ -43,59 +42,54 @@ module _ (r : Register) (e : Edge) (g : Reachable r) (fa : e .first < r .vertice
   abbrev r′ : Register
   r′ = withEdge r e
 
-  pub rings-agree : closesRing (r .edges) (e .first) (e .second) ≡ true → insertIn (tablesOf r) (countsOf r) e ≡ landingIn (tablesOf r) (refusedIn 24)
+  st : Stands (r .edges ++ (e ∷ [])) (r .labels) p (labelEdge (r .edges) e (r .blocks) (marksOf r))
+  st = stands r e g fa fb df
+
+  degrees-new : p .degrees ≡ (tablesOf r′) .degrees
+  unfolding withEdge
+  degrees-new = degrees-are r′ (p .degrees) (st .long) (st .degrees-are)
+
+  sides-new : p .sides ≡ (tablesOf r′) .sides
+  unfolding withEdge
+  sides-new = linked-sides r′ (p .sides) (st .holds .kept .sides-long) (λ v l. st .holds .kept .links v l tt)
+
+  ends-new : setPair ((tablesOf r) .ends) ((countsOf r) .edges) (e .first) (e .second) ≡ (tablesOf r′) .ends
+  unfolding withEdge tablesOf countsOf
+  ends-new = ends-stored (r .edges) e rm
+
+  lengths-new : set ((tablesOf r) .lengths) ((countsOf r) .edges) (e .len) ≡ (tablesOf r′) .lengths
+  unfolding withEdge tablesOf countsOf
+  lengths-new = lengths-stored (r .edges) e rm
+
+  labels-new : p .labels ≡ (tablesOf r′) .labels
+  unfolding withEdge tablesOf
+  labels-new = st .holds .kept .labels-are
+
+  edges-new : more16 ((countsOf r) .edges) ≡ (countsOf r′) .edges
+  unfolding withEdge countsOf
+  edges-new = omega (arith, more16-is (length (r .edges)) (omega arith), length-new (r .edges) e)
+
+  blocks-new : p .blocks ≡ (countsOf r′) .blocks
+  unfolding withEdge countsOf
+  blocks-new = st .holds .blocks-are
+
+  vertices-new : (countsOf r) .vertices ≡ (countsOf r′) .vertices
+  unfolding withEdge countsOf
+  vertices-new = refl
+
+  relabellings-new : sum32 ((countsOf r) .relabellings) (p .relabellings) ≡ (countsOf r′) .relabellings
+  unfolding withEdge countsOf
+  relabellings-new =
+      let most : p .relabellings ≤ 4096 = omega (arith, st .counts, relabelled-most (r .labels) (p .labels), labels-long r g) in
+      sum32-is (r .relabellings) (p .relabellings) (omega (arith, total-small r g))
+      ∙ ap (λ (n : ℕ). r .relabellings + n) (sym (st .counts) ∙ ap (λ (l : List ℕ). relabelCount (r .labels) l) (st .holds .kept .labels-are))
+
+  pub inserts-agree : insertIn (tablesOf r) (countsOf r) e ≡ landingIn (tablesOf r′) (done (countsOf r′))
   unfolding insertIn
-  rings-agree c = rw (ring-placed r e g fa fb df c)
-
-  module _ (c : closesRing (r .edges) (e .first) (e .second) ≡ false) where
-    st : Stands (r .edges ++ (e ∷ [])) (r .labels) p (labelEdge (r .edges) e (r .blocks) (marksOf r))
-    st = stands r e g fa fb df c
-
-    degrees-new : p .degrees ≡ (tablesOf r′) .degrees
-    unfolding withEdge
-    degrees-new = degrees-are r′ (p .degrees) (st .long) (st .degrees-are)
-
-    sides-new : p .sides ≡ (tablesOf r′) .sides
-    unfolding withEdge
-    sides-new = linked-sides r′ (p .sides) (st .holds .kept .sides-long) (λ v l. st .holds .kept .links v l tt)
-
-    ends-new : setPair ((tablesOf r) .ends) ((countsOf r) .edges) (e .first) (e .second) ≡ (tablesOf r′) .ends
-    unfolding withEdge tablesOf countsOf
-    ends-new = ends-stored (r .edges) e rm
-
-    lengths-new : set ((tablesOf r) .lengths) ((countsOf r) .edges) (e .len) ≡ (tablesOf r′) .lengths
-    unfolding withEdge tablesOf countsOf
-    lengths-new = lengths-stored (r .edges) e rm
-
-    labels-new : p .labels ≡ (tablesOf r′) .labels
-    unfolding withEdge tablesOf
-    labels-new = st .holds .kept .labels-are
-
-    edges-new : more16 ((countsOf r) .edges) ≡ (countsOf r′) .edges
-    unfolding withEdge countsOf
-    edges-new = omega (arith, more16-is (length (r .edges)) (omega arith), length-new (r .edges) e)
-
-    blocks-new : p .blocks ≡ (countsOf r′) .blocks
-    unfolding withEdge countsOf
-    blocks-new = st .holds .blocks-are
-
-    vertices-new : (countsOf r) .vertices ≡ (countsOf r′) .vertices
-    unfolding withEdge countsOf
-    vertices-new = refl
-
-    relabellings-new : sum32 ((countsOf r) .relabellings) (p .relabellings) ≡ (countsOf r′) .relabellings
-    unfolding withEdge countsOf
-    relabellings-new =
-        let most : p .relabellings ≤ 4096 = omega (arith, st .counts, relabelled-most (r .labels) (p .labels), labels-long r g) in
-        sum32-is (r .relabellings) (p .relabellings) (omega (arith, total-small r g))
-        ∙ ap (λ (n : ℕ). r .relabellings + n) (sym (st .counts) ∙ ap (λ (l : List ℕ). relabelCount (r .labels) l) (st .holds .kept .labels-are))
-
-    pub inserts-agree : insertIn (tablesOf r) (countsOf r) e ≡ landingIn (tablesOf r′) (done (countsOf r′))
-    unfolding insertIn
-    inserts-agree =
-        rw (st .ring) (ap₂ {C = LandingIn} (λ (t : Tables) (c : Counts). landingIn t (done c))
-        (tables-parts degrees-new sides-new ends-new lengths-new labels-new)
-        (counts-parts vertices-new edges-new blocks-new relabellings-new))
+  inserts-agree =
+      ap₂ {C = LandingIn} (λ (t : Tables) (c : Counts). landingIn t (done c))
+      (tables-parts degrees-new sides-new ends-new lengths-new labels-new)
+      (counts-parts vertices-new edges-new blocks-new relabellings-new)
 
 -- ---- with every refusal, in its order
 
@@ -106,11 +100,9 @@ same-if r e true n x y h = refl
 same-if r e false n x y h = h refl
 
 last-agrees : (r : Register) (e : Edge) → Reachable r → e .first < r .vertices → e .second < r .vertices → e .first ≢ e .second → length (r .edges) < maxEdges
-    → (c : Bool) → closesRing (r .edges) (e .first) (e .second) ≡ c
-    → insertIn (tablesOf r) (countsOf r) e ≡ shownIn r (if closesRing (r .edges) (e .first) (e .second) then refused 24 else landed (withEdge r e))
+    → insertIn (tablesOf r) (countsOf r) e ≡ shownIn r (landed (withEdge r e))
 unfolding shownIn
-last-agrees r e g fa fb df rm true c = rw c (rings-agree r e g fa fb df rm c)
-last-agrees r e g fa fb df rm false c = rw c (inserts-agree r e g fa fb df rm c)
+last-agrees r e g fa fb df rm = inserts-agree r e g fa fb df rm
 
 pub land-agrees : (r : Register) (e : Edge) → Reachable r → landIn (tablesOf r) (countsOf r) e ≡ shownIn r (landEdge r e)
 unfolding landIn checkIn landEdge countsOf
@@ -119,7 +111,7 @@ land-agrees r e g =
     same-if r e (eqb (e .first) (e .second)) 6 _ _ (λ h₆.
     same-if r e (eqb (e .len) 0 || ltb maxLength (e .len)) 7 _ _ (λ h₇.
     same-if r e (leb maxEdges (length (r .edges))) 23 _ _ (λ h₂₃.
-    last-agrees r e g (ltb-true _ _ (ends h₅ .0)) (ltb-true _ _ (ends h₅ .1)) (eqb-false _ _ h₆) (leb-false _ _ h₂₃) (closesRing (r .edges) (e .first) (e .second)) refl))))
+    last-agrees r e g (ltb-true _ _ (ends h₅ .0)) (ltb-true _ _ (ends h₅ .1)) (eqb-false _ _ h₆) (leb-false _ _ h₂₃)))))
   where
     ends : not (ltb (e .first) (r .vertices) && ltb (e .second) (r .vertices)) ≡ false → (ltb (e .first) (r .vertices) ≡ true) × (ltb (e .second) (r .vertices) ≡ true)
     ends h = and-true (ltb (e .first) (r .vertices)) (ltb (e .second) (r .vertices)) (not-false _ h)

@@ -1,5 +1,5 @@
 -- Labels laid along a path of the tables: the sides and labels that the marks say, and the number of vertices relabelled.
-use mathlib.Core.Path.{_≡_, sym, ap, _∙_}
+use mathlib.Core.Path.{_≡_, refl, sym, ap, _∙_}
 use mathlib.Core.Logic.{_≢_}
 use Prim.Native.Nat.{ℕ, zero, suc, _+_, _*_, _≤_, _<_}
 use native.Mathlib.Omega.{arith}
@@ -15,12 +15,12 @@ use Rattle.model.specs.Labels.{Marks, labelPath, mark, next, relabelCount}
 use Rattle.tables.specs.Steps.{most32, setPair, turnIn}
 use Rattle.tables.proofs.Sums.{nextIn-is}
 use Rattle.labels.specs.Labelling.{MarksIn, countAhead, labelVertexIn, marksIn, orientIn, relabelIn}
-use Rattle.labels.proofs.Labels.{relabel-end, relabel-on}
+use Rattle.labels.proofs.Labels.{relabel-end, relabel-none, relabel-on}
 use Rattle.model.proofs.Walks.Degree.{Proper, is-two}
 use Rattle.model.proofs.Walks.Turn.{At, Between}
 use Rattle.model.proofs.Walks.Trail.{Trail, done, pass, Next, next-edge}
 use Rattle.model.proofs.Walks.Places.{Ith, here, later, no-ith, Off, Once, off-cons, once-head, once-tail}
-use Rattle.agreement.proofs.Lists.{length-pair, pair-other}
+use Rattle.agreement.proofs.Lists.{PairAt, length-pair, pair-other}
 use Rattle.agreement.proofs.Relabelled.{relabelled-set}
 use Rattle.agreement.proofs.Linked.{Linked, linked-here, linked-other}
 use Rattle.agreement.proofs.Passes.{AllBetween}
@@ -66,6 +66,14 @@ module _ (es : List Edge) (X Y : ℕ → Type 0) (sides labels : List ℕ) (m : 
   kept-label c d true b = kept-pair c d (b .regular) (b .before-at) (b .forth)
   kept-label c d false b = kept-pair d c (b .regular) (b .after-at) (b .back)
 
+-- no other vertex is touched
+pub vertex-off : (up : Bool) (sides labels : List ℕ) (x label c d v : ℕ) → v ≢ x
+    → let w = labelVertexIn sides labels x label c d up in
+    PairAt (w .sides) v (getD sides (2 * v) 0) (getD sides (2 * v + 1) 0) × (getD (w .labels) v 0 ≡ getD labels v 0)
+unfolding labelVertexIn orientIn
+vertex-off true sides labels x label c d v n = (pair-other sides x v c d n, getD-set-other labels x v label 0 n)
+vertex-off false sides labels x label c d v n = (pair-other sides x v d c n, getD-set-other labels x v label 0 n)
+
 -- ---- a path
 
 -- its vertices, in path order, get the labels from `label` on; the count is that of the relabelled
@@ -84,6 +92,29 @@ lay-kept es below up label (s ∷ ss) sides labels m b k =
     let w = labelVertexIn sides labels (s .at) label (s .before) (s .after) up in
     lay-kept es below up (next up label) ss (w .sides) (w .labels) (mark (s .at) label (if up then s .before else s .after) m) (b .1)
     (kept-label es (Off (s ∷ ss)) (Off ss) sides labels m (s .at) label (off-cons s ss) k (below _ _ (b .0 .before-at)) (s .before) (s .after) up (b .0))
+
+-- .. where X holds, on the path or off it
+pub lay-within : (es : List Edge) → ((v d : ℕ) → At es v d → v < maxVertices) → (X : ℕ → Type 0) (up : Bool) (label : ℕ) (path : List Pass) (sides labels : List ℕ) (m : Marks)
+    → AllBetween es path → HoldsMarks es X sides labels m
+    → HoldsMarks es X (layIn up label path sides labels .sides) (layIn up label path sides labels .labels) (labelPath up label path m)
+unfolding layIn labelPath countAhead
+lay-within es below X up label [] sides labels m b k = k
+lay-within es below X up label (s ∷ ss) sides labels m b k =
+    let w = labelVertexIn sides labels (s .at) label (s .before) (s .after) up in
+    lay-within es below X up (next up label) ss (w .sides) (w .labels) (mark (s .at) label (if up then s .before else s .after) m) (b .1)
+    (kept-label es X X sides labels m (s .at) label (λ v x n. x) k (below _ _ (b .0 .before-at)) (s .before) (s .after) up (b .0))
+
+-- off the path nothing changes
+pub lay-off : (up : Bool) (label : ℕ) (path : List Pass) (sides labels : List ℕ) (v : ℕ) → Off path v
+    → let w = layIn up label path sides labels in
+    PairAt (w .sides) v (getD sides (2 * v) 0) (getD sides (2 * v + 1) 0) × (getD (w .labels) v 0 ≡ getD labels v 0)
+unfolding layIn countAhead
+lay-off up label [] sides labels v o = ((refl, refl), refl)
+lay-off up label (s ∷ ss) sides labels v o =
+    let w = labelVertexIn sides labels (s .at) label (s .before) (s .after) up in
+    let ih = lay-off up (next up label) ss (w .sides) (w .labels) v (λ i t j. o (suc i) t (later j)) in
+    let q = vertex-off up sides labels (s .at) label (s .before) (s .after) v (λ e. o 0 s here (sym e)) in
+    ((ih .0 .0 ∙ q .0 .0, ih .0 .1 ∙ q .0 .1), ih .1 ∙ q .1)
 
 pub lay-counts : (ts : List ℕ) (up : Bool) (label : ℕ) (path : List Pass) (sides labels : List ℕ) → length ts ≡ length labels → Once path
     → ((i : ℕ) (s : Pass) → Ith s i path → getD labels (s .at) 0 ≡ getD ts (s .at) 0)
@@ -131,4 +162,20 @@ module _ {es : List Edge} (pr : Proper es) {degrees sides₀ ends lows : List �
       (sh .fars-are c v (x .at .inside)) (nextIn-is up label (omega arith))
       ∙ ap (countAhead (h .count))
       (relabel-lays k (h .sides) (h .labels) (next up label) (x .across .at) u j (omega arith) (omega (arith, n)) (once-tail _ ss o)
+      (λ i s q. turn-other sides labels v label d c up (s .before) (s .at) (once-head _ ss o i s q) ∙ t (suc i) s (later q)))
+
+  -- .. with just as many steps, wherever the path ends
+  pub relabel-all : {d v c w : ℕ} {ss : List Pass} (sides labels : List ℕ) (label : ℕ) → At es v d → Trail es d v ss c w
+      → label + length ss < most32 → Once ss → Turns sides ss
+      → relabelIn degrees ends up (length ss) sides labels d v label ≡ layIn up label ss sides labels
+  unfolding layIn
+  relabel-all {d} {v} sides labels label a done b o t = relabel-none degrees ends up 0 sides labels d v label (omega arith)
+  relabel-all {d} {v} sides labels label a (pass {ss = ss} c r e u) b o t =
+      let x : Next es d v c = next-edge es d v c pr a r e in
+      let h = labelVertexIn sides labels v label d c up in
+      let n = next-most up label in
+      relabel-on degrees ends up (length ss) sides labels d v label c (far es c v) (next up label) (shows-regular sh a r) (t 0 _ here)
+      (sh .fars-are c v (x .at .inside)) (nextIn-is up label (omega arith))
+      ∙ ap (countAhead (h .count))
+      (relabel-all (h .sides) (h .labels) (next up label) (x .across .at) u (omega (arith, n)) (once-tail _ ss o)
       (λ i s q. turn-other sides labels v label d c up (s .before) (s .at) (once-head _ ss o i s q) ∙ t (suc i) s (later q)))

@@ -1,22 +1,31 @@
 -- Landing, in the order of the argument: Lists .. Tables on the tables, Cases and Inserting for one edge, Landing with the refusals.
--- Queries: Chaining (a walk), Lowest and Naming (a name), Sheeting, Finding.
+-- Queries: Chaining (a walk), Rounds and Ends (a chain from one edge), Lowest (a name), Marking (marks), Sheeting, Finding.
 pub mod Lists
 pub mod Relabelled
 pub mod Linked
 pub mod Lockstep
 pub mod Passes
 pub mod Laying
+pub mod Ringing
+pub mod Meeting
+pub mod Splitting
+pub mod SplittingBoth
+pub mod Costs
 pub mod Opening
 pub mod Extending
 pub mod Joining
 pub mod Merging
+pub mod Closing
 pub mod Registers
 pub mod Tables
+pub mod TapCosts
 pub mod Cases
 pub mod Inserting
 pub mod Landing
 pub mod Chaining
+pub mod Rounds
+pub mod Ends
 pub mod Lowest
-pub mod Naming
+pub mod Marking
 pub mod Sheeting
 pub mod Finding

@@ -15,10 +15,10 @@ use Rattle.model.specs.Labels.{Labelling, Marks, attach, inwards, joinPath, mer
 use Rattle.tables.specs.Steps.{farIn, most16}
 use Rattle.tables.proofs.Sums.{more16-is}
 use Rattle.tables.specs.Walks.{Met, lockstepIn}
-use Rattle.labels.specs.Merging.{Merged, keeperFor, keeperIn, mergeIn, merged}
+use Rattle.labels.specs.Merging.{Changed, closeIn, keeperFor, keeperIn, mergeIn}
 use Rattle.labels.specs.declared.merging.Keeper.{Keeper}
 use Rattle.labels.specs.declared.merging.Keeper.the-variants.{Chain, Neither}
-use Rattle.labels.proofs.Merges.{first-keeps, merge-kept, merge-ring, neither-keeps, second-keeps, tie-keeps}
+use Rattle.labels.proofs.Merges.{first-keeps, merge-closes, merge-kept, neither-keeps, second-keeps, tie-keeps}
 use Rattle.model.proofs.Walks.Degree.{Proper, leaf-singular}
 use Rattle.model.proofs.Walks.Turn.{At, onlyEdge-is}
 use Rattle.model.proofs.Walks.Trail.{Trail, backwards, length-backwards, trail-back, trail-at, trail-endOf}
@@ -26,12 +26,12 @@ use Rattle.model.proofs.Walks.Ended.{trail-short, trail-unique}
 use Rattle.model.proofs.Labels.Inwards.{Inward, inward}
 use Rattle.agreement.proofs.Lockstep.{Meets, Shows, lockstep-meets, shows-singular}
 use Rattle.agreement.proofs.Extending.{leaf-at}
-use Rattle.agreement.proofs.Joining.{Ground, MergedAs, begins, joins}
+use Rattle.agreement.proofs.Joining.{Ground, ChangedAs, begins, joins}
 use Rattle.model.proofs.Walks.Joins.{Across, across}
 
 -- ---- the ring
 
-ring-is : (es : List Edge) (a b : ℕ) → degree es a ≡ 1 → degree es b ≡ 1 → (i : Inward es a (onlyEdge es a) (inwards es a)) → closesRing es a b ≡ eqb (i .to) b
+pub ring-is : (es : List Edge) (a b : ℕ) → degree es a ≡ 1 → degree es b ≡ 1 → (i : Inward es a (onlyEdge es a) (inwards es a)) → closesRing es a b ≡ eqb (i .to) b
 unfolding closesRing isLeaf endOnwards inwards
 ring-is es a b la lb i =
     let d = onlyEdge es a in
@@ -39,7 +39,7 @@ ring-is es a b la lb i =
     rw (eq-eqb (degree es a) 1 la, eq-eqb (degree es b) 1 lb, t)
 
 -- on a ring both walks pass the same regular vertices
-ring-even : (es : List Edge) (a b : ℕ) → Proper es → degree es a ≡ 1 → degree es b ≡ 1 → At es a (onlyEdge es a)
+pub ring-even : (es : List Edge) (a b : ℕ) → Proper es → degree es a ≡ 1 → degree es b ≡ 1 → At es a (onlyEdge es a)
     → (i : Inward es a (onlyEdge es a) (inwards es a)) → Inward es b (onlyEdge es b) (inwards es b) → i .to ≡ b → length (inwards es a) ≡ length (inwards es b)
 ring-even es a b pr la lb at i j e =
     let x : Across es (onlyEdge es a) a = across es (onlyEdge es a) a pr at in
@@ -74,7 +74,7 @@ module _ {es : List Edge} {n : Edge} {degrees sides ends labels : List ℕ} {m :
   abbrev met : Met
   met = lockstepIn degrees sides ends (length es) da (far es da a) db (far es db b)
 
-  abbrev merging : Merged
+  abbrev merging : Changed
   merging = mergeIn degrees sides ends labels blocks a b (length es) (length es)
 
   at-a : At es a da
@@ -84,10 +84,10 @@ module _ {es : List Edge} {n : Edge} {degrees sides ends labels : List ℕ} {m :
   at-b = leaf-at es pr b lb
 
   ia : Inward es a da (inwards es a)
-  ia = inward es pr (k .rings) a da la at-a
+  ia = inward es pr a da la at-a
 
   ib : Inward es b db (inwards es b)
-  ib = inward es pr (k .rings) b db lb at-b
+  ib = inward es pr b db lb at-b
 
   next-a : At es (far es da a) da
   next-a = (across es da a pr at-a) .at
@@ -105,12 +105,12 @@ module _ {es : List Edge} {n : Edge} {degrees sides ends labels : List ℕ} {m :
   side-b : (db ≡ getD sides (2 * b) 0) × (far es db b ≡ farIn ends db b)
   side-b = (sym (((sh .links b (sh .below b db at-b)) .leaf lb) .0), sym (sh .fars-are db b (at-b .inside)))
 
-  pub merges-ring : closesRing es a b ≡ true → merged true sides labels blocks 0 ≡ merging
+  pub merges-ring : closesRing es a b ≡ true → closeIn degrees sides ends labels blocks a b (length es) da (far es da a) ≡ merging
   merges-ring c =
       let to : ia .to ≡ b = eqb-true (ia .to) b (sym (ring-is es a b la lb ia) ∙ c) in
       let even : length (inwards es a) ≡ length (inwards es b) = ring-even es a b pr la lb at-a ia ib to in
-      merge-ring degrees sides ends labels blocks a b (length es) (length es) da (far es da a) db (far es db b) met side-a side-b refl true blocks 0
-      (finds .first-ends (omega arith) ∙ to) (refl, (refl, refl))
+      merge-closes degrees sides ends labels blocks a b (length es) (length es) da (far es da a) db (far es db b) met side-a side-b refl
+      (finds .first-ends (omega arith) ∙ to)
 
   -- otherwise no walker ends at b
   no-end : ia .to ≢ b → met .first ≢ b
@@ -137,7 +137,7 @@ module _ {es : List Edge} {n : Edge} {degrees sides ends labels : List ℕ} {m :
   unfolding merge
   merge-second l = rw (lt-leb (length (inwards es b)) (length (inwards es a)) l)
 
-  pub merges : closesRing es a b ≡ false → blocks < most16 → getD labels a 0 ≡ 0 → getD labels b 0 ≡ 0 → MergedAs new labels merging (merge es blocks a b m)
+  pub merges : closesRing es a b ≡ false → blocks < most16 → getD labels a 0 ≡ 0 → getD labels b 0 ≡ 0 → ChangedAs new labels merging (merge es blocks a b m)
   merges c bb za zb =
       go (decLt (length (inwards es a)) (length (inwards es b))) (decLt (length (inwards es b)) (length (inwards es a))) (ℕ-discrete (length (inwards es a)) 0)
     where
@@ -146,15 +146,15 @@ module _ {es : List Edge} {n : Edge} {degrees sides ends labels : List ℕ} {m :
 
       -- the keeper is the chain that keeps its labels
       keeps : (keeper : Keeper) (g : Labelling) → keeper ≡ keeperFor degrees a b met → merge es blocks a b m ≡ g
-          → MergedAs new labels (keeperIn keeper degrees sides ends labels blocks a b (length es) (length es) da db) g → MergedAs new labels merging (merge es blocks a b m)
+          → ChangedAs new labels (keeperIn keeper degrees sides ends labels blocks a b (length es) (length es) da db) g → ChangedAs new labels merging (merge es blocks a b m)
       keeps keeper g p q j =
           rw (← merge-kept degrees sides ends labels blocks a b (length es) (length es) da (far es da a) db (far es db b) met side-a side-b refl keeper off p, q) j
 
-      keeps-a : Chain a b ≡ keeperFor degrees a b met → length (inwards es b) ≤ length (inwards es a) → 0 < length (inwards es a) → MergedAs new labels merging (merge es blocks a b m)
+      keeps-a : Chain a b ≡ keeperFor degrees a b met → length (inwards es b) ≤ length (inwards es a) → 0 < length (inwards es a) → ChangedAs new labels merging (merge es blocks a b m)
       keeps-a p l h = keeps (Chain a b) _ p (merge-first l) (joins k a b la lb oa ob ab blocks h)
 
       go : Dec (length (inwards es a) < length (inwards es b)) → Dec (length (inwards es b) < length (inwards es a)) → Dec (length (inwards es a) ≡ 0)
-          → MergedAs new labels merging (merge es blocks a b m)
+          → ChangedAs new labels merging (merge es blocks a b m)
       go (yes l) r z =
           keeps (Chain b a) _ (second-keeps degrees a b met (finds .second-on l)) (merge-second l)
           (joins k b a lb la ob oa (λ e. ab (sym e)) blocks (omega arith))

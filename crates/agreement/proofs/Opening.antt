@@ -1,105 +1,46 @@
--- The ends of a new edge are opened: an isolated vertex gets the edge, a regular one is split, a branch and a leaf are left.
-use mathlib.Core.Path.{_≡_, refl, sym, _∙_}
+-- The ends of a new edge, once regular ones are split: an isolated one gets the edge, a branch and a leaf are left.
+use mathlib.Core.Path.{_≡_, refl, sym, ap, _∙_}
 use mathlib.Core.Logic.{_≢_, _⊎_, inl, inr}
 use Prim.Native.Nat.{ℕ, _+_, _*_, _<_}
 use native.Mathlib.Omega.{arith}
 use native.Mathlib.Decide.{ℕ-discrete}
 use mathlib.Core.List.{List, [], _∷_, _++_}
-use lib.ListN.{length, getD, set, length-set}
-use borrow.Author.Tests.{eq-eqb, ne-eqb}
+use lib.ListN.{length, getD}
 use Rattle.model.specs.Basics.{maxVertices}
-use Rattle.model.specs.Graph.{Edge, degree, endsAt, isRegular, onlyEdge}
-use Rattle.model.specs.Labels.{Marks, mark, split}
-use Rattle.tables.specs.Steps.{setPair}
-use Rattle.labels.specs.Labelling.{MarksIn}
-use Rattle.insertion.specs.Placing.{openBothIn, openIn}
-use Rattle.insertion.proofs.Places.{open-isolated, open-left, open-regular}
-use Rattle.model.proofs.Walks.Degree.{Proper, degree-snoc, end-first, end-second, proper-snoc, two-ends}
+use Rattle.model.specs.Graph.{Edge, degree, endsAt, onlyEdge}
+use Rattle.model.specs.Labels.{Marks}
+use Rattle.insertion.specs.Placing.{meetIn}
+use Rattle.insertion.proofs.Places.{meet-isolated, meet-left}
+use Rattle.model.proofs.Walks.Degree.{Proper, degree-snoc, proper-snoc, two-ends}
 use Rattle.model.proofs.Walks.NewEdge.{at-last}
 use Rattle.model.proofs.Walks.Turn.{onlyEdge-is}
-use Rattle.model.proofs.Labels.Splits.{unlabel}
-use Rattle.agreement.proofs.Lists.{length-pair, pair-here, pair-other}
-use Rattle.agreement.proofs.Linked.{Linked, linked-old, linked-other, linked-same, off-ends}
+use Rattle.agreement.proofs.Lists.{PairAt, length-pair, pair-here, pair-other}
+use Rattle.agreement.proofs.Linked.{Linked, linked-old, linked-same, off-ends}
 use Rattle.agreement.proofs.Laying.{HoldsMarks}
+use Rattle.agreement.proofs.Splitting.{SplitAs}
 
--- ---- an end of the marks
+-- ---- the edge comes to x
 
-unlabel-regular : (es : List Edge) (x : ℕ) (m : Marks) → degree es x ≡ 2 → unlabel es x m ≡ mark x 0 0 m
-unfolding unlabel split isRegular
-unlabel-regular es x m h = rw (eq-eqb (degree es x) 2 h)
+module _ (degrees sides : List ℕ) (x e : ℕ) where
+  pub meet-same : getD degrees x 0 ≢ 0 → meetIn degrees sides x e ≡ sides
+  meet-same n = sym (meet-left degrees sides x e n)
 
-pub unlabel-left : (es : List Edge) (x : ℕ) (m : Marks) → degree es x ≢ 2 → unlabel es x m ≡ m
-unfolding unlabel isRegular
-unlabel-left es x m h = rw (ne-eqb (degree es x) 2 h)
+  meet-zero : getD degrees x 0 ≡ 0 → 2 * x + 1 < length sides → PairAt (meetIn degrees sides x e) x e 0
+  meet-zero z l = rw (← meet-isolated degrees sides x e z) (pair-here sides x e 0 l)
 
--- ---- one end
-
--- end x opened: as the new list says, but a leaf of before as the old one says; all others as they were
-record EndOpened (es new : List Edge) (sides : List ℕ) (x : ℕ) (m : Marks) (w : MarksIn) (m′ : Marks) : Type 0 where
-  here : degree es x ≢ 1 → Linked new (w .sides) (m′ .lows) x
-  left : degree es x ≡ 1 → Linked es (w .sides) (m′ .lows) x
-  others : (qs : List Edge) (v : ℕ) → v ≢ x → Linked qs sides (m .lows) v → Linked qs (w .sides) (m′ .lows) v
-  labels-are : w .labels ≡ m′ .labels
-  sides-long : length (w .sides) ≡ 2 * maxVertices
-  lows-long : length (m′ .lows) ≡ maxVertices
-
-module _ (es : List Edge) (n : Edge) (pr : Proper es) (df : n .first ≢ n .second) where
-  abbrev new : List Edge
-  new = es ++ (n ∷ [])
-
-  end-opened : (degrees sides labels : List ℕ) (x : ℕ) (m : Marks) → endsAt x n ≡ 1 → x < maxVertices → getD degrees x 0 ≡ degree es x
-      → labels ≡ m .labels → length sides ≡ 2 * maxVertices → length (m .lows) ≡ maxVertices → Linked es sides (m .lows) x
-      → EndOpened es new sides x m (openIn degrees sides labels x (length es)) (unlabel es x m)
-  unfolding mark
-  end-opened degrees sides labels x m o b dx et ls ll k = go (ℕ-discrete (degree es x) 0) (ℕ-discrete (degree es x) 2)
+  meet-other : (v : ℕ) → v ≢ x → PairAt (meetIn degrees sides x e) v (getD sides (2 * v) 0) (getD sides (2 * v + 1) 0)
+  meet-other v n = go (ℕ-discrete (getD degrees x 0) 0)
     where
-      more : degree new x ≡ degree es x + 1
-      more = omega (arith, degree-snoc es n x)
+      go : Dec (getD degrees x 0 ≡ 0) → PairAt (meetIn degrees sides x e) v (getD sides (2 * v) 0) (getD sides (2 * v + 1) 0)
+      go (yes z) = rw (← meet-isolated degrees sides x e z) (pair-other sides x v e 0 n)
+      go (no z) = rw (meet-same z) (refl, refl)
 
-      go : Dec (degree es x ≡ 0) → Dec (degree es x ≡ 2) → EndOpened es new sides x m (openIn degrees sides labels x (length es)) (unlabel es x m)
-      go (yes z) q =
-          let p = pair-here sides x (length es) 0 (omega arith) in
-          rw (← open-isolated degrees sides labels x (length es) (setPair sides x (length es) 0) (dx ∙ z) refl, unlabel-left es x m (λ y. omega arith)) (record {
-            here = λ _. record {
-              low-at = λ y. absurd (omega (arith, more));
-              regular = λ y. absurd (omega (arith, more));
-              leaf = λ y. (p .0 ∙ sym (onlyEdge-is new x (length es) (proper-snoc es n pr df) y (at-last es n o)), p .1);
-              other = λ y _. absurd (y (omega (arith, more)));
-            };
-            left = λ y. absurd (omega arith);
-            others = λ qs v y l. linked-same qs sides (setPair sides x (length es) 0) (m .lows) (m .lows) v (pair-other sides x v (length es) 0 y) refl l;
-            labels-are = et;
-            sides-long = length-pair sides x (length es) 0 ∙ ls;
-            lows-long = ll;
-          })
-      go (no z) (yes q) =
-          rw (← open-regular degrees sides labels x (length es) (setPair sides x 0 0) (set labels x 0) (dx ∙ q) refl, unlabel-regular es x m q) (record {
-            here = λ _. record {
-              low-at = λ y. absurd (omega (arith, more));
-              regular = λ y. absurd (omega (arith, more));
-              leaf = λ y. absurd (omega (arith, more));
-              other = λ _ _. pair-here sides x 0 0 (omega arith);
-            };
-            left = λ y. absurd (omega arith);
-            others = λ qs v y l. linked-other qs sides (m .lows) v x 0 0 0 y l;
-            labels-are = rw et;
-            sides-long = length-pair sides x 0 0 ∙ ls;
-            lows-long = length-set (m .lows) x 0 ∙ ll;
-          })
-      go (no z) (no q) =
-          rw (← open-left degrees sides labels x (length es) (λ y. z (sym dx ∙ y)) (λ y. q (sym dx ∙ y)), unlabel-left es x m q) (record {
-            here = λ nl. record {
-              low-at = λ y. absurd (nl (omega (arith, more)));
-              regular = λ y. absurd (nl (omega (arith, more)));
-              leaf = λ y. absurd (z (omega (arith, more)));
-              other = λ _ _. k .other nl q;
-            };
-            left = λ _. k;
-            others = λ qs v y l. l;
-            labels-are = et;
-            sides-long = ls;
-            lows-long = ll;
-          })
+  meet-long : length (meetIn degrees sides x e) ≡ length sides
+  meet-long = go (ℕ-discrete (getD degrees x 0) 0)
+    where
+      go : Dec (getD degrees x 0 ≡ 0) → length (meetIn degrees sides x e) ≡ length sides
+      go (yes z) = rw (← meet-isolated degrees sides x e z) (length-pair sides x e 0)
+      go (no z) = rw (meet-same z)
 
 -- ---- both ends
 
@@ -108,52 +49,98 @@ pub record OpenedBoth (es : List Edge) (n : Edge) (sides labels : List ℕ) (m :
   pub kept : HoldsMarks (es ++ (n ∷ [])) (λ v. endsAt v n ≡ 1 → degree es v ≢ 1) sides labels m
   pub leaf : (x : ℕ) → endsAt x n ≡ 1 → degree es x ≡ 1 → getD sides (2 * x) 0 ≡ onlyEdge es x
 
-pub opened-both : (es : List Edge) (n : Edge) (degrees sides labels : List ℕ) (blocks : ℕ) (m : Marks) → Proper es → n .first ≢ n .second
-    → n .first < maxVertices → n .second < maxVertices → ((v : ℕ) → v < maxVertices → getD degrees v 0 ≡ degree es v)
-    → labels ≡ m .labels → length sides ≡ 2 * maxVertices → length (m .lows) ≡ maxVertices → ((v : ℕ) → v < maxVertices → Linked es sides (m .lows) v)
-    → let o = openBothIn degrees sides labels blocks (n .first) (n .second) (length es) in
-    OpenedBoth es n (o .sides) (o .labels) (unlabel es (n .second) (unlabel es (n .first) m))
-unfolding openBothIn
-opened-both es n degrees sides labels blocks m pr df la lb ds et ls ll k =
-    record {
-      kept = record { labels-are = q₂ .labels-are; links = λ v l r. link v l r (ℕ-discrete v b) (ℕ-discrete v a); sides-long = q₂ .sides-long; lows-long = q₂ .lows-long };
-      leaf = λ x o one. still x one (two-ends n a b x (end-first n df) (end-second n df) df o);
-    }
-  where
-    a : ℕ
-    a = n .first
+module _ (es : List Edge) (n : Edge) (pr : Proper es) (df : n .first ≢ n .second) (degrees sides labels : List ℕ) (m : Marks)
+    (x y : ℕ) (ox : endsAt x n ≡ 1) (oy : endsAt y n ≡ 1) (xy : x ≢ y) (lx : x < maxVertices) (ly : y < maxVertices)
+    (ds : (v : ℕ) → v < maxVertices → getD degrees v 0 ≡ degree es v)
+    (S : ℕ → Type 0) (k : SplitAs es S sides labels m) (only : (v : ℕ) → S v → (endsAt v n ≡ 1) × (degree es v ≡ 2)) (all : (v : ℕ) → endsAt v n ≡ 1 → degree es v ≡ 2 → S v) where
+  abbrev new : List Edge
+  new = es ++ (n ∷ [])
 
-    b : ℕ
-    b = n .second
+  abbrev s₁ : List ℕ
+  s₁ = meetIn degrees sides x (length es)
 
-    w₁ : MarksIn
-    w₁ = openIn degrees sides labels a (length es)
+  abbrev s₂ : List ℕ
+  s₂ = meetIn degrees s₁ y (length es)
 
-    w₂ : MarksIn
-    w₂ = openIn degrees (w₁ .sides) (w₁ .labels) b (length es)
+  yx : y ≢ x
+  yx e = xy (sym e)
 
-    m₁ : Marks
-    m₁ = unlabel es a m
+  long : length sides ≡ 2 * maxVertices
+  long = k .kept .sides-long
 
-    m₂ : Marks
-    m₂ = unlabel es b m₁
+  abbrev Left : ℕ → Type 0
+  Left v = PairAt s₂ v (getD sides (2 * v) 0) (getD sides (2 * v + 1) 0)
 
-    ba : b ≢ a
-    ba e = df (sym e)
+  left-off : (v : ℕ) → v ≢ x → v ≢ y → Left v
+  left-off v a b = let p = meet-other degrees s₁ y (length es) v b in let q = meet-other degrees sides x (length es) v a in (p .0 ∙ q .0, p .1 ∙ q .1)
 
-    q₁ : EndOpened es (es ++ (n ∷ [])) sides a m w₁ m₁
-    q₁ = end-opened es n pr df degrees sides labels a m (end-first n df) la (ds a la) et ls ll (k a la)
+  left-x : degree es x ≢ 0 → Left x
+  left-x z =
+      let p = meet-other degrees s₁ y (length es) x xy in
+      let q : s₁ ≡ sides = meet-same degrees sides x (length es) (λ q. z (sym (ds x lx) ∙ q)) in
+      (p .0 ∙ ap (λ (l : List ℕ). getD l (2 * x) 0) q, p .1 ∙ ap (λ (l : List ℕ). getD l (2 * x + 1) 0) q)
 
-    q₂ : EndOpened es (es ++ (n ∷ [])) (w₁ .sides) b m₁ w₂ m₂
-    q₂ = end-opened es n pr df degrees (w₁ .sides) (w₁ .labels) b m₁ (end-second n df) lb (ds b lb) (q₁ .labels-are) (q₁ .sides-long) (q₁ .lows-long) (q₁ .others es b ba (k b lb))
+  left-y : degree es y ≢ 0 → Left y
+  left-y z =
+      let q = meet-other degrees sides x (length es) y yx in
+      rw (meet-same degrees s₁ y (length es) (λ q. z (sym (ds y ly) ∙ q))) q
 
-    link : (v : ℕ) → v < maxVertices → (endsAt v n ≡ 1 → degree es v ≢ 1) → Dec (v ≡ b) → Dec (v ≡ a) → Linked (es ++ (n ∷ [])) (w₂ .sides) (m₂ .lows) v
-    link v l r (yes e) d = rw e (q₂ .here (rw e at (r (rw e (end-second n df)))))
-    link v l r (no y) (yes e) = rw e (q₂ .others (es ++ (n ∷ [])) a df (q₁ .here (rw e at (r (rw e (end-first n df))))))
-    link v l r (no y) (no x) =
-        q₂ .others (es ++ (n ∷ [])) v y (q₁ .others (es ++ (n ∷ [])) v x
-        (linked-old es n pr v (off-ends n a b v df (end-first n df) (end-second n df) df x y) sides (m .lows) (k v l)))
+  zero-x : degree es x ≡ 0 → PairAt s₂ x (length es) 0
+  zero-x z =
+      let p = meet-other degrees s₁ y (length es) x xy in
+      let q = meet-zero degrees sides x (length es) (ds x lx ∙ z) (omega (arith, long)) in
+      (p .0 ∙ q .0, p .1 ∙ q .1)
 
-    still : (x : ℕ) → degree es x ≡ 1 → (x ≡ a) ⊎ (x ≡ b) → getD (w₂ .sides) (2 * x) 0 ≡ onlyEdge es x
-    still x one (inl e) = rw e (((q₂ .others es a df (q₁ .left (rw e at one))) .leaf (rw e at one)) .0)
-    still x one (inr e) = rw e (((q₂ .left (rw e at one)) .leaf (rw e at one)) .0)
+  zero-y : degree es y ≡ 0 → PairAt s₂ y (length es) 0
+  zero-y z = meet-zero degrees s₁ y (length es) (ds y ly ∙ z) (omega (arith, long, meet-long degrees sides x (length es)))
+
+  -- an end that was no leaf
+  at-end : (z : ℕ) → endsAt z n ≡ 1 → z < maxVertices → (degree es z ≡ 0 → PairAt s₂ z (length es) 0) → (degree es z ≢ 0 → Left z) → degree es z ≢ 1 → Linked new s₂ (m .lows) z
+  at-end z o b zero rest nl = go (ℕ-discrete (degree es z) 0) (ℕ-discrete (degree es z) 2)
+    where
+      more : degree new z ≡ degree es z + 1
+      more = omega (arith, degree-snoc es n z)
+
+      no-sides : degree es z ≢ 0 → PairAt s₂ z 0 0 → Linked new s₂ (m .lows) z
+      no-sides nz p = record {
+        low-at = λ q. absurd (nl (omega (arith, more)));
+        regular = λ q. absurd (nl (omega (arith, more)));
+        leaf = λ q. absurd (nz (omega (arith, more)));
+        other = λ _ _. p;
+      }
+
+      go : Dec (degree es z ≡ 0) → Dec (degree es z ≡ 2) → Linked new s₂ (m .lows) z
+      go (yes q) d =
+          let p = zero q in
+          record {
+            low-at = λ t. absurd (omega (arith, more));
+            regular = λ t. absurd (omega (arith, more));
+            leaf = λ t. (p .0 ∙ sym (onlyEdge-is new z (length es) (proper-snoc es n pr df) t (at-last es n o)), p .1);
+            other = λ t _. absurd (t (omega (arith, more)));
+          }
+      go (no q) (yes t) = let p = rest q in let w = k .off z b (all z o t) in no-sides q (p .0 ∙ w .0, p .1 ∙ w .1)
+      go (no q) (no t) = let p = rest q in let w = (k .kept .links z b (λ s. t ((only z s) .1))) .other nl t in no-sides q (p .0 ∙ w .0, p .1 ∙ w .1)
+
+  links : (v : ℕ) → v < maxVertices → (endsAt v n ≡ 1 → degree es v ≢ 1) → Dec (v ≡ x) → Dec (v ≡ y) → Linked new s₂ (m .lows) v
+  links v b r (yes e) d = rw e (at-end x ox lx zero-x left-x (rw e at (r (rw e ox))))
+  links v b r (no a) (yes e) = rw e (at-end y oy ly zero-y left-y (rw e at (r (rw e oy))))
+  links v b r (no a) (no c) =
+      let z : endsAt v n ≡ 0 = off-ends n x y v df ox oy xy a c in
+      linked-same new sides s₂ (m .lows) (m .lows) v (left-off v a c) refl (linked-old es n pr v z sides (m .lows) (k .kept .links v b (λ s. omega (arith, z, (only v s) .0))))
+
+  still : (z : ℕ) → endsAt z n ≡ 1 → degree es z ≡ 1 → (z ≡ x) ⊎ (z ≡ y) → getD s₂ (2 * z) 0 ≡ onlyEdge es z
+  still z o one (inl e) =
+      rw e ((left-x (λ q. omega (arith, rw e at one, q))) .0 ∙ ((k .kept .links x lx (λ s. omega (arith, (only x s) .1, rw e at one))) .leaf (rw e at one)) .0)
+  still z o one (inr e) =
+      rw e ((left-y (λ q. omega (arith, rw e at one, q))) .0 ∙ ((k .kept .links y ly (λ s. omega (arith, (only y s) .1, rw e at one))) .leaf (rw e at one)) .0)
+
+  pub opened-both : OpenedBoth es n (meetIn degrees (meetIn degrees sides x (length es)) y (length es)) labels m
+  opened-both = record {
+    kept = record {
+      labels-are = k .kept .labels-are;
+      links = λ v b r. links v b r (ℕ-discrete v x) (ℕ-discrete v y);
+      sides-long = meet-long degrees s₁ y (length es) ∙ meet-long degrees sides x (length es) ∙ long;
+      lows-long = k .kept .lows-long;
+    };
+    leaf = λ z o one. still z o one (two-ends n x y z ox oy xy o);
+  }

@@ -14,32 +14,30 @@ use Rattle.model.specs.Notions.{Reachable}
 use Rattle.model.proofs.Walks.Degree.{Proper, AllLawful}
 use Rattle.model.proofs.Walks.Turn.{At}
 use Rattle.model.proofs.Walks.NewEdge.{at-old, last-at, Which, is-new, is-old, which}
-use Rattle.model.proofs.Walks.RingFree.{RingFree}
-use Rattle.model.proofs.Labels.Following.{lowAt}
 use Rattle.model.proofs.Registers.Held.{GrowsAgain}
-use Rattle.model.proofs.Registers.Labelled.{Labelled}
+use Rattle.model.proofs.Registers.Founded.{Founded}
+use Rattle.model.proofs.Labels.Following.{lowAt}
+use Rattle.model.proofs.Registers.Labelled as labelled
+use Rattle.model.proofs.Registers.Sides as sides
 use Rattle.model.proofs.Registers.Kept.{kept-held}
 use Rattle.model.proofs.Registers.Lawful.{end-landed, ends-landed}
 use Rattle.model.proofs.Registers.Reachable as reachable
 
 module _ (r : Register) (g : Reachable r) where
-  pub labelled : Labelled r
-  labelled = reachable.labelled r g
+  pub founded : Founded r
+  founded = reachable.founded r g
 
   pub proper : Proper (r .edges)
-  proper = labelled .sound .proper
-
-  pub rings : RingFree (r .edges)
-  rings = labelled .sound .rings
+  proper = founded .proper
 
   pub room : length (r .edges) ≤ maxEdges
-  room = labelled .room
+  room = founded .room
 
   pub few : r .vertices ≤ maxVertices
-  few = labelled .few
+  few = founded .few
 
   pub landed-below : (v d : ℕ) → At (r .edges) v d → v < maxVertices
-  landed-below v d a = omega (arith, ends-landed (r .vertices) (r .edges) (labelled .lawful) v d a, few)
+  landed-below v d a = omega (arith, ends-landed (r .vertices) (r .edges) (founded .lawful) v d a, few)
 
   -- .. with one edge more
   pub new-below : (e : Edge) → e .first < r .vertices → e .second < r .vertices → (v d : ℕ) → At (r .edges ++ (e ∷ [])) v d → v < maxVertices
@@ -52,22 +50,22 @@ module _ (r : Register) (g : Reachable r) where
           omega (arith, end-landed (r .vertices) e v a b (last-at (r .edges) e at′), few)
 
   pub labels-long : length (r .labels) ≡ maxVertices
-  labels-long = labelled .labels-long
+  labels-long = founded .labels-long
 
   pub lows-long : length (r .lows) ≡ maxVertices
-  lows-long = labelled .lows-long
+  lows-long = founded .lows-long
 
   pub low-at : (v : ℕ) → degree (r .edges) v ≡ 2 → At (r .edges) v (lowEdgeOf r v)
   unfolding lowAt marksOf
-  low-at = (reachable.kept r g) .sided .low-at
+  low-at = (sides.sided r g) .low-at
 
   pub no-label : (v : ℕ) → degree (r .edges) v ≢ 2 → getD (r .labels) v 0 ≡ 0
   unfolding marksOf
-  no-label = labelled .bare
+  no-label = (labelled.labelled r g) .bare
 
   -- every edge has landed ends and a length from 1 to 100,000
   pub lawful : AllLawful (r .vertices) (r .edges)
-  lawful = labelled .lawful
+  lawful = founded .lawful
 
   -- what is stored for it is held, and growing its own vertices and edges leaves it again
   pub stored-held : held (storedOf r) ≡ some r

@@ -1,24 +1,36 @@
--- The rows of the chains and the sheet, by walks over the tables.
-use mathlib.Core.Path.{_≡_, refl, sym, ap}
+-- The rows of the chains and rings and the sheet, by walks over the tables and by marks.
+use mathlib.Core.Path.{_≡_, refl, sym, ap, _∙_, subst}
+use mathlib.Core.Logic.{_≢_, _⊎_, inl, inr}
 use Prim.Native.Nat.{ℕ, zero, suc, _+_, _≤_, _<_, min, max}
 use native.Mathlib.Omega.{arith}
+use native.Mathlib.Decide.{ℕ-discrete}
+use native.Mathlib.Nat.{not-suc-le-zero}
 use mathlib.Core.Bool.{Bool, true, false}
 use mathlib.Core.List.{List, [], _∷_, _++_, map, reverse}
-use lib.ListN.{length, length-append, length-map, length-reverse}
+use lib.ListN.{length, getD, replicate, length-append, length-map, length-replicate, length-reverse, getD-replicate}
 use lib.Dec.{eqb}
-use Rattle.model.specs.Basics.{countFrom, upTo}
-use Rattle.model.specs.Graph.{Edge, Pass, atOf, chainOf, edgeAt, endOnwards, lengthAt, nameOf, onwards}
+use borrow.Author.Tests.{eq-eqb, ne-eqb, eqb-true, eqb-false}
+use Rattle.model.specs.Basics.{countFrom, least, maxEdges, maxVertices, sum, upTo}
+use Rattle.model.specs.Graph.{Chain, Edge, Pass, afterOf, atOf, chainLength, chainOf, edgeAt, endOnwards, lengthAt, lengthsOf, nameOf, edgeOnRing, onwards, openChain, ringChain, onceRound, until, walk}
 use Rattle.model.specs.Register.{Register}
 use Rattle.model.specs.Queries.{row, rowsOf, sheet}
 use Rattle.model.specs.Tables.{Tables, countsOf, tablesOf}
 use Rattle.model.specs.Notions.{Reachable}
+use Rattle.tables.specs.Steps.{sum32}
 use Rattle.tables.proofs.Sums.{sum32-is}
-use Rattle.queries.specs.Chains.{namesIn, rowIn, rowsIn, sheetIn}
+use Rattle.queries.specs.Chains.{keptIn, markChainIn, namesIn, rowIn, rowsIn, sheetIn, sweepIn}
+use Rattle.queries.proofs.NameLaws.{kept-names}
+use Rattle.queries.proofs.SheetLaws.{rows-count}
+use Rattle.model.proofs.Basics.Booleans.{true-or-false}
+use Rattle.model.proofs.Chains.Same.{chain-open, chain-ring}
 use Rattle.model.proofs.Chains.Reaches.{along, chain-by-walks}
 use Rattle.model.proofs.Registers.ReadBack.{first-read, second-read}
 use Rattle.model.proofs.Registers.Small.{chains-small}
-use Rattle.agreement.proofs.Chaining.{at-first, at-second, length-is, walk-agrees}
-use Rattle.agreement.proofs.Naming.{is-name-agrees}
+use Rattle.agreement.proofs.Registers.{room}
+use Rattle.agreement.proofs.Chaining.{at-first, at-second, length-is, lower, walkOver, walkedBy, walks}
+use Rattle.agreement.proofs.Ends.{Ends, chain-ends}
+use Rattle.agreement.proofs.Lowest.{least-lower}
+use Rattle.agreement.proofs.Marking.{MarksAt, fresh-name, marked-not, marks-on, marks-stay}
 
 -- ---- one row
 
@@ -28,57 +40,159 @@ rowBy es d a b =
     d ∷ min (endOnwards es d a) (endOnwards es d b) ∷ max (endOnwards es d a) (endOnwards es d b) ∷
     (length (onwards es d a) + length (onwards es d b)) ∷ (along es d a + (lengthAt es d + along es d b)) ∷ []
 
+-- a ring's, by its passes from a on
+abbrev ringBy : List Edge → ℕ → ℕ → List Pass → List ℕ
+ringBy es d a ss = d ∷ lower (map atOf ss) a ∷ lower (map atOf ss) a ∷ (1 + length ss) ∷ (lengthAt es d + sum (lengthsOf es (map afterOf ss))) ∷ []
+
 inner-is : (xs ys : List Pass) → length (reverse (map atOf xs) ++ map atOf ys) ≡ length xs + length ys
 inner-is xs ys =
     omega (arith, length-append (reverse (map atOf xs)) (map atOf ys), length-reverse (map atOf xs), length-map xs atOf, length-map ys atOf)
 
-row-is : (es : List Edge) (d : ℕ) → row es d ≡ rowBy es d ((edgeAt es d) .first) ((edgeAt es d) .second)
-unfolding row chainOf endOnwards
-row-is es d =
+row-open : (es : List Edge) (d : ℕ) → edgeOnRing es d ≡ false → row es d ≡ rowBy es d ((edgeAt es d) .first) ((edgeAt es d) .second)
+unfolding row openChain endOnwards
+row-open es d f =
     let back : List Pass = onwards es d ((edgeAt es d) .first) in
     let on : List Pass = onwards es d ((edgeAt es d) .second) in
-    rw (inner-is back on, chain-by-walks es d)
+    rw (chain-by-walks es d f, chain-open es d f, inner-is back on)
+
+ring-sum : (es : List Edge) (d : ℕ) → edgeOnRing es d ≡ true
+    → chainLength es d ≡ lengthAt es d + sum (lengthsOf es (map afterOf (onceRound es d ((edgeAt es d) .first))))
+unfolding chainLength ringChain sum lengthsOf
+ring-sum es d t = rw (chain-ring es d t)
+
+row-ring : (es : List Edge) (d : ℕ) → edgeOnRing es d ≡ true → row es d ≡ ringBy es d ((edgeAt es d) .first) (onceRound es d ((edgeAt es d) .first))
+unfolding row ringChain
+row-ring es d t =
+    let a : ℕ = (edgeAt es d) .first in
+    let ss : List Pass = onceRound es d a in
+    let x : ℕ = lower (map atOf ss) a in
+    let l : least a (map atOf ss) ≡ x = least-lower a (map atOf ss) in
+    let i : min x x ≡ x = omega arith in
+    let j : max x x ≡ x = omega arith in
+    let k : suc (length (map atOf ss)) ≡ 1 + length ss = omega (arith, length-map ss atOf) in
+    rw (ring-sum es d t, chain-ring es d t, l, i, j, k)
 
 abbrev rowOver : Tables → ℕ → ℕ → List ℕ
 rowOver t = rowIn (t .degrees) (t .sides) (t .ends) (t .lengths)
 
 pub row-agrees : (r : Register) → Reachable r → (d : ℕ) → d < length (r .edges) → rowOver (tablesOf r) (length (r .edges)) d ≡ row (r .edges) d
 unfolding rowIn
-row-agrees r g d h =
-    let es : List Edge = r .edges in
-    let a : ℕ = (edgeAt es d) .first in
-    let b : ℕ = (edgeAt es d) .second in
-    rw (
-      first-read r d h,
-      second-read r d h,
-      walk-agrees r g d a (at-first r g d h),
-      walk-agrees r g d b (at-second r g d h),
-      length-is r d h,
-      sum32-is (lengthAt es d) (along es d b) (omega (arith, chain-by-walks es d, chains-small r g d h)),
-      sum32-is (along es d a) (lengthAt es d + along es d b) (omega (arith, chain-by-walks es d, chains-small r g d h)),
-    )
-    (sym (row-is es d))
-
--- ---- the rows
-
-abbrev rowsOver : Tables → ℕ → List ℕ → List (List ℕ)
-rowsOver t = rowsIn (t .degrees) (t .sides) (t .ends) (t .lengths)
-
-pub rows-agree : (r : Register) → Reachable r → (at k : ℕ) → at + k ≤ length (r .edges)
-    → rowsOver (tablesOf r) (length (r .edges)) (countFrom at k) ≡ rowsOf (r .edges) (countFrom at k)
-unfolding rowsIn namesIn rowsOf countFrom
-rows-agree r g at zero h = refl
-rows-agree r g at (suc k) h = go (eqb (nameOf es at) at) refl (rows-agree r g (suc at) k (omega arith))
+row-agrees r g d h = by (chain-ends r g d h) (true-or-false (edgeOnRing es d))
   where
     es : List Edge
     es = r .edges
 
-    go : (b : Bool) → eqb (nameOf es at) at ≡ b → rowsOver (tablesOf r) (length es) (countFrom (suc at) k) ≡ rowsOf es (countFrom (suc at) k)
-        → rowsOver (tablesOf r) (length es) (at ∷ countFrom (suc at) k) ≡ rowsOf es (at ∷ countFrom (suc at) k)
-    go true e ih =
-        rw (is-name-agrees r g at (omega arith), e, namesIn, rowsOf, row-agrees r g at (omega arith)) (ap (λ (l : List (List ℕ)). row es at ∷ l) ih)
-    go false e ih = rw (is-name-agrees r g at (omega arith), e, namesIn, rowsOf) ih
+    t : Tables
+    t = tablesOf r
 
-pub sheet-agrees : (r : Register) → Reachable r → sheetIn (tablesOf r) (countsOf r) ≡ sheet r
-unfolding sheetIn sheet countsOf upTo
-sheet-agrees r g = rows-agree r g 0 (length (r .edges)) (omega arith)
+    a : ℕ
+    a = (edgeAt es d) .first
+
+    b : ℕ
+    b = (edgeAt es d) .second
+
+    first : walkOver t a (length es) d b ≡ walkedBy es a b (until a (walk (length es) es d b))
+    first = walks r g a (length es) d b (room r g) (at-second r g d h)
+
+    second : walkOver t (endOnwards es d b) (length es) d a ≡ walkedBy es (endOnwards es d b) a (until (endOnwards es d b) (walk (length es) es d a))
+    second = walks r g (endOnwards es d b) (length es) d a (room r g) (at-first r g d h)
+
+    by : Ends r d → (edgeOnRing es d ≡ true) ⊎ (edgeOnRing es d ≡ false) → rowOver t (length es) d ≡ row es d
+    by e (inl q) =
+        let k = e .ring q in
+        let ss : List Pass = onceRound es d a in
+        rw (
+          first-read r d h,
+          second-read r d h,
+          first,
+          k .passed,
+          k .ends-at,
+          eq-eqb _ _ (k .two),
+          length-is r d h,
+          sum32-is (lengthAt es d) (sum (lengthsOf es (map afterOf ss))) (omega (arith, ring-sum es d q, chains-small r g d h)),
+        )
+        (sym (row-ring es d q))
+    by e (inr q) =
+        let k = e .chain q in
+        rw (
+          first-read r d h,
+          second-read r d h,
+          first,
+          k .passed,
+          k .ends-at,
+          ne-eqb _ _ (k .not-two),
+          second,
+          k .back,
+          k .back-ends,
+          length-is r d h,
+          sum32-is (lengthAt es d) (along es d b) (omega (arith, chain-by-walks es d q, chains-small r g d h)),
+          sum32-is (along es d a) (lengthAt es d + along es d b) (omega (arith, chain-by-walks es d q, chains-small r g d h)),
+        )
+        (sym (row-open es d q))
+
+-- ---- the rows
+
+abbrev pub rowsOver : Tables → ℕ → List ℕ → List (List ℕ)
+rowsOver t = rowsIn (t .degrees) (t .sides) (t .ends) (t .lengths)
+
+abbrev sweepOver : Tables → ℕ → ℕ → List ℕ → ℕ → List ℕ
+sweepOver t = sweepIn (t .degrees) (t .sides) (t .ends)
+
+module _ (r : Register) (g : Reachable r) where
+  swept : (k : ℕ) (ms : List ℕ) (d : ℕ) → d + k ≡ length (r .edges) → MarksAt (r .edges) d ms
+      → rowsOver (tablesOf r) (length (r .edges)) (sweepOver (tablesOf r) (length (r .edges)) k ms d) ≡ rowsOf (r .edges) (countFrom d k)
+  unfolding rowsIn sweepIn rowsOf countFrom
+  swept zero ms d h m = refl
+  swept (suc k) ms d h m = go (ℕ-discrete (getD ms d 0) 0) (λ ns i. swept k ns (suc d) (omega arith) i)
+    where
+      es : List Edge
+      es = r .edges
+
+      t : Tables
+      t = tablesOf r
+
+      l : d < length es
+      l = omega arith
+
+      go : Dec (getD ms d 0 ≡ 0)
+          → ((ns : List ℕ) → MarksAt es (suc d) ns → rowsOver t (length es) (sweepOver t (length es) k ns (suc d)) ≡ rowsOf es (countFrom (suc d) k))
+          → rowsOver t (length es) (sweepOver t (length es) (suc k) ms d) ≡ rowsOf es (d ∷ countFrom (suc d) k)
+      go (yes z) ih =
+          rw (eq-eqb (getD ms d 0) 0 z, sweepIn, eq-eqb (nameOf es d) d (fresh-name r g d l ms m z), rowsOf, row-agrees r g d l)
+          (ap (λ (rows : List (List ℕ)). row es d ∷ rows) (ih _ (marks-on r g d l ms m z)))
+      go (no n) ih =
+          let less = marked-not r g d l ms m n in
+          rw (ne-eqb (getD ms d 0) 0 n, sweepIn, ne-eqb (nameOf es d) d (λ e. omega (arith, less, e)), rowsOf) (ih ms (marks-stay r g d l ms m n))
+
+  -- at the start no edge has a mark
+  unmarked : MarksAt (r .edges) 0 (replicate maxVertices 0)
+  unmarked =
+      record {
+        long = rw length-replicate (room r g);
+        fresh = λ e b l f. getD-replicate {A = ℕ} maxVertices e 0 0 (omega (arith, l, room r g));
+        passed = λ e b l f. absurd (not-suc-le-zero f);
+      }
+
+  abbrev pub names : List ℕ
+  names = namesIn ((tablesOf r) .degrees) ((tablesOf r) .sides) ((tablesOf r) .ends) (length (r .edges)) (replicate maxVertices 0)
+
+  pub rows-are : rowsOver (tablesOf r) (length (r .edges)) names ≡ sheet r
+  unfolding namesIn sheet upTo
+  rows-are = swept (length (r .edges)) (replicate maxVertices 0) 0 (omega arith) unmarked
+
+  counted : length names ≡ length (sheet r)
+  counted =
+      sym (rows-count ((tablesOf r) .degrees) ((tablesOf r) .sides) ((tablesOf r) .ends) ((tablesOf r) .lengths) (length (r .edges)) names)
+      ∙ ap (λ (rows : List (List ℕ)). length rows) rows-are
+
+pub names-counted : (r : Register) → Reachable r
+    → length (namesIn ((tablesOf r) .degrees) ((tablesOf r) .sides) ((tablesOf r) .ends) ((countsOf r) .edges) (replicate maxVertices 0)) ≡ length (sheet r)
+unfolding countsOf
+names-counted r g = counted r g
+
+pub sheet-agrees : (r : Register) → Reachable r → (table : List ℕ) → maxEdges ≤ length table
+    → sheetIn (tablesOf r) (countsOf r) (replicate maxVertices 0) table ≡ sheet r
+unfolding sheetIn countsOf
+sheet-agrees r g table l =
+    rw (kept-names ((tablesOf r) .degrees) ((tablesOf r) .sides) ((tablesOf r) .ends) (length (r .edges)) (replicate maxVertices 0) table (omega (arith, room r g)))
+    (rows-are r g)

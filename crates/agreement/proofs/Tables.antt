@@ -113,13 +113,12 @@ pub length-raised : (degrees : List ℕ) (a b : ℕ) → length (raiseBothIn deg
 unfolding raiseBothIn
 length-raised degrees a b = length-raise (raiseIn degrees a) b ∙ length-raise degrees a
 
--- raised at its two ends, the degrees are those with the new edge
-pub raised : (es : List Edge) (n : Edge) (degrees : List ℕ) → Proper es → length es ≤ maxEdges → length degrees ≡ maxVertices → n .first < maxVertices → n .second < maxVertices
-    → ((v : ℕ) → v < maxVertices → getD degrees v 0 ≡ degree es v) → (v : ℕ) → v < maxVertices → getD (raiseBothIn degrees (n .first) (n .second)) v 0 ≡ degree (es ++ (n ∷ [])) v
-unfolding raiseBothIn endsAt
-raised es n degrees pr room long la lb h v l =
-    let a = n .first in
-    let b = n .second in
+-- raised at its two ends, in either order, the degrees are those with the new edge
+pub raised : (es : List Edge) (n : Edge) (degrees : List ℕ) (a b : ℕ) → Proper es → length es ≤ maxEdges → length degrees ≡ maxVertices → a < maxVertices → b < maxVertices
+    → ((v : ℕ) → same a v + same b v ≡ endsAt v n)
+    → ((v : ℕ) → v < maxVertices → getD degrees v 0 ≡ degree es v) → (v : ℕ) → v < maxVertices → getD (raiseBothIn degrees a b) v 0 ≡ degree (es ++ (n ∷ [])) v
+unfolding raiseBothIn
+raised es n degrees a b pr room long la lb ends h v l =
     let da : getD degrees a 0 < most16 = omega (arith, h a la, degree-most es a pr) in
     let one = raise-read degrees a b (omega arith) da in
     let db : getD (raiseIn degrees a) b 0 < most16 = omega (arith, one, same-most a b, h b lb, degree-most es b pr) in
@@ -128,6 +127,7 @@ raised es n degrees pr room long la lb h v l =
       raise-read (raiseIn degrees a) b v (omega (arith, length-raise degrees a)) db,
       raise-read degrees a v (omega arith) da,
       h v l,
+      ends v,
       degree-snoc es n v,
     )
 

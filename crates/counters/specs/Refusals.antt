@@ -1,7 +1,7 @@
 -- Document 01, "Refusals from the input" and "Refusals from the state": the number of each.
 use Prim.Native.Nat.{ℕ}
 use Rattle.counters.specs.declared.refusals.Refusal.{Refusal}
-use Rattle.counters.specs.declared.refusals.Refusal.the-variants.{NoMark, Version, Cut, UnknownKind, NotLanded, SameVertex, Length, NotRegular, ShortSlice, NotGrown, TooManyVertices, TooManyEdges, Ring, WrongSize}
+use Rattle.counters.specs.declared.refusals.Refusal.the-variants.{NoMark, Version, Cut, UnknownKind, NotLanded, SameVertex, Length, NotRegular, ShortSlice, NotGrown, TooManyVertices, TooManyEdges, WrongSize}
 
 abbrev pub numberOf : Refusal → ℕ
 -- "no mark (list shorter than 3 or other bytes)"
@@ -28,7 +28,5 @@ numberOf NotGrown = 21
 numberOf TooManyVertices = 22
 -- "a 4,097th pipe"
 numberOf TooManyEdges = 23
--- "ring"
-numberOf Ring = 24
 -- "a table of the wrong size"
 numberOf WrongSize = 25

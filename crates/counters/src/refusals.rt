@@ -1,4 +1,4 @@
-// Document 01's refusals. A definition, `numberOf`, gives the number of each.
+// Document 01's refusals; document 02 withdraws 24. A definition, `numberOf`, gives the number of each.
 ghost use mathlib.Core.Path.{_≡_};
 ghost use Rattle.counters.specs.Refusals.{numberOf};
 
@@ -15,7 +15,6 @@ pub enum Refusal {
     NotGrown,
     TooManyVertices,
     TooManyEdges,
-    Ring,
     WrongSize,
 }
 
@@ -36,7 +35,6 @@ impl Refusal {
             Refusal::NotGrown => 21,
             Refusal::TooManyVertices => 22,
             Refusal::TooManyEdges => 23,
-            Refusal::Ring => 24,
             Refusal::WrongSize => 25,
         }
     }

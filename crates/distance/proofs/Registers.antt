@@ -8,8 +8,8 @@ use Rattle.model.specs.Register.{Register}
 use Rattle.model.specs.Notions.{HeldOf, Reachable}
 use Rattle.model.specs.Tables.{Stored, countsOf, edgeLengths, endsOf, padded, storedOf, tablesOf}
 use Rattle.model.proofs.Registers.ReadBack.{first-read, second-read, length-read, length-ends, length-lengths}
-use Rattle.model.proofs.Registers.Labelled.{Labelled}
-use Rattle.model.proofs.Registers.Reachable.{labelled}
+use Rattle.model.proofs.Registers.Founded.{Founded}
+use Rattle.model.proofs.Registers.Reachable.{founded}
 use Rattle.search.specs.Search.{Searchable}
 use Rattle.distance.specs.Measure.{Measurable}
 
@@ -20,7 +20,7 @@ padded-long n xs = omega (arith, length-append xs (drop (length xs) (replicate n
 searchable : (r : Register) → Reachable r → Searchable ((tablesOf r) .ends) ((tablesOf r) .lengths) (length (r .edges))
 unfolding tablesOf
 searchable r k =
-    let kept : Labelled r = labelled r k in
+    let kept : Founded r = founded r k in
     record {
       few = kept .room;
       ends-room = omega (arith, padded-long (2 * maxEdges) (endsOf (r .edges)), length-ends (r .edges));
@@ -33,4 +33,4 @@ searchable r k =
 
 pub measurable : {s : Stored} {r : Register} → HeldOf s r → Measurable (s .tables .ends) (s .tables .lengths) (s .counts)
 unfolding storedOf countsOf
-measurable {r = r} h = rw (h .stored-is) (searchable r (h .reachable), labelled r (h .reachable) .few)
+measurable {r = r} h = rw (h .stored-is) (searchable r (h .reachable), founded r (h .reachable) .few)

@@ -1,5 +1,5 @@
--- The refusals of an edge, in their order, and the two ways out of an insertion.
-use mathlib.Core.Path.{_≡_, refl, sym, ap, _∙_}
+-- The refusals of an edge, in their order, and an insertion.
+use mathlib.Core.Path.{_≡_, refl, sym, _∙_}
 use mathlib.Core.Bool.{Bool, true, false, _||_}
 use mathlib.Core.List.{List}
 use mathlib.Core.Option.{none, some}
@@ -18,40 +18,19 @@ use Rattle.counters.specs.Numbers.{within}
 use Rattle.counters.proofs.Within.{within-yes, within-below, within-above}
 use Rattle.tables.specs.Steps.{tables, setPair, more16, sum32}
 use Rattle.insertion.specs.Placing.{Placed, placed, placeIn}
-use Rattle.insertion.specs.Insertion.{done, refusedIn, landingIn, insertIn, passed, failed, checkIn, landChecked, landIn}
+use Rattle.insertion.specs.Insertion.{done, refusedIn, landingIn, insertIn, passed, failed, checkIn, landChecked, landIn, counts}
 use Rattle.insertion.specs.Meaning.{checkedIn}
 use Rattle.insertion.specs.declared.landing.Checked.{Checked}
-use Rattle.insertion.proofs.Rings.{place-keeps}
 
-module _ (d s ends l t d′ s′ t′ : List ℕ) (c : Counts) (a b len da db blocks m : ℕ) (ring : Bool) (k : Case)
-    (i : da ≡ getD d a 0) (j : db ≡ getD d b 0) (g : k ≡ caseOf (classOf da) (classOf db))
-    (p : placed ring d′ s′ t′ blocks m ≡ placeIn k d s ends t (c .blocks) a b (c .edges) (c .edges)) where
-  pub insert-ring : ring ≡ true
-      → landingIn (tables d′ s′ ends l t′) (refusedIn 24)
-      ≡ insertIn (tables d s ends l t) c (record { first = a; second = b; len = len })
-  unfolding insertIn
-  insert-ring y =
-      let q = place-keeps k d s ends t (c .blocks) a b (c .edges) (c .edges) (ap (λ (x : Placed). x .ring) (sym p) ∙ y) in
-      rw (
-        ← i,
-        ← j,
-        ← g,
-        ← p,
-        y,
-        ap (λ (x : Placed). x .degrees) p,
-        ap (λ (x : Placed). x .sides) p,
-        ap (λ (x : Placed). x .labels) p,
-        q .0,
-        q .1 .0,
-        q .1 .1,
-      )
-
-  pub insert-done : (ends′ l′ : List ℕ) (edges n : ℕ) → ring ≡ false → ends′ ≡ setPair ends (c .edges) a b
-      → l′ ≡ set l (c .edges) len → edges ≡ more16 (c .edges) → n ≡ sum32 (c .relabellings) m
-      → landingIn (tables d′ s′ ends′ l′ t′) (done (counts (c .vertices) edges blocks n))
-      ≡ insertIn (tables d s ends l t) c (record { first = a; second = b; len = len })
-  unfolding insertIn
-  insert-done ends′ l′ edges n y z x v u = rw (← i, ← j, ← g, ← p, y, z, x, v, u)
+pub insert-done : (d s ends l t d′ s′ t′ ends′ l′ : List ℕ) (c : Counts) (a b len da db blocks m edges n : ℕ) (k : Case)
+    → da ≡ getD d a 0 → db ≡ getD d b 0 → k ≡ caseOf (classOf da) (classOf db)
+    → placed d′ s′ t′ blocks m ≡ placeIn k d s ends t (c .blocks) a b (c .edges) → ends′ ≡ setPair ends (c .edges) a b
+    → l′ ≡ set l (c .edges) len → edges ≡ more16 (c .edges) → n ≡ sum32 (c .relabellings) m
+    → landingIn (tables d′ s′ ends′ l′ t′) (done (counts (c .vertices) edges blocks n))
+    ≡ insertIn (tables d s ends l t) c (record { first = a; second = b; len = len })
+unfolding insertIn
+insert-done d s ends l t d′ s′ t′ ends′ l′ c a b len da db blocks m edges n k i j g p z x v u =
+    rw (← i, ← j, ← g, ← p, z, x, v, u)
 
 -- the test of refusal 7 is that of the checked constructor
 length-test : (n : ℕ) → within 1 maxLength n ≡ (if eqb n 0 || ltb maxLength n then none else some n)

@@ -1,58 +1,55 @@
--- An end opened, and an edge placed, case by case.
+-- An edge comes to an end, and is placed, case by case.
 use mathlib.Core.Path.{_≡_}
-use mathlib.Core.Bool.{Bool, true, false}
 use mathlib.Core.List.{List}
 use Prim.Native.Nat.{ℕ}
 use borrow.Author.Tests.{eq-eqb, ne-eqb}
-use lib.ListN.{getD, set}
+use lib.ListN.{getD}
 use Rattle.tables.specs.Steps.{setPair, raiseBothIn}
-use Rattle.model.specs.Cases.{Case}
 use Rattle.labels.specs.Labelling.{marksIn, extendIn}
-use Rattle.labels.specs.Merging.{merged, mergeIn}
-use Rattle.insertion.specs.Placing.{openIn, Placed, placed, openBothIn, placeExtend, placeMerge, placementFor, placementIn, placeIn}
-use Rattle.insertion.specs.declared.placing.Placement.{Placement}
+use Rattle.labels.specs.Merging.{changed, mergeIn}
+use Rattle.labels.specs.Splitting.{splitIn, splitBothIn}
+use Rattle.insertion.specs.Placing.{meetIn, placed, newIn, extendedIn, mergedIn, splitNewIn, splitExtendedIn, splitBothNewIn}
 
-module _ (degrees s l : List ℕ) (v e : ℕ) where
-  pub open-isolated : (s′ : List ℕ) → getD degrees v 0 ≡ 0 → s′ ≡ setPair s v e 0 → marksIn s′ l 0 ≡ openIn degrees s l v e
-  unfolding openIn
-  open-isolated s′ h a = rw (eq-eqb _ _ h, a)
+module _ (degrees s : List ℕ) (v e : ℕ) where
+  pub meet-isolated : getD degrees v 0 ≡ 0 → setPair s v e 0 ≡ meetIn degrees s v e
+  unfolding meetIn
+  meet-isolated h = rw (eq-eqb _ _ h)
 
-  pub open-regular : (s′ l′ : List ℕ) → getD degrees v 0 ≡ 2 → marksIn s′ l′ 0 ≡ marksIn (setPair s v 0 0) (set l v 0) 0
-      → marksIn s′ l′ 0 ≡ openIn degrees s l v e
-  unfolding openIn
-  open-regular s′ l′ h a = rw h a
+  pub meet-left : (getD degrees v 0 ≡ 0 → ⊥) → s ≡ meetIn degrees s v e
+  unfolding meetIn
+  meet-left h = rw (ne-eqb _ _ h)
 
-  pub open-left : (getD degrees v 0 ≡ 0 → ⊥) → (getD degrees v 0 ≡ 2 → ⊥) → marksIn s l 0 ≡ openIn degrees s l v e
-  unfolding openIn
-  open-left h g = rw (ne-eqb _ _ h, ne-eqb _ _ g)
+module _ (degrees s ends l degrees′ s′ : List ℕ) (blocks blocks′ m e : ℕ) where
+  pub placed-new : (a b : ℕ) → (degrees′ ≡ raiseBothIn degrees a b) × (s′ ≡ meetIn degrees (meetIn degrees s a e) b e)
+      → (blocks′ ≡ blocks) × (m ≡ 0) → placed degrees′ s′ l blocks′ m ≡ newIn degrees s ends l blocks a b e
+  unfolding newIn
+  placed-new a b h z = rw (z .0, z .1, ← h .0, ← h .1)
 
-module _ (degrees s l degrees′ s′ l′ : List ℕ) (blocks a b e blocks′ m : ℕ) (ring : Bool) where
-  pub open-both : (s₁ l₁ : List ℕ) → marksIn s₁ l₁ 0 ≡ openIn degrees s l a e → marksIn s′ l′ 0 ≡ openIn degrees s₁ l₁ b e
-      → degrees′ ≡ raiseBothIn degrees a b → (ring ≡ false) × ((blocks′ ≡ blocks) × (m ≡ 0))
-      → placed ring degrees′ s′ l′ blocks′ m ≡ openBothIn degrees s l blocks a b e
-  unfolding openBothIn
-  open-both s₁ l₁ h g i z = rw (z .0, z .1 .0, z .1 .1, ← h, ← g, ← i)
+module _ (degrees s ends l degrees′ s′ l′ : List ℕ) (blocks blocks′ m e : ℕ) where
+  pub placed-extended : (s₁ : List ℕ) (x y k : ℕ) → s₁ ≡ meetIn degrees s y e → degrees′ ≡ raiseBothIn degrees x y
+      → marksIn s′ l′ k ≡ extendIn degrees′ s₁ ends l blocks x e → (blocks′ ≡ k) × (m ≡ 0)
+      → placed degrees′ s′ l′ blocks′ m ≡ extendedIn degrees s ends l blocks x y e
+  unfolding extendedIn
+  placed-extended s₁ x y k i j h z = rw (z .0, z .1, ← i, ← j, ← h)
 
-  pub place-extend : (ends s₁ l₁ : List ℕ) (x k blocks₁ m₁ : ℕ) (ring₁ : Bool)
-      → placed ring₁ degrees′ s₁ l₁ blocks₁ m₁ ≡ openBothIn degrees s l blocks a b e
-      → marksIn s′ l′ k ≡ extendIn degrees′ s₁ ends l₁ blocks x e → (ring ≡ false) × ((blocks′ ≡ k) × (m ≡ 0))
-      → placed ring degrees′ s′ l′ blocks′ m ≡ placeExtend degrees s ends l blocks x a b e
-  unfolding placeExtend
-  place-extend ends s₁ l₁ x k blocks₁ m₁ ring₁ h g z = rw (z .0, z .1 .0, z .1 .1, ← h, ← g)
+  pub placed-merged : (a b : ℕ) → changed s′ l′ blocks′ m ≡ mergeIn degrees s ends l blocks a b e e → degrees′ ≡ raiseBothIn degrees a b
+      → placed degrees′ s′ l′ blocks′ m ≡ mergedIn degrees s ends l blocks a b e
+  unfolding mergedIn
+  placed-merged a b h j = rw (← h, ← j)
 
-module _ (degrees s ends l s′ l′ : List ℕ) (blocks a b e n blocks′ m : ℕ) (ring : Bool)
-    (h : merged ring s′ l′ blocks′ m ≡ mergeIn degrees s ends l blocks a b e n) where
-  pub place-ring : ring ≡ true → placed ring degrees s′ l′ blocks′ m ≡ placeMerge degrees s ends l blocks a b e n
-  unfolding placeMerge
-  place-ring y = rw (← h, y)
+  pub placed-split : (s₁ : List ℕ) (v y : ℕ) → changed s₁ l′ blocks′ m ≡ splitIn degrees s ends l blocks v y e
+      → s′ ≡ meetIn degrees s₁ y e → degrees′ ≡ raiseBothIn degrees v y
+      → placed degrees′ s′ l′ blocks′ m ≡ splitNewIn degrees s ends l blocks v y e
+  unfolding splitNewIn
+  placed-split s₁ v y h i j = rw (← h, ← i, ← j)
 
-  pub place-merged : (degrees′ : List ℕ) → ring ≡ false → degrees′ ≡ raiseBothIn degrees a b
-      → placed ring degrees′ s′ l′ blocks′ m ≡ placeMerge degrees s ends l blocks a b e n
-  unfolding placeMerge
-  place-merged degrees′ y i = rw (← h, y, i)
+  pub placed-split-extended : (s₁ l₁ : List ℕ) (v x k₁ k n : ℕ) → changed s₁ l₁ k₁ n ≡ splitIn degrees s ends l blocks v x e
+      → degrees′ ≡ raiseBothIn degrees v x → marksIn s′ l′ k ≡ extendIn degrees′ s₁ ends l₁ k₁ x e → (blocks′ ≡ k) × (m ≡ n)
+      → placed degrees′ s′ l′ blocks′ m ≡ splitExtendedIn degrees s ends l blocks v x e
+  unfolding splitExtendedIn
+  placed-split-extended s₁ l₁ v x k₁ k n h j g z = rw (z .0, z .1, ← h, ← j, ← g)
 
--- what is placed by q, once known, is what the case places
-pub placed-by : (k : Case) (degrees s ends l : List ℕ) (blocks a b e n : ℕ) (q q′ : Placement) (p : Placed) → q ≡ q′
-    → q ≡ placementFor k a b → p ≡ placementIn q′ degrees s ends l blocks a b e n → p ≡ placeIn k degrees s ends l blocks a b e n
-unfolding placeIn
-placed-by k degrees s ends l blocks a b e n q q′ p o h g = rw (← h, o) g
+  pub placed-both : (a b : ℕ) → changed s′ l′ blocks′ m ≡ splitBothIn degrees s ends l blocks a b e → degrees′ ≡ raiseBothIn degrees a b
+      → placed degrees′ s′ l′ blocks′ m ≡ splitBothNewIn degrees s ends l blocks a b e
+  unfolding splitBothNewIn
+  placed-both a b h j = rw (← h, ← j)

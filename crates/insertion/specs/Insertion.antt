@@ -28,8 +28,6 @@ unfoldable pub insertIn : Tables → Counts → Edge → LandingIn
 insertIn t c e =
     let new = c .edges in
     let p = placedBy t c e in
-    if p .ring then landingIn t (refusedIn 24)
-    else
     landingIn
     (tables (p .degrees) (p .sides) (setPair (t .ends) new (e .first) (e .second)) (set (t .lengths) new (e .len)) (p .labels))
     (done (counts (c .vertices) (more16 new) (p .blocks) (sum32 (c .relabellings) (p .relabellings))))

@@ -17,7 +17,7 @@ ghost use mathlib.Core.Path.{_≡_};
 ghost use lib.ListN.{set};
 ghost use Rattle.counters.specs.Answers.{countsIn};
 ghost use Rattle.tables.specs.Steps.{tables, setPair};
-ghost use Rattle.insertion.specs.Insertion.{landingIn, insertIn, checkIn, landIn};
+ghost use Rattle.insertion.specs.Insertion.{landingIn, done, insertIn, checkIn, landIn};
 ghost use Rattle.insertion.specs.Meaning.{answerIn, checkedIn};
 
 // The counts after the edge (document 01: the head), or its refusal.
@@ -63,7 +63,7 @@ fn record_edge(ends: &mut [u16], lengths: &mut [u32], e: u16, a: u16, b: u16, le
     put32(lengths, e as usize, length);
 }
 
-// An edge that no refusal of `check_edge` holds of. A ring, 24, shows before anything is written.
+// An edge that no refusal of `check_edge` holds of.
 fn insert_edge(
     degrees: &mut [u16],
     sides: &mut [u16],
@@ -74,9 +74,9 @@ fn insert_edge(
     first: Vertex,
     second: Vertex,
     length: Millimetres,
-) -> Inserted
+) -> Counts
     ensures { λ r. ⌜ landingIn
-        (tables (now (degrees .exit)) (now (sides .exit)) (now (ends .exit)) (now (lengths .exit)) (now (labels .exit))) (answerIn r)
+        (tables (now (degrees .exit)) (now (sides .exit)) (now (ends .exit)) (now (lengths .exit)) (now (labels .exit))) (done (countsIn r))
         ≡ insertIn
         (tables (now (degrees .entry)) (now (sides .entry)) (now (ends .entry)) (now (lengths .entry)) (now (labels .entry)))
         (countsIn counts) (record { first = first .0; second = second .0; len = length .0 }) ⌝ }
@@ -86,16 +86,13 @@ fn insert_edge(
     let e = counts.edges;
     let case = case_of(class_of(of16(degrees, a)), class_of(of16(degrees, b)));
     let p = place_edge(case, degrees, sides, ends, labels, counts.blocks, a, b, e);
-    if p.ring {
-        return Inserted::Refused(Refusal::Ring);
-    }
     record_edge(ends, lengths, e, a, b, length.0);
-    Inserted::Done(Counts {
+    Counts {
         vertices: counts.vertices,
         edges: one_more16(e),
         blocks: p.blocks,
         relabellings: add32(counts.relabellings, p.relabellings),
-    })
+    }
 }
 
 // Every refusal in its order; a refused edge leaves the tables.
@@ -118,18 +115,23 @@ pub fn land_edge(
 {
     let checked = check_edge(counts, first, second, length);
     match checked {
-        Checked::Passed(millimetres) => insert_edge(
-            degrees,
-            sides,
-            ends,
-            lengths,
-            labels,
-            counts,
+        Checked::Passed(millimetres) => {
             // below counts.vertices, so within Vertex::MAX in every register
-            Vertex(first),
-            Vertex(second),
-            millimetres,
-        ),
+            let v = Vertex(first);
+            let w = Vertex(second);
+            let after = insert_edge(
+                degrees,
+                sides,
+                ends,
+                lengths,
+                labels,
+                counts,
+                v,
+                w,
+                millimetres,
+            );
+            Inserted::Done(after)
+        }
         Checked::Refused(refusal) => Inserted::Refused(refusal),
     }
 }

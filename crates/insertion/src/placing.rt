@@ -1,93 +1,60 @@
-// What an edge does to the degrees, the sides and the labels, case by case.
+// What an edge does to the degrees, the sides and the labels, case by case. e edges were landed before, which is fuel enough for every
+// walk.
 use crate::cases::Case;
 use labels::labelling::extend_chain;
 use labels::merging::ChainChange;
 use labels::merging::merge_chains;
+use labels::splitting::split_both;
+use labels::splitting::split_chain;
 use tables::access::of16;
-use tables::access::put32;
 use tables::steps::put_pair;
 use tables::steps::raise_both;
 ghost use mathlib.Core.Path.{_≡_};
-ghost use lib.ListN.{set};
-ghost use Rattle.tables.specs.Steps.{setPair};
-ghost use Rattle.labels.specs.Labelling.{marksIn};
-ghost use Rattle.insertion.specs.Placing.{openIn, placed, openBothIn, placeMerge, placementFor, extensionIn, placeIn};
+ghost use Rattle.tables.specs.Steps.{raiseBothIn};
+ghost use Rattle.insertion.specs.Placing.{meetIn, placed, extendedIn, mergedIn, splitNewIn, splitExtendedIn, splitBothNewIn, placeIn};
 ghost use Rattle.insertion.specs.Meaning.{caseIn};
 
-// The leaf whose chain goes on over the edge, if one does.
-pub enum Extension {
-    Nothing,
-    Leaf(u16),
-}
-
-// What a case comes to: the chains of both ends are merged, or both ends are opened. A regular end is split as it is opened.
-pub enum Placement {
-    Merge,
-    Open(Extension),
-}
-
-fn placement_of(case: Case, a: u16, b: u16) -> Placement
-    ensures { λ r. ⌜ r ≡ placementFor (caseIn case) a b ⌝ }
+// Edge e comes to vertex v, isolated or a branch: an isolated one becomes a leaf with e as its only edge.
+fn meet_end(degrees: &[u16], sides: &mut [u16], v: u16, e: u16)
+    ensures { λ _. ⌜ now (sides .exit) ≡ meetIn (now (degrees .entry)) (now (sides .entry)) v e ⌝ }
 {
-    match case {
-        Case::New => Placement::Open(Extension::Nothing),
-        Case::ExtendFirst => Placement::Open(Extension::Leaf(a)),
-        Case::ExtendSecond => Placement::Open(Extension::Leaf(b)),
-        Case::Merge => Placement::Merge,
-        Case::SplitExtendFirst => Placement::Open(Extension::Leaf(a)),
-        Case::SplitExtendSecond => Placement::Open(Extension::Leaf(b)),
-        Case::SplitFirst => Placement::Open(Extension::Nothing),
-        Case::SplitSecond => Placement::Open(Extension::Nothing),
-        Case::SplitBoth => Placement::Open(Extension::Nothing),
+    if of16(degrees, v) == 0 {
+        put_pair(sides, v, e, 0);
     }
 }
 
-// Vertex v is regular no more. The pieces of its chain keep their labels and sides: no other vertex is touched, no chain looked up.
-fn split_vertex(sides: &mut [u16], labels: &mut [u32], v: u16)
-    ensures { λ _. ⌜ marksIn (now (sides .exit)) (now (labels .exit)) 0
-        ≡ marksIn (setPair (now (sides .entry)) v 0 0) (set (now (labels .entry)) v 0) 0 ⌝ }
+// Neither end is regular or a leaf: the edge is a chain by itself, and no label changes.
+fn place_new(degrees: &mut [u16], sides: &mut [u16], a: u16, b: u16, e: u16)
+    ensures { λ _. ⌜ (now (degrees .exit) ≡ raiseBothIn (now (degrees .entry)) a b)
+        × (now (sides .exit) ≡ meetIn (now (degrees .entry)) (meetIn (now (degrees .entry)) (now (sides .entry)) a e) b e) ⌝ }
 {
-    put_pair(sides, v, 0, 0);
-    put32(labels, v as usize, 0);
+    meet_end(degrees, sides, a, e);
+    meet_end(degrees, sides, b, e);
+    raise_both(degrees, a, b);
 }
 
-// Vertex v before edge e comes to it: an isolated one becomes a leaf with e as its only edge, a regular one is split.
-fn open_end(degrees: &[u16], sides: &mut [u16], labels: &mut [u32], v: u16, e: u16)
-    ensures { λ _. ⌜ marksIn (now (sides .exit)) (now (labels .exit)) 0
-        ≡ openIn (now (degrees .entry)) (now (sides .entry)) (now (labels .entry)) v e ⌝ }
-{
-    let degree = of16(degrees, v);
-    match degree {
-        0 => put_pair(sides, v, e, 0),
-        2 => split_vertex(sides, labels, v),
-        _ => (),
-    }
-}
-
-// Both ends are opened, the first named first. The second is split in the tables that the first split left, so that two regular
-// vertices of one chain need no care.
-fn open_both(
+// x is a leaf, y isolated or a branch: x's chain goes on over the edge.
+fn place_extended(
     degrees: &mut [u16],
     sides: &mut [u16],
+    ends: &[u16],
     labels: &mut [u32],
     blocks: u16,
-    a: u16,
-    b: u16,
+    x: u16,
+    y: u16,
     e: u16,
 ) -> ChainChange
-    ensures { λ r. ⌜ placed (r .ring) (now (degrees .exit)) (now (sides .exit)) (now (labels .exit)) (r .blocks) (r .relabellings)
-        ≡ openBothIn (now (degrees .entry)) (now (sides .entry)) (now (labels .entry)) blocks a b e ⌝ }
+    ensures { λ r. ⌜ placed (now (degrees .exit)) (now (sides .exit)) (now (labels .exit)) (r .blocks) (r .relabellings)
+        ≡ extendedIn (now (degrees .entry)) (now (sides .entry)) (now (ends .entry)) (now (labels .entry)) blocks x y e ⌝ }
 {
-    open_end(degrees, sides, labels, a, e);
-    open_end(degrees, sides, labels, b, e);
-    raise_both(degrees, a, b);
-    ChainChange::done(blocks, 0)
+    meet_end(degrees, sides, y, e);
+    raise_both(degrees, x, y);
+    let k = extend_chain(degrees, sides, ends, labels, blocks, x, e);
+    ChainChange::new(k, 0)
 }
 
-// Both ends are opened, and then the chain of a leaf goes on over edge e, if one does. The other end may have split that very chain,
-// which e makes a loop: the leaf is labelled by what the split left, with the new degrees.
-fn place_open(
-    extension: Extension,
+// Both are leaves: their chains are merged, or their chain becomes a ring.
+fn place_merged(
     degrees: &mut [u16],
     sides: &mut [u16],
     ends: &[u16],
@@ -97,21 +64,57 @@ fn place_open(
     b: u16,
     e: u16,
 ) -> ChainChange
-    ensures { λ r. ⌜ placed (r .ring) (now (degrees .exit)) (now (sides .exit)) (now (labels .exit)) (r .blocks) (r .relabellings)
-        ≡ extensionIn extension (now (degrees .entry)) (now (sides .entry)) (now (ends .entry)) (now (labels .entry)) blocks a b e ⌝ }
+    ensures { λ r. ⌜ placed (now (degrees .exit)) (now (sides .exit)) (now (labels .exit)) (r .blocks) (r .relabellings)
+        ≡ mergedIn (now (degrees .entry)) (now (sides .entry)) (now (ends .entry)) (now (labels .entry)) blocks a b e ⌝ }
 {
-    let opened = open_both(degrees, sides, labels, blocks, a, b, e);
-    match extension {
-        Extension::Nothing => opened,
-        Extension::Leaf(x) => {
-            let k = extend_chain(degrees, sides, ends, labels, blocks, x, e);
-            ChainChange::done(k, 0)
-        }
-    }
+    let c = merge_chains(degrees, sides, ends, labels, blocks, a, b, e, e);
+    raise_both(degrees, a, b);
+    c
 }
 
-// Both chains are merged and the degrees raised. A ring leaves the degrees too.
-fn place_merge(
+// v is regular, y isolated or a branch: v's chain is split, and the edge is a new one.
+fn place_split(
+    degrees: &mut [u16],
+    sides: &mut [u16],
+    ends: &[u16],
+    labels: &mut [u32],
+    blocks: u16,
+    v: u16,
+    y: u16,
+    e: u16,
+) -> ChainChange
+    ensures { λ r. ⌜ placed (now (degrees .exit)) (now (sides .exit)) (now (labels .exit)) (r .blocks) (r .relabellings)
+        ≡ splitNewIn (now (degrees .entry)) (now (sides .entry)) (now (ends .entry)) (now (labels .entry)) blocks v y e ⌝ }
+{
+    let c = split_chain(degrees, sides, ends, labels, blocks, v, y, e);
+    meet_end(degrees, sides, y, e);
+    raise_both(degrees, v, y);
+    c
+}
+
+// v is regular, x a leaf: v's chain is split, and then x's goes on over the edge. If that is one chain, x is labelled by what the split
+// left, with the new degrees.
+fn place_split_extended(
+    degrees: &mut [u16],
+    sides: &mut [u16],
+    ends: &[u16],
+    labels: &mut [u32],
+    blocks: u16,
+    v: u16,
+    x: u16,
+    e: u16,
+) -> ChainChange
+    ensures { λ r. ⌜ placed (now (degrees .exit)) (now (sides .exit)) (now (labels .exit)) (r .blocks) (r .relabellings)
+        ≡ splitExtendedIn (now (degrees .entry)) (now (sides .entry)) (now (ends .entry)) (now (labels .entry)) blocks v x e ⌝ }
+{
+    let c = split_chain(degrees, sides, ends, labels, blocks, v, x, e);
+    raise_both(degrees, v, x);
+    let k = extend_chain(degrees, sides, ends, labels, c.blocks, x, e);
+    ChainChange::new(k, c.relabellings)
+}
+
+// Both are regular: a's chain is split, then b's, and the edge is a new one.
+fn place_split_both(
     degrees: &mut [u16],
     sides: &mut [u16],
     ends: &[u16],
@@ -120,20 +123,16 @@ fn place_merge(
     a: u16,
     b: u16,
     e: u16,
-    fuel: u16,
 ) -> ChainChange
-    ensures { λ r. ⌜ placed (r .ring) (now (degrees .exit)) (now (sides .exit)) (now (labels .exit)) (r .blocks) (r .relabellings)
-        ≡ placeMerge (now (degrees .entry)) (now (sides .entry)) (now (ends .entry)) (now (labels .entry)) blocks a b e fuel ⌝ }
+    ensures { λ r. ⌜ placed (now (degrees .exit)) (now (sides .exit)) (now (labels .exit)) (r .blocks) (r .relabellings)
+        ≡ splitBothNewIn (now (degrees .entry)) (now (sides .entry)) (now (ends .entry)) (now (labels .entry)) blocks a b e ⌝ }
 {
-    let m = merge_chains(degrees, sides, ends, labels, blocks, a, b, e, fuel);
-    if m.ring {
-        return m;
-    }
+    let c = split_both(degrees, sides, ends, labels, blocks, a, b, e);
     raise_both(degrees, a, b);
-    m
+    c
 }
 
-// By the case. e edges were landed before, which is fuel enough for every walk.
+// Document 01's cases, and document 02's ring among the merges.
 pub fn place_edge(
     case: Case,
     degrees: &mut [u16],
@@ -145,15 +144,28 @@ pub fn place_edge(
     b: u16,
     e: u16,
 ) -> ChainChange
-    ensures { λ r. ⌜ placed (r .ring) (now (degrees .exit)) (now (sides .exit)) (now (labels .exit)) (r .blocks) (r .relabellings)
-        ≡ placeIn (caseIn case) (now (degrees .entry)) (now (sides .entry)) (now (ends .entry)) (now (labels .entry))
-        blocks a b e e ⌝ }
+    ensures { λ r. ⌜ placed (now (degrees .exit)) (now (sides .exit)) (now (labels .exit)) (r .blocks) (r .relabellings)
+        ≡ placeIn (caseIn case) (now (degrees .entry)) (now (sides .entry)) (now (ends .entry)) (now (labels .entry)) blocks a b e ⌝ }
 {
-    let placement = placement_of(case, a, b);
-    match placement {
-        Placement::Merge => place_merge(degrees, sides, ends, labels, blocks, a, b, e, e),
-        Placement::Open(extension) => place_open(
-            extension,
+    match case {
+        Case::New => {
+            place_new(degrees, sides, a, b, e);
+            ChainChange::new(blocks, 0)
+        }
+        Case::ExtendFirst => place_extended(degrees, sides, ends, labels, blocks, a, b, e),
+        Case::ExtendSecond => place_extended(degrees, sides, ends, labels, blocks, b, a, e),
+        Case::Merge => place_merged(degrees, sides, ends, labels, blocks, a, b, e),
+        Case::SplitExtendFirst => place_split_extended(
+            degrees,
+            sides,
+            ends,
+            labels,
+            blocks,
+            b,
+            a,
+            e,
+        ),
+        Case::SplitExtendSecond => place_split_extended(
             degrees,
             sides,
             ends,
@@ -163,5 +175,8 @@ pub fn place_edge(
             b,
             e,
         ),
+        Case::SplitFirst => place_split(degrees, sides, ends, labels, blocks, a, b, e),
+        Case::SplitSecond => place_split(degrees, sides, ends, labels, blocks, b, a, e),
+        Case::SplitBoth => place_split_both(degrees, sides, ends, labels, blocks, a, b, e),
     }
 }

@@ -1,6 +1,6 @@
--- Two chains joined, a chain begun, and the ways out of a merge.
+-- Two chains joined, a chain begun, a ring closed, and the ways out of a merge.
 use mathlib.Core.Path.{_≡_}
-use mathlib.Core.Bool.{Bool, true, false}
+use mathlib.Core.Bool.{Bool, true}
 use mathlib.Core.List.{List}
 use Prim.Native.Nat.{ℕ, _+_, _*_}
 use borrow.Author.Tests.{eq-eqb, ne-eqb}
@@ -8,8 +8,8 @@ use lib.ListN.{getD}
 use Rattle.model.specs.Labels.{base}
 use Rattle.tables.specs.Steps.{farIn, more16, nextIn}
 use Rattle.tables.specs.Walks.{Met, lockstepIn}
-use Rattle.labels.specs.Labelling.{marksIn, countAhead, risesIn, labelVertexIn, relabelIn}
-use Rattle.labels.specs.Merging.{joinIn, beginIn, merged, keeperFor, keeperIn, mergeAt, mergeIn}
+use Rattle.labels.specs.Labelling.{marksIn, countAhead, risesIn, labelVertexIn, relabelIn, extendIn}
+use Rattle.labels.specs.Merging.{joinIn, beginIn, changed, closeIn, keeperFor, keeperIn, mergeAt, mergeIn}
 use Rattle.labels.specs.declared.merging.Keeper.{Keeper}
 use Rattle.labels.specs.declared.merging.Keeper.the-variants.{Neither, Chain}
 
@@ -23,11 +23,12 @@ unfolding joinIn countAhead
 join-law degrees s ends l s₁ l₁ s₂ l₂ s₃ l₃ x y e n dx dy ux uy old lx ly ly′ m₁ m₂ m₃ up a b f g h i j k o p =
     rw (← a .0, ← a .1, ← b .0, ← b .1, ← f, ← g, ← h, ← i, ← j, ← k, ← o, ← p)
 
-pub begin-law : (s l s₁ l₁ s₂ l₂ : List ℕ) (a da b db e k low m₁ m₂ : ℕ) → low ≡ base k
-    → marksIn s₁ l₁ m₁ ≡ labelVertexIn s l a low da e true → marksIn s₂ l₂ m₂ ≡ labelVertexIn s₁ l₁ b (low + 1) e db true
-    → marksIn s₂ l₂ 0 ≡ beginIn s l a da b db e k
+pub begin-law : (s l s₁ l₁ s₂ l₂ : List ℕ) (a before b after between k low m₁ m₂ : ℕ) → low ≡ base k
+    → marksIn s₁ l₁ m₁ ≡ labelVertexIn s l a low before between true
+    → marksIn s₂ l₂ m₂ ≡ labelVertexIn s₁ l₁ b (low + 1) between after true
+    → marksIn s₂ l₂ 0 ≡ beginIn s l a before b after between k
 unfolding beginIn
-begin-law s l s₁ l₁ s₂ l₂ a da b db e k low m₁ m₂ h i j = rw (← h, ← i, ← j)
+begin-law s l s₁ l₁ s₂ l₂ a before b after between k low m₁ m₂ h i j = rw (← h, ← i, ← j)
 
 -- which chain keeps its labels, the walks having met at m
 module _ (degrees : List ℕ) (a b : ℕ) (m : Met) where
@@ -50,10 +51,9 @@ module _ (degrees : List ℕ) (a b : ℕ) (m : Met) where
 
 module _ (degrees s ends l : List ℕ) (blocks a b e n da ua db ub : ℕ) (m : Met) (h : (da ≡ getD s (2 * a) 0) × (ua ≡ farIn ends da a))
     (i : (db ≡ getD s (2 * b) 0) × (ub ≡ farIn ends db b)) (is : m ≡ lockstepIn degrees s ends n da ua db ub) where
-  pub merge-ring : (ring : Bool) (blocks′ m′ : ℕ) → m .first ≡ b → (ring ≡ true) × ((blocks′ ≡ blocks) × (m′ ≡ 0))
-      → merged ring s l blocks′ m′ ≡ mergeIn degrees s ends l blocks a b e n
+  pub merge-closes : m .first ≡ b → closeIn degrees s ends l blocks a b e da ua ≡ mergeIn degrees s ends l blocks a b e n
   unfolding mergeIn mergeAt
-  merge-ring ring blocks′ m′ o z = rw (z .0, z .1 .0, z .1 .1, ← h .0, ← h .1, ← i .0, ← i .1, ← is, eq-eqb _ _ o)
+  merge-closes o = rw (← h .0, ← h .1, ← i .0, ← i .1, ← is, eq-eqb _ _ o)
 
   pub merge-kept : (keeper : Keeper) → (m .first ≡ b → ⊥) → keeper ≡ keeperFor degrees a b m
       → keeperIn keeper degrees s ends l blocks a b e n da db ≡ mergeIn degrees s ends l blocks a b e n
@@ -61,13 +61,24 @@ module _ (degrees s ends l : List ℕ) (blocks a b e n da ua db ub : ℕ) (m : M
   merge-kept keeper o k = rw (← h .0, ← h .1, ← i .0, ← i .1, ← is, ne-eqb _ _ o, ← k)
 
 -- what the code answers, by the chain that keeps its labels
-module _ (degrees s ends l s′ l′ : List ℕ) (blocks a b e n da db blocks′ m′ : ℕ) (ring : Bool) (keeper : Keeper) where
+module _ (degrees s ends l s′ l′ : List ℕ) (blocks a b e n da db blocks′ m′ : ℕ) (keeper : Keeper) where
   pub answer-joined : (x y m : ℕ) → keeper ≡ Chain x y → marksIn s′ l′ m ≡ joinIn degrees s ends l x y e n
-      → (ring ≡ false) × ((blocks′ ≡ blocks) × (m′ ≡ m))
-      → merged ring s′ l′ blocks′ m′ ≡ keeperIn keeper degrees s ends l blocks a b e n da db
-  answer-joined x y m o j z = rw (o, z .0, z .1 .0, z .1 .1, ← j)
+      → (blocks′ ≡ blocks) × (m′ ≡ m) → changed s′ l′ blocks′ m′ ≡ keeperIn keeper degrees s ends l blocks a b e n da db
+  answer-joined x y m o j z = rw (o, z .0, z .1, ← j)
 
   pub answer-begun : (k : ℕ) → keeper ≡ Neither → k ≡ more16 blocks → marksIn s′ l′ 0 ≡ beginIn s l a da b db e k
-      → (ring ≡ false) × ((blocks′ ≡ k) × (m′ ≡ 0))
-      → merged ring s′ l′ blocks′ m′ ≡ keeperIn keeper degrees s ends l blocks a b e n da db
-  answer-begun k o r j z = rw (o, z .0, z .1 .0, z .1 .1, ← r, ← j)
+      → (blocks′ ≡ k) × (m′ ≡ 0) → changed s′ l′ blocks′ m′ ≡ keeperIn keeper degrees s ends l blocks a b e n da db
+  answer-begun k o r j z = rw (o, z .0, z .1, ← r, ← j)
+
+-- a ring is closed
+module _ (degrees s ends l s′ l′ : List ℕ) (blocks a b e da ua blocks′ m′ : ℕ) where
+  pub closes-begun : (k : ℕ) → ua ≡ b → k ≡ more16 blocks → marksIn s′ l′ 0 ≡ beginIn s l a e b e da k
+      → (blocks′ ≡ k) × (m′ ≡ 0) → changed s′ l′ blocks′ m′ ≡ closeIn degrees s ends l blocks a b e da ua
+  unfolding closeIn
+  closes-begun k o r j z = rw (eq-eqb _ _ o, z .0, z .1, ← r, ← j)
+
+  pub closes-on : (s₁ l₁ : List ℕ) (k₁ k₂ : ℕ) → (ua ≡ b → ⊥) → marksIn s₁ l₁ k₁ ≡ extendIn degrees s ends l blocks a e
+      → marksIn s′ l′ k₂ ≡ extendIn degrees s₁ ends l₁ k₁ b e → (blocks′ ≡ k₂) × (m′ ≡ 0)
+      → changed s′ l′ blocks′ m′ ≡ closeIn degrees s ends l blocks a b e da ua
+  unfolding closeIn
+  closes-on s₁ l₁ k₁ k₂ o g h z = rw (ne-eqb _ _ o, z .0, z .1, ← g, ← h)

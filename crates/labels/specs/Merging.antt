@@ -1,6 +1,6 @@
--- Two chains become one, as functions of lists that mirror the code.
+-- Two chains become one, or one a ring, as functions of lists that mirror the code.
 use Prim.Native.Nat.{ℕ, _+_, _*_}
-use mathlib.Core.Bool.{Bool, true, false}
+use mathlib.Core.Bool.{true}
 use mathlib.Core.List.{List}
 use lib.ListN.{getD}
 use lib.Dec.{eqb}
@@ -8,7 +8,7 @@ use Rattle.model.specs.Basics.{if_then_else_}
 use Rattle.model.specs.Labels.{base}
 use Rattle.tables.specs.Steps.{farIn, more16, nextIn}
 use Rattle.tables.specs.Walks.{Met, lockstepIn}
-use Rattle.labels.specs.Labelling.{MarksIn, marksIn, countAhead, risesIn, labelVertexIn, relabelIn}
+use Rattle.labels.specs.Labelling.{MarksIn, marksIn, countAhead, risesIn, labelVertexIn, relabelIn, extendIn}
 use Rattle.labels.specs.declared.merging.Keeper.{Keeper}
 use Rattle.labels.specs.declared.merging.Keeper.the-variants.{Neither, Chain}
 
@@ -26,24 +26,32 @@ joinIn degrees sides ends labels x y e n =
     countAhead (h .count) (countAhead (g .count)
     (relabelIn degrees ends up n (g .sides) (g .labels) dy (farIn ends dy y) (nextIn up ly)))
 
--- two chains without regular vertices become one with two, a and b, in block k
+-- the neighbours a and b become the first regular vertices of their chain, in block k
 unfoldable pub beginIn : List ℕ → List ℕ → ℕ → ℕ → ℕ → ℕ → ℕ → ℕ → MarksIn
-beginIn sides labels a da b db e k =
-    let h = labelVertexIn sides labels a (base k) da e true in
-    let g = labelVertexIn (h .sides) (h .labels) b (base k + 1) e db true in
+beginIn sides labels a before b after between k =
+    let h = labelVertexIn sides labels a (base k) before between true in
+    let g = labelVertexIn (h .sides) (h .labels) b (base k + 1) between after true in
     marksIn (g .sides) (g .labels) 0
 
--- what becomes of the chains: a ring is refused
-pub record Merged : Type 0 where
-  pub ring : Bool
+-- what becomes of the chains
+pub record Changed : Type 0 where
   pub sides : List ℕ
   pub labels : List ℕ
   pub blocks : ℕ
   pub relabellings : ℕ
 
-abbrev pub merged : Bool → List ℕ → List ℕ → ℕ → ℕ → Merged
-merged ring sides labels blocks relabellings =
-    record { ring = ring; sides = sides; labels = labels; blocks = blocks; relabellings = relabellings }
+abbrev pub changed : List ℕ → List ℕ → ℕ → ℕ → Changed
+changed sides labels blocks relabellings =
+    record { sides = sides; labels = labels; blocks = blocks; relabellings = relabellings }
+
+-- edge e closes a ring between the leaves a and b of one chain; a's one edge is da, with the far end ua
+unfoldable pub closeIn : List ℕ → List ℕ → List ℕ → List ℕ → ℕ → ℕ → ℕ → ℕ → ℕ → ℕ → Changed
+closeIn degrees sides ends labels blocks a b e da ua =
+    let g = beginIn sides labels a e b e da (more16 blocks) in
+    let h = extendIn degrees sides ends labels blocks a e in
+    let j = extendIn degrees (h .sides) ends (h .labels) (h .count) b e in
+    if eqb ua b then changed (g .sides) (g .labels) (more16 blocks) 0
+    else changed (j .sides) (j .labels) (j .count) 0
 
 -- which chain keeps its labels, a's or b's, by where the walks in lockstep met
 unfoldable pub keeperFor : List ℕ → ℕ → ℕ → Met → Keeper
@@ -54,21 +62,21 @@ keeperFor degrees a b m =
     else Chain a b
 
 -- the chains merged, by which of them keeps its labels
-abbrev pub keeperIn : Keeper → List ℕ → List ℕ → List ℕ → List ℕ → ℕ → ℕ → ℕ → ℕ → ℕ → ℕ → ℕ → Merged
+abbrev pub keeperIn : Keeper → List ℕ → List ℕ → List ℕ → List ℕ → ℕ → ℕ → ℕ → ℕ → ℕ → ℕ → ℕ → Changed
 keeperIn Neither degrees sides ends labels blocks a b e n da db =
     let g = beginIn sides labels a da b db e (more16 blocks) in
-    merged false (g .sides) (g .labels) (more16 blocks) 0
+    changed (g .sides) (g .labels) (more16 blocks) 0
 keeperIn (Chain x y) degrees sides ends labels blocks a b e n da db =
     let j = joinIn degrees sides ends labels x y e n in
-    merged false (j .sides) (j .labels) blocks (j .count)
+    changed (j .sides) (j .labels) blocks (j .count)
 
-unfoldable pub mergeAt : List ℕ → List ℕ → List ℕ → List ℕ → ℕ → ℕ → ℕ → ℕ → ℕ → ℕ → ℕ → Met → Merged
+unfoldable pub mergeAt : List ℕ → List ℕ → List ℕ → List ℕ → ℕ → ℕ → ℕ → ℕ → ℕ → ℕ → ℕ → Met → Changed
 mergeAt degrees sides ends labels blocks a b e n da db m =
-    if eqb (m .first) b then merged true sides labels blocks 0
+    if eqb (m .first) b then closeIn degrees sides ends labels blocks a b e da (farIn ends da a)
     else keeperIn (keeperFor degrees a b m) degrees sides ends labels blocks a b e n da db
 
 -- the chains of the leaves a and b are merged over edge e
-unfoldable pub mergeIn : List ℕ → List ℕ → List ℕ → List ℕ → ℕ → ℕ → ℕ → ℕ → ℕ → Merged
+unfoldable pub mergeIn : List ℕ → List ℕ → List ℕ → List ℕ → ℕ → ℕ → ℕ → ℕ → ℕ → Changed
 mergeIn degrees sides ends labels blocks a b e n =
     let da = getD sides (2 * a) 0 in
     let db = getD sides (2 * b) 0 in

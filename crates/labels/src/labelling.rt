@@ -3,8 +3,8 @@
 // - the greatest key smaller than a label: `label_vertex`. It keeps no dictionary of lowest labels; a find looks for the label itself.
 // - a stored weight that a split makes false: `label_vertex`. It stores none; a reach adds up lengths.
 // - a lone regular vertex always extended upwards: `rises`.
-// - the second split in the chain as it was: `open_both` of insertion.
-// - the leaf's own chain split: `place_open` of insertion.
+// - the second split in the chain as it was: `split_both`.
+// - the leaf's own chain split: `place_split_extended` of insertion.
 use tables::access::at32;
 use tables::access::of16;
 use tables::access::of32;

@@ -1,5 +1,6 @@
-// The chains of two leaves become one (document 01: merging).
+// The chains of two leaves become one (document 01: merging), or, if that is one chain, a ring (document 02, S-2).
 use crate::labelling::base;
+use crate::labelling::extend_chain;
 use crate::labelling::label_vertex;
 use crate::labelling::relabel_chain;
 use crate::labelling::rises;
@@ -8,38 +9,25 @@ use tables::access::of32;
 use tables::access::one_more16;
 use tables::steps::next_label;
 use tables::walks::Meeting;
+use tables::walks::Walker;
 use tables::walks::leave_leaf;
 use tables::walks::walk_lockstep;
 ghost use mathlib.Core.Path.{_≡_};
-ghost use mathlib.Core.Bool.{true, false};
 ghost use Rattle.tables.specs.Walks.{met};
 ghost use Rattle.labels.specs.Labelling.{marksIn};
-ghost use Rattle.labels.specs.Merging.{joinIn, beginIn, merged, keeperFor, mergeIn};
+ghost use Rattle.labels.specs.Merging.{joinIn, beginIn, changed, closeIn, keeperFor, mergeIn};
 
-// What an edge makes of the chains: a ring, which is refused; or the number of blocks (document 01: births) then, and of the vertices
-// relabelled (re-hung).
+// What an edge makes of the chains: the number of blocks (document 01: births) then, and of the vertices relabelled (re-hung).
 pub struct ChainChange {
-    pub ring: bool,
     pub blocks: u16,
     pub relabellings: u32,
 }
 
 impl ChainChange {
-    pub fn ring(blocks: u16) -> ChainChange
-        ensures { λ r. ⌜ (r .ring ≡ true) × ((r .blocks ≡ blocks) × (r .relabellings ≡ 0)) ⌝ }
+    pub fn new(blocks: u16, relabellings: u32) -> ChainChange
+        ensures { λ r. ⌜ (r .blocks ≡ blocks) × (r .relabellings ≡ relabellings) ⌝ }
     {
         ChainChange {
-            ring: true,
-            blocks,
-            relabellings: 0,
-        }
-    }
-
-    pub fn done(blocks: u16, relabellings: u32) -> ChainChange
-        ensures { λ r. ⌜ (r .ring ≡ false) × ((r .blocks ≡ blocks) × (r .relabellings ≡ relabellings)) ⌝ }
-    {
-        ChainChange {
-            ring: false,
             blocks,
             relabellings,
         }
@@ -73,23 +61,50 @@ fn join_chains(
     n + (m + rest)
 }
 
-// Two chains without regular vertices become one with two, a and b, in block k. Neither is relabelled, since a leaf has no label.
+// The neighbours a and b become the first regular vertices of their chain, in block k. Neither is relabelled, since a leaf has no label.
 fn begin_chain(
     sides: &mut [u16],
     labels: &mut [u32],
     a: u16,
-    da: u16,
+    before: u16,
     b: u16,
-    db: u16,
-    e: u16,
+    after: u16,
+    between: u16,
     k: u16,
 )
     ensures { λ _. ⌜ marksIn (now (sides .exit)) (now (labels .exit)) 0
-        ≡ beginIn (now (sides .entry)) (now (labels .entry)) a da b db e k ⌝ }
+        ≡ beginIn (now (sides .entry)) (now (labels .entry)) a before b after between k ⌝ }
 {
     let low = base(k);
-    label_vertex(sides, labels, a, low, da, e, true);
-    label_vertex(sides, labels, b, low + 1, e, db, true);
+    label_vertex(sides, labels, a, low, before, between, true);
+    label_vertex(sides, labels, b, low + 1, between, after, true);
+}
+
+// Edge e closes a ring: a and b are the leaves of one chain, and `first` has left a. Each end gets the next label beyond its neighbour;
+// or, without regular vertices, it is a birth. e is then the low edge of the lowest label and the high edge of the highest.
+fn close_ring(
+    degrees: &[u16],
+    sides: &mut [u16],
+    ends: &[u16],
+    labels: &mut [u32],
+    blocks: u16,
+    a: u16,
+    b: u16,
+    e: u16,
+    first: Walker,
+) -> ChainChange
+    ensures { λ r. ⌜ changed (now (sides .exit)) (now (labels .exit)) (r .blocks) (r .relabellings)
+        ≡ closeIn (now (degrees .entry)) (now (sides .entry)) (now (ends .entry)) (now (labels .entry)) blocks a b e
+        (first .edge) (first .at) ⌝ }
+{
+    if first.at == b {
+        let k = one_more16(blocks);
+        begin_chain(sides, labels, a, e, b, e, first.edge, k);
+        return ChainChange::new(k, 0);
+    }
+    let k = extend_chain(degrees, sides, ends, labels, blocks, a, e);
+    let m = extend_chain(degrees, sides, ends, labels, k, b, e);
+    ChainChange::new(m, 0)
 }
 
 // The leaf whose chain keeps its labels, then the other; or neither, where no chain has a regular vertex.
@@ -127,25 +142,25 @@ pub fn merge_chains(
     e: u16,
     fuel: u16,
 ) -> ChainChange
-    ensures { λ r. ⌜ merged (r .ring) (now (sides .exit)) (now (labels .exit)) (r .blocks) (r .relabellings)
+    ensures { λ r. ⌜ changed (now (sides .exit)) (now (labels .exit)) (r .blocks) (r .relabellings)
         ≡ mergeIn (now (degrees .entry)) (now (sides .entry)) (now (ends .entry)) (now (labels .entry)) blocks a b e fuel ⌝ }
 {
     let first = leave_leaf(sides, ends, a);
     let second = leave_leaf(sides, ends, b);
     let met = walk_lockstep(degrees, sides, ends, first, second, fuel);
     if met.first == b {
-        return ChainChange::ring(blocks);
+        return close_ring(degrees, sides, ends, labels, blocks, a, b, e, first);
     }
     let keeper = keeper_of(degrees, met, a, b);
     match keeper {
         Keeper::Neither => {
             let k = one_more16(blocks);
             begin_chain(sides, labels, a, first.edge, b, second.edge, e, k);
-            ChainChange::done(k, 0)
+            ChainChange::new(k, 0)
         }
         Keeper::Chain(x, y) => {
             let n = join_chains(degrees, sides, ends, labels, x, y, e, fuel);
-            ChainChange::done(blocks, n)
+            ChainChange::new(blocks, n)
         }
     }
 }

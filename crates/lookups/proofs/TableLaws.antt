@@ -1,26 +1,28 @@
 -- The ways out of the work of each query on the tables.
-use mathlib.Core.Path.{_≡_, sym, _∙_}
+use mathlib.Core.Path.{_≡_, ap, _∙_}
 use Prim.Native.Nat.{ℕ, _+_, _*_, _≤_, _<_}
 use native.Mathlib.Omega.{arith}
 use mathlib.Core.Option.{none, some}
 use mathlib.Core.List.{List}
-use lib.ListN.{length, getD}
+use lib.ListN.{length, getD, take, length-take}
+use lib.Seq.{sets}
 use borrow.Author.Tests.{eq-eqb, ne-eqb, lt-ltb, le-ltb}
-use Rattle.model.specs.Basics.{upTo}
 use Rattle.model.specs.Queries.{concat, found, reached, listed, refuses}
 use Rattle.model.specs.Tables.{Tables, Counts}
 use Rattle.tables.specs.Steps.{farIn, sum32}
-use Rattle.queries.specs.Chains.{walkEnd, walkIn, namesIn, rowsIn, sheetIn, firstAt, nameIn}
-use Rattle.queries.specs.Finding.{findIn, lengthToIn, reachIn}
-use Rattle.queries.proofs.SheetLaws.{rows-count, rows-fives}
+use Rattle.queries.specs.Chains.{WalkEnd, walkEnd, walkIn, namesIn, rowsIn, sheetIn, firstAt, nameIn}
+use Rattle.queries.specs.Finding.{endToIn, findIn, lengthToIn, reachIn, wayIn}
+use Rattle.queries.proofs.SheetLaws.{rows-fives}
 use Rattle.text.specs.Pages.{page, write}
 use Rattle.text.proofs.PageLaws.{write-front}
 use Rattle.lookups.specs.Answering.{sheeted, sheetedIn}
 
-pub length-law : (ds ss es ls : List ℕ) (n d v w at k l own r : ℕ) → w ≡ farIn es d v → walkEnd at k l ≡ walkIn ds ss es ls n d w
-    → own ≡ getD ls d 0 → r ≡ sum32 own l → r ≡ lengthToIn ds ss es ls n d v
-unfolding lengthToIn
-length-law ds ss es ls n d v w at k l own r a b c e = rw (← a, ← b, ← c) e
+pub way-law : (ds ss es ls : List ℕ) (n d v w at k l x own r : ℕ) → w ≡ farIn es d v → walkEnd at k l x ≡ walkIn ds ss es ls v n d w
+    → own ≡ getD ls d 0 → r ≡ sum32 own l → (at ≡ endToIn ds ss es ls n d v) × (r ≡ lengthToIn ds ss es ls n d v)
+unfolding endToIn lengthToIn wayIn
+way-law ds ss es ls n d v w at k l x own r a b c e =
+    let f : walkEnd at k l x ≡ walkIn ds ss es ls v n d (farIn es d v) = b ∙ ap (walkIn ds ss es ls v n d) a in
+    (ap (λ (y : WalkEnd). y .at) f, rw (← f, ← c) e)
 
 module _ (t : Tables) (c : Counts) where
   -- ---- find
@@ -48,27 +50,31 @@ module _ (t : Tables) (c : Counts) where
   unfolding reachIn
   reach-singular v h n = rw (lt-ltb v (c .vertices) h, ne-eqb _ _ n)
 
-  pub reach-regular : (v a b low high : ℕ) → v < c .vertices → getD (t .degrees) v 0 ≡ 2 → a ≡ getD (t .sides) (2 * v) 0
-      → low ≡ lengthToIn (t .degrees) (t .sides) (t .ends) (t .lengths) (c .edges) a v → b ≡ getD (t .sides) (2 * v + 1) 0
-      → high ≡ lengthToIn (t .degrees) (t .sides) (t .ends) (t .lengths) (c .edges) b v → reached low high ≡ reachIn t c v
-  unfolding reachIn
-  reach-regular v a b low high h two p e q f = rw (lt-ltb v (c .vertices) h, eq-eqb _ _ two, ← p, ← q, e, f)
+  module _ (v a end low : ℕ) (h : v < c .vertices) (two : getD (t .degrees) v 0 ≡ 2) (p : a ≡ getD (t .sides) (2 * v) 0)
+      (w : (end ≡ endToIn (t .degrees) (t .sides) (t .ends) (t .lengths) (c .edges) a v)
+      × (low ≡ lengthToIn (t .degrees) (t .sides) (t .ends) (t .lengths) (c .edges) a v)) where
+    pub reach-round : getD (t .degrees) end 0 ≡ 2 → reached 0 low ≡ reachIn t c v
+    unfolding reachIn
+    reach-round i = rw (lt-ltb v (c .vertices) h, eq-eqb _ _ two, ← p, ← w .0, eq-eqb _ _ i, w .1)
+
+    pub reach-both : (b high : ℕ) → (getD (t .degrees) end 0 ≡ 2 → ⊥) → b ≡ getD (t .sides) (2 * v + 1) 0
+        → high ≡ lengthToIn (t .degrees) (t .sides) (t .ends) (t .lengths) (c .edges) b v → reached low high ≡ reachIn t c v
+    unfolding reachIn
+    reach-both b high i q f = rw (lt-ltb v (c .vertices) h, eq-eqb _ _ two, ← p, ← w .0, ne-eqb _ _ i, ← q, w .1, f)
 
   -- ---- sheet
 
-  module _ (xs : List ℕ) (k : ℕ) (count : k ≡ length (namesIn (t .degrees) (t .sides) (t .ends) (c .edges) (upTo (c .edges)))) where
-    rows : length (sheetIn t c) ≡ k
-    unfolding sheetIn
-    rows = rows-count (t .degrees) (t .sides) (t .ends) (t .lengths) (c .edges) (upTo (c .edges)) ∙ sym count
-
-    pub sheet-short : length xs < 5 * k → sheeted xs (refuses 9) ≡ sheetedIn t c xs
+  module _ (marks table xs : List ℕ) (k : ℕ) (count : k ≡ length (namesIn (t .degrees) (t .sides) (t .ends) (c .edges) marks)) where
+    pub sheet-short : length xs < 5 * k → sheeted xs (refuses 9) ≡ sheetedIn t c marks table xs
     unfolding sheetedIn
-    sheet-short h = rw (rows, lt-ltb (length xs) (5 * k) h)
+    sheet-short h = rw (← count, lt-ltb (length xs) (5 * k) h)
 
-    pub sheet-whole : (ys : List ℕ) (at : ℕ) → 5 * k ≤ length xs
-        → page ys at ≡ write (concat (rowsIn (t .degrees) (t .sides) (t .ends) (t .lengths) (c .edges) (upTo (c .edges)))) (page xs 0)
-        → sheeted ys (listed k) ≡ sheetedIn t c xs
+    pub sheet-whole : (names ys : List ℕ) (at : ℕ) → 5 * k ≤ length xs
+        → names ≡ sets table 0 (namesIn (t .degrees) (t .sides) (t .ends) (c .edges) marks)
+        → page ys at ≡ write (concat (rowsIn (t .degrees) (t .sides) (t .ends) (t .lengths) (c .edges) (take k names))) (page xs 0)
+        → sheeted ys (listed k) ≡ sheetedIn t c marks table xs
     unfolding sheetedIn sheetIn
-    sheet-whole ys at h e =
-        let fives = rows-fives (t .degrees) (t .sides) (t .ends) (t .lengths) (c .edges) (upTo (c .edges)) in
-        rw (rows, le-ltb (length xs) (5 * k) h, write-front _ xs ys at (omega (arith, fives, count)) e)
+    sheet-whole names ys at h n e =
+        let fives = rows-fives (t .degrees) (t .sides) (t .ends) (t .lengths) (c .edges) (take k names) in
+        let few : length (take k names) ≤ k = rw length-take (omega arith) in
+        rw (← n, ← count, le-ltb (length xs) (5 * k) h, write-front _ xs ys at (omega (arith, fives, few)) e)

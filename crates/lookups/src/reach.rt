@@ -1,4 +1,5 @@
-// Reach: a regular vertex (document 01: coupling) gives the lengths to the two ends of its chain (run); 5, then 8.
+// Reach: a regular vertex (document 01: coupling) gives the lengths to the two ends of its chain (run), in a ring 0 and its length; 5,
+// then 8.
 use admission::gate::Gate;
 use admission::gate::pass_gate;
 use counters::counts::Counts;
@@ -16,7 +17,7 @@ ghost use Prim.Native.Nat.{ℕ};
 ghost use Rattle.model.specs.Calls.{reaches, step};
 ghost use Rattle.counters.specs.Answers.{countsIn};
 ghost use Rattle.tables.specs.Steps.{tables};
-ghost use Rattle.queries.specs.Finding.{lengthToIn, reachIn};
+ghost use Rattle.queries.specs.Finding.{endToIn, lengthToIn, reachIn};
 ghost use Rattle.admission.specs.Lent.{lent, outcome};
 ghost use Rattle.lookups.specs.Meaning.{reachedReply};
 
@@ -26,8 +27,14 @@ pub enum Reached {
     Refused(Refusal),
 }
 
-// From vertex v along its edge to the chain's end.
-fn length_to(
+// Where a way ends, and its length.
+struct Way {
+    at: u16,
+    length: u32,
+}
+
+// From vertex v along its edge to the chain's end, or round a ring to v again.
+fn go_along(
     degrees: &[u16],
     sides: &[u16],
     ends: &[u16],
@@ -35,8 +42,9 @@ fn length_to(
     edge: u16,
     v: u16,
     fuel: u16,
-) -> u32
-    ensures { λ r. ⌜ r ≡ lengthToIn (now (degrees .entry)) (now (sides .entry)) (now (ends .entry)) (now (lengths .entry)) fuel edge v ⌝ }
+) -> Way
+    ensures { λ r. ⌜ (r .at ≡ endToIn (now (degrees .entry)) (now (sides .entry)) (now (ends .entry)) (now (lengths .entry)) fuel edge v)
+        × (r .length ≡ lengthToIn (now (degrees .entry)) (now (sides .entry)) (now (ends .entry)) (now (lengths .entry)) fuel edge v) ⌝ }
 {
     let onwards = walk_chain(
         degrees,
@@ -45,11 +53,16 @@ fn length_to(
         lengths,
         edge,
         far_end(ends, edge, v),
+        v,
         fuel,
     );
-    add32(of32(lengths, edge), onwards.length)
+    Way {
+        at: onwards.at,
+        length: add32(of32(lengths, edge), onwards.length),
+    }
 }
 
+// In a ring the way along the low side comes back to the vertex.
 pub fn reach_in(
     degrees: &[u16],
     sides: &[u16],
@@ -71,9 +84,12 @@ pub fn reach_in(
     }
     let i = 2 * (v as usize);
     let edges = counts.edges;
-    let low = length_to(degrees, sides, ends, lengths, at16(sides, i), v, edges);
-    let high = length_to(degrees, sides, ends, lengths, at16(sides, i + 1), v, edges);
-    Reached::Lengths(low, high)
+    let low = go_along(degrees, sides, ends, lengths, at16(sides, i), v, edges);
+    if of16(degrees, low.at) == 2 {
+        return Reached::Lengths(0, low.length);
+    }
+    let high = go_along(degrees, sides, ends, lengths, at16(sides, i + 1), v, edges);
+    Reached::Lengths(low.length, high.length)
 }
 
 pub fn reach(

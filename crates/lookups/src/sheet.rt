@@ -3,11 +3,13 @@ use admission::gate::Gate;
 use admission::gate::pass_gate;
 use counters::counts::Counts;
 use counters::refusals::Refusal;
-use queries::rows::count_rows;
+use queries::names::collect_names;
 use queries::rows::put_rows;
+use tables::whole::clear16;
 ghost use mathlib.Core.Path.{_≡_};
 ghost use mathlib.Core.List.{List};
 ghost use Prim.Native.Nat.{ℕ};
+ghost use lib.ListN.{length, replicate};
 ghost use Rattle.model.specs.Calls.{sheets, step};
 ghost use Rattle.counters.specs.Answers.{countsIn};
 ghost use Rattle.tables.specs.Steps.{tables};
@@ -21,27 +23,52 @@ pub enum Listed {
     Refused(Refusal),
 }
 
-// The rows are counted first: nothing is written to a slice that is too short.
+// The names are collected first: nothing is written to a slice that is too short.
 fn sheet_in(
     degrees: &[u16],
     sides: &[u16],
     ends: &[u16],
     lengths: &[u32],
     counts: Counts,
+    marks: &mut [u16],
+    names: &mut [u16],
     out: &mut [u32],
 ) -> Listed
     ensures { λ r. ⌜ ((labels : List ℕ) → sheeted
         (now (out .exit)) (listedReply r)
         ≡ sheetedIn (tables (now (degrees .entry)) (now (sides .entry)) (now (ends .entry)) (now (lengths .entry)) labels)
-        (countsIn counts) (now (out .entry))) ⌝ }
+        (countsIn counts) (now (marks .entry)) (now (names .entry)) (now (out .entry))) ⌝ }
 {
     let edges = counts.edges;
-    let count = count_rows(degrees, sides, ends, edges);
+    let count = collect_names(degrees, sides, ends, marks, names, edges);
     if out.len() < 5 * (count as usize) {
         return Listed::Refused(Refusal::ShortSlice);
     }
-    put_rows(out, degrees, sides, ends, lengths, edges);
+    put_rows(out, degrees, sides, ends, lengths, edges, names, count);
     Listed::Chains(count)
+}
+
+// The same; marks and names end all zero.
+fn sheet_cleared(
+    degrees: &[u16],
+    sides: &[u16],
+    ends: &[u16],
+    lengths: &[u32],
+    counts: Counts,
+    marks: &mut [u16],
+    names: &mut [u16],
+    out: &mut [u32],
+) -> Listed
+    ensures { λ r. ⌜ ((labels : List ℕ) → sheeted
+        (now (out .exit)) (listedReply r)
+        ≡ sheetedIn (tables (now (degrees .entry)) (now (sides .entry)) (now (ends .entry)) (now (lengths .entry)) labels)
+        (countsIn counts) (now (marks .entry)) (now (names .entry)) (now (out .entry)))
+        × ((now (marks .exit) ≡ replicate (length (now (marks .entry))) 0) × (now (names .exit) ≡ replicate (length (now (names .entry))) 0)) ⌝ }
+{
+    let listed = sheet_in(degrees, sides, ends, lengths, counts, marks, names, out);
+    clear16(marks);
+    clear16(names);
+    listed
 }
 
 pub fn sheet(
@@ -82,7 +109,7 @@ pub fn sheet(
         slabels,
     );
     match passed {
-        Gate::Open => sheet_in(degrees, sides, ends, lengths, counts, out),
+        Gate::Open => sheet_cleared(degrees, sides, ends, lengths, counts, sdegrees, ssides, out),
         Gate::Refused(refusal) => Listed::Refused(refusal),
     }
 }

@@ -1,23 +1,24 @@
 -- A call whole: a list that stops, and the answer of a query on the tables that a list leaves.
 use mathlib.Core.Path.{_≡_, sym, ap, _∙_}
-use Prim.Native.Nat.{ℕ}
+use Prim.Native.Nat.{ℕ, _≤_}
 use mathlib.Core.List.{List}
-use lib.ListN.{length, take}
+use lib.ListN.{length, replicate, take}
 use lib.IntN.{ℤ, pos, negℤ}
-use Rattle.model.specs.Basics.{upTo, maxVertices}
+use Rattle.model.specs.Basics.{maxEdges, maxVertices}
 use Rattle.model.specs.Register.{Register}
 use Rattle.model.specs.Format.{Stop, whole, stopped, growList}
 use Rattle.model.specs.FromC.{Returned, fromC, returnsNumbers, returnsRefusal, returnsReply}
 use Rattle.model.specs.Queries.{Reply, listed, find, reach, measure, sheet, sheetNumbers, concat}
 use Rattle.model.specs.Calls.{Effect, answer, answers, effect}
-use Rattle.model.specs.Tables.{Tables, Counts, cleared, noCounts, storedOf}
-use Rattle.model.specs.Notions.{HeldOf}
+use Rattle.model.specs.Tables.{Tables, Counts, cleared, noCounts, storedOf, countsOf, tablesOf}
+use Rattle.model.specs.Notions.{HeldOf, Reachable}
 use Rattle.model.proofs.Registers.OnlyHeld.{held-counts, held-tables}
 use Rattle.model.proofs.Series.Landings.{reachable-grown}
 use Rattle.tables.specs.Steps.{stored, tables}
-use Rattle.queries.specs.Chains.{rowsIn, sheetIn}
+use Rattle.queries.specs.Chains.{namesIn, rowsIn}
 use Rattle.queries.specs.Finding.{findIn, reachIn}
-use Rattle.agreement.proofs.Sheeting.{sheet-agrees}
+use Rattle.agreement.proofs.Registers.{room}
+use Rattle.agreement.proofs.Sheeting.{rows-are}
 use Rattle.agreement.proofs.Finding.{reach-agrees}
 use Rattle.register.specs.Records.{ReadingIn, readingIn, landListIn}
 use Rattle.register.proofs.ListAgrees.{shownRead}
@@ -56,12 +57,25 @@ module _ (bs : List ℕ) (t : Tables) (c : Counts) (s : Stop) (e : readingIn t c
 
 -- ---- the four queries
 
+-- the rows of a register's tables, over marks of their own
+abbrev rowsOf : Tables → Counts → List (List ℕ)
+rowsOf t c = rowsIn (t .degrees) (t .sides) (t .ends) (t .lengths) (c .edges) (namesIn (t .degrees) (t .sides) (t .ends) (c .edges) (replicate maxEdges 0))
+
+rows-sheet : (r : Register) → Reachable r → rowsOf (tablesOf r) (countsOf r) ≡ sheet r
+unfolding countsOf
+rows-sheet r g = rows-are r g
+
+edges-few : (r : Register) → Reachable r → (countsOf r) .edges ≤ maxEdges
+unfolding countsOf
+edges-few r g = room r g
+
 module _ (d s e l lb : List ℕ) (c : Counts) (r : Register) (h : HeldOf (stored (tables d s e l lb) c) r) (slice : List ℕ) (z : Returned) where
-  pub sheet-query : z ≡ returnsNumbers slice (concat (rowsIn d s e l (c .edges) (upTo (c .edges))))
+  pub sheet-query : (c .edges ≤ maxEdges → z ≡ returnsNumbers slice (concat (rowsOf (tables d s e l lb) c)))
       → z ≡ returnsReply r slice (listed (length (sheet r)))
-  unfolding returnsReply sheetNumbers sheetIn
+  unfolding returnsReply sheetNumbers
   sheet-query p =
-      p ∙ ap (λ (rows : List (List ℕ)). returnsNumbers slice (concat rows)) (rw (held-tables h, held-counts h) at (sheet-agrees r (h .reachable)))
+      let few : c .edges ≤ maxEdges = rw (held-counts h) at (edges-few r (h .reachable)) in
+      p few ∙ ap (λ (rows : List (List ℕ)). returnsNumbers slice (concat rows)) (rw (held-tables h, held-counts h) at (rows-sheet r (h .reachable)))
 
   pub find-query : (label : ℕ) (a : Reply) → a ≡ findIn (tables d s e l (take maxVertices lb)) c label → z ≡ returnsReply r slice a
       → z ≡ returnsReply r slice (find r label)

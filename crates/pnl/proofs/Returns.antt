@@ -11,7 +11,7 @@ use mir.Facts.{toZ-pos, toZ-ofZ}
 use Rattle.model.specs.FromC.{Returned}
 use Rattle.counters.specs.Refusals.{numberOf}
 use Rattle.counters.specs.declared.refusals.Refusal.{Refusal}
-use Rattle.counters.specs.declared.refusals.Refusal.the-variants.{NoMark, Version, Cut, UnknownKind, NotLanded, SameVertex, Length, NotRegular, ShortSlice, NotGrown, TooManyVertices, TooManyEdges, Ring, WrongSize}
+use Rattle.counters.specs.declared.refusals.Refusal.the-variants.{NoMark, Version, Cut, UnknownKind, NotLanded, SameVertex, Length, NotRegular, ShortSlice, NotGrown, TooManyVertices, TooManyEdges, WrongSize}
 use Rattle.pnl.specs.FromC.{returned}
 
 number-few : (x : Refusal) → numberOf x ≤ 25
@@ -27,7 +27,6 @@ number-few ShortSlice = omega arith
 number-few NotGrown = omega arith
 number-few TooManyVertices = omega arith
 number-few TooManyEdges = omega arith
-number-few Ring = omega arith
 number-few WrongSize = omega arith
 
 negated : (n : ℕ) → n ≤ 25 → toZ w32 0 -ℤ toZ w32 n ≡ negℤ (pos n)

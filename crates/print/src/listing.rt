@@ -5,10 +5,10 @@ use counters::sizes::EDGES;
 use counters::sizes::ENDS;
 use counters::sizes::SIDES;
 use counters::sizes::VERTICES;
-use queries::names::is_name;
-use queries::rows::count_rows;
+use queries::names::collect_names;
 use queries::rows::row_at;
 use register::records::grow_list;
+use tables::access::of16;
 use text::lines::put_line2;
 use text::lines::put_line4;
 use text::lines::put_line5;
@@ -16,11 +16,11 @@ use text::writing::put_text;
 ghost use mathlib.Core.Path.{_≡_};
 ghost use mathlib.Core.List.{[], _∷_};
 ghost use Prim.Native.Nat.{_+_, _*_, _≤_};
-ghost use lib.ListN.{length, take};
-ghost use Rattle.model.specs.Basics.{upTo};
+ghost use lib.ListN.{length, replicate, take};
+ghost use Rattle.model.specs.Basics.{maxEdges};
 ghost use Rattle.model.specs.Printing.{lines, printed, stopLine};
 ghost use Rattle.counters.specs.Answers.{countsIn, stopIn};
-ghost use Rattle.queries.specs.Chains.{rowsIn};
+ghost use Rattle.queries.specs.Chains.{namesIn, rowsIn};
 ghost use Rattle.io.specs.Counts.{Counts as Counted};
 ghost use Rattle.text.specs.Pages.{page, write};
 ghost use Rattle.print.specs.Listing.{listingIn, headBytes, rowBytes, stopBytes, roomBytes};
@@ -31,7 +31,7 @@ pub const MAX_LIST: usize = 65536;
 // Room for any listing.
 pub const ROOM: usize = 262144;
 
-// The line of edge's chain, if edge is its name.
+// The line of the chain named edge.
 fn put_chain(
     out: &mut [u8],
     at: usize,
@@ -46,9 +46,6 @@ fn put_chain(
         ≡ write (lines (rowsIn (now (degrees .entry)) (now (sides .entry)) (now (ends .entry)) (now (lengths .entry)) edges (edge ∷ [])))
         (page (now (out .entry)) at)) × (r ≤ at + rowBytes) ⌝ }
 {
-    if !is_name(degrees, sides, ends, edge, edges) {
-        return at;
-    }
     let row = row_at(degrees, sides, ends, lengths, edge, edges);
     let name = row.name;
     let lower = row.lower;
@@ -66,7 +63,7 @@ fn put_chain(
     )
 }
 
-// The sheet, one chain a line, by rising name.
+// The sheet, one chain a line: the first chains of a table of names.
 fn put_sheet(
     out: &mut [u8],
     at: usize,
@@ -75,18 +72,31 @@ fn put_sheet(
     ends: &[u16],
     lengths: &[u32],
     edges: u16,
+    names: &[u16],
+    count: u16,
 ) -> usize
     ensures { λ r. ⌜ (page (now (out .exit)) r
-        ≡ write (lines (rowsIn (now (degrees .entry)) (now (sides .entry)) (now (ends .entry)) (now (lengths .entry)) edges (upTo edges)))
-        (page (now (out .entry)) at)) × (r ≤ at + rowBytes * edges) ⌝ }
+        ≡ write (lines (rowsIn (now (degrees .entry)) (now (sides .entry)) (now (ends .entry)) (now (lengths .entry)) edges
+        (take count (now (names .entry)))))
+        (page (now (out .entry)) at)) × (r ≤ at + rowBytes * count) ⌝ }
 {
     let mut next = at;
-    let mut edge: u16 = 0;
-    let mut left = edges;
-    while 0 < left {
-        next = put_chain(out, next, degrees, sides, ends, lengths, edge, edges);
-        edge += 1;
-        left -= 1;
+    let mut i: u16 = 0;
+    while i < count {
+        if names.len() <= (i as usize) {
+            break;
+        }
+        next = put_chain(
+            out,
+            next,
+            degrees,
+            sides,
+            ends,
+            lengths,
+            of16(names, i),
+            edges,
+        );
+        i += 1;
     }
     next
 }
@@ -115,15 +125,18 @@ fn put_listing(
     counts: Counts,
     stop: Stop,
 ) -> usize
-    ensures { λ r. ⌜ (page (now (out .exit)) r
+    ensures { λ r. ⌜ (counts .edges ≤ maxEdges → page (now (out .exit)) r
         ≡ write (listingIn (countsIn counts)
-        (rowsIn (now (degrees .entry)) (now (sides .entry)) (now (ends .entry)) (now (lengths .entry)) (counts .edges) (upTo (counts .edges))) (stopIn stop))
+        (rowsIn (now (degrees .entry)) (now (sides .entry)) (now (ends .entry)) (now (lengths .entry)) (counts .edges)
+        (namesIn (now (degrees .entry)) (now (sides .entry)) (now (ends .entry)) (counts .edges) (replicate maxEdges 0))) (stopIn stop))
         (page (now (out .entry)) 0)) × (r ≤ headBytes + rowBytes * counts .edges + stopBytes) ⌝ }
 {
+    let mut marks = [0u16; EDGES];
+    let mut names = [0u16; EDGES];
     let vertices = counts.vertices;
     let edges = counts.edges;
     let relabellings = counts.relabellings;
-    let chains = count_rows(degrees, sides, ends, edges);
+    let chains = collect_names(degrees, sides, ends, &mut marks, &mut names, edges);
     let sheet = put_line4(
         out,
         0,
@@ -132,7 +145,17 @@ fn put_listing(
         chains as u64,
         relabellings as u64,
     );
-    let next = put_sheet(out, sheet, degrees, sides, ends, lengths, edges);
+    let next = put_sheet(
+        out,
+        sheet,
+        degrees,
+        sides,
+        ends,
+        lengths,
+        edges,
+        &names,
+        chains,
+    );
     put_stop(out, next, stop)
 }
 

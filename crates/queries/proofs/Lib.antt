@@ -2,5 +2,4 @@
 pub mod WalkLaws
 pub mod NameLaws
 pub mod LookupLaws
-pub mod RowLaws
 pub mod SheetLaws

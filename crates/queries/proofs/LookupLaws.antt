@@ -1,6 +1,6 @@
 -- A label looked for in a list, and the least number on a walk: the ways in which each loop ends, and a turn of it.
 use mathlib.Core.Path.{_≡_, refl, sym}
-use mathlib.Core.Bool.{Bool, true, false}
+use mathlib.Core.Bool.{true, false}
 use mathlib.Core.List.{List, _∷_}
 use mathlib.Core.Option.{none, some}
 use Prim.Native.Nat.{ℕ, zero, suc, _+_, _*_, _-_, _<_, _≤_, min}
@@ -12,7 +12,7 @@ use lib.ListN.{length, getD, take, drop, length-take, drop-of-length-le}
 use lib.Dec.{eqb}
 use lib.Seq.{drop-cons, getD-take}
 use Rattle.tables.specs.Steps.{farIn, turnIn}
-use Rattle.queries.specs.Chains.{firstFrom, lowestIn, nameIn}
+use Rattle.queries.specs.Chains.{firstFrom, goesOnIn, lowEnd, lowestIn, nameIn}
 
 -- the first i of at most m elements were looked at
 module _ (label m : ℕ) (xs : List ℕ) (i : ℕ) where
@@ -36,41 +36,32 @@ module _ (label m : ℕ) (xs : List ℕ) (i : ℕ) where
     unfolding firstFrom
     first-next e = rw (first-cons, ne-eqb _ _ e, firstFrom, add-one)
 
-module _ (ds ss es : List ℕ) where
-  -- a number taken into the minimum before the walk or behind it
-  lowest-min : (n x y d v : ℕ) → lowestIn ds ss es n (min y x) d v ≡ min y (lowestIn ds ss es n x d v)
-  unfolding lowestIn
-  lowest-min zero x y d v = refl
-  lowest-min (suc n) x y d v = go (eqb (getD ds v 0) 2) refl (lowest-min n x y (turnIn ss d v) (farIn es (turnIn ss d v) v))
-    where
-      go : (b : Bool) → eqb (getD ds v 0) 2 ≡ b
-          → lowestIn ds ss es n (min y x) (turnIn ss d v) (farIn es (turnIn ss d v) v) ≡ min y (lowestIn ds ss es n x (turnIn ss d v) (farIn es (turnIn ss d v) v))
-          → lowestIn ds ss es (suc n) (min y x) d v ≡ min y (lowestIn ds ss es (suc n) x d v)
-      go true e ih = rw (e, ih) (omega arith)
-      go false e ih = rw e
-
-  pub lowest-none : (n x d v : ℕ) → n ≤ 0 → x ≡ lowestIn ds ss es n x d v
+module _ (ds ss es : List ℕ) (home : ℕ) where
+  pub lowest-none : (n x d v : ℕ) → n ≤ 0 → lowEnd v x ≡ lowestIn ds ss es home n x d v
   unfolding lowestIn
   lowest-none zero x d v h = refl
   lowest-none (suc n) x d v h = absurd (not-suc-le-zero h)
 
-  pub lowest-stop : (n x d v : ℕ) → (getD ds v 0 ≡ 2 → ⊥) → x ≡ lowestIn ds ss es n x d v
+  pub lowest-stop : (n x d v : ℕ) → goesOnIn ds home v ≡ false → lowEnd v x ≡ lowestIn ds ss es home n x d v
   unfolding lowestIn
   lowest-stop zero x d v h = refl
-  lowest-stop (suc n) x d v h = rw (ne-eqb _ _ h)
+  lowest-stop (suc n) x d v h = rw h
 
-  pub lowest-on : (n x d v c w : ℕ) → getD ds v 0 ≡ 2 → turnIn ss d v ≡ c → farIn es c v ≡ w
-      → lowestIn ds ss es (suc n) x d v ≡ min c (lowestIn ds ss es n x c w)
+  pub lowest-on : (n x d v c w : ℕ) → goesOnIn ds home v ≡ true → turnIn ss d v ≡ c → farIn es c v ≡ w
+      → lowestIn ds ss es home (suc n) x d v ≡ lowestIn ds ss es home n (min c x) c w
   unfolding lowestIn
-  lowest-on n x d v c w h i j = rw (eq-eqb _ _ h, i, j)
+  lowest-on n x d v c w h i j = rw (h, i, j)
 
-  pub lowest-step : (n x y d v c w : ℕ) → 0 < n → getD ds v 0 ≡ 2 → c ≡ turnIn ss d v → w ≡ farIn es c v
-      → y ≡ min c x → lowestIn ds ss es n x d v ≡ lowestIn ds ss es (n - 1) y c w
-  unfolding lowestIn
+  pub lowest-step : (n x y d v c w : ℕ) → 0 < n → goesOnIn ds home v ≡ true → c ≡ turnIn ss d v → w ≡ farIn es c v
+      → y ≡ min c x → lowestIn ds ss es home n x d v ≡ lowestIn ds ss es home (n - 1) y c w
   lowest-step zero x y d v c w h g a b e = absurd (not-suc-le-zero h)
-  lowest-step (suc n) x y d v c w h g a b e = rw (eq-eqb _ _ g, sub-one, ← a, ← b, e) (sym (lowest-min n x c c w))
+  lowest-step (suc n) x y d v c w h g a b e = rw (sub-one, e) (lowest-on n x d v c w g (sym a) (sym b))
 
-  pub name-law : (n e v w x r : ℕ) → w ≡ getD es (2 * e + 1) 0 → x ≡ lowestIn ds ss es n e e w → v ≡ getD es (2 * e) 0
-      → r ≡ lowestIn ds ss es n x e v → r ≡ nameIn ds ss es n e
+module _ (ds ss es : List ℕ) (n e a b v x : ℕ) (f : a ≡ getD es (2 * e) 0) (s : b ≡ getD es (2 * e + 1) 0) (h : lowEnd v x ≡ lowestIn ds ss es a n e e b) where
+  pub name-round : getD ds v 0 ≡ 2 → x ≡ nameIn ds ss es n e
   unfolding nameIn
-  name-law n e v w x r a b c d = rw (← a, ← b, ← c) d
+  name-round i = rw (← f, ← s, ← h, eq-eqb _ _ i)
+
+  pub name-both : (getD ds v 0 ≡ 2 → ⊥) → (u y : ℕ) → lowEnd u y ≡ lowestIn ds ss es v n x e a → y ≡ nameIn ds ss es n e
+  unfolding nameIn
+  name-both i u y j = rw (← f, ← s, ← h, ne-eqb _ _ i, ← j)

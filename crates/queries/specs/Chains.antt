@@ -1,77 +1,123 @@
 -- Chains found by walking over the lent tables, as functions of lists that mirror the code. A walker stands at vertex v, which it
 -- reached by edge d; n bounds its steps.
 use Prim.Native.Nat.{ℕ, zero, suc, _+_, _*_, min, max}
-use mathlib.Core.Bool.{Bool, true, false}
+use mathlib.Core.Bool.{Bool, true, false, not, _&&_}
 use mathlib.Core.List.{List, [], _∷_, map}
 use mathlib.Core.Option.{Option, none, some}
-use lib.ListN.{getD}
-use lib.Dec.{eqb, ltb}
-use Rattle.model.specs.Basics.{if_then_else_, upTo}
+use lib.ListN.{length, getD, set, take}
+use lib.Seq.{sets}
+use lib.Dec.{eqb}
+use Rattle.model.specs.Basics.{if_then_else_}
 use Rattle.model.specs.Tables.{Tables, Counts}
-use Rattle.tables.specs.Steps.{farIn, turnIn, sum32}
+use Rattle.tables.specs.Steps.{farIn, turnIn, more16, sum32}
 
--- where a walk ends, how many regular vertices it passes, and the lengths of the edges behind them added up
+-- Whether a walker goes on at vertex v: it is regular, and not the walker's home, where a walk round a ring ends.
+unfoldable pub goesOnIn : List ℕ → ℕ → ℕ → Bool
+goesOnIn degrees home v = eqb (getD degrees v 0) 2 && not (eqb v home)
+
+-- where a walk ends, how many regular vertices it passes, the lengths of the edges behind them added up, and the least of its home
+-- and those vertices
 pub record WalkEnd : Type 0 where
   pub at : ℕ
   pub inner : ℕ
   pub length : ℕ
+  pub lowest : ℕ
 
-abbrev pub walkEnd : ℕ → ℕ → ℕ → WalkEnd
-walkEnd v k l = record { at = v; inner = k; length = l }
+abbrev pub walkEnd : ℕ → ℕ → ℕ → ℕ → WalkEnd
+walkEnd v k l x = record { at = v; inner = k; length = l; lowest = x }
 
--- k regular vertices and a length l before those of w
-unfoldable pub walkAhead : ℕ → ℕ → WalkEnd → WalkEnd
-walkAhead k l w = walkEnd (w .at) (k + w .inner) (sum32 l (w .length))
+-- k regular vertices, the least of them x, and a length l before those of w
+unfoldable pub walkAhead : ℕ → ℕ → ℕ → WalkEnd → WalkEnd
+walkAhead k l x w = walkEnd (w .at) (k + w .inner) (sum32 l (w .length)) (min x (w .lowest))
 
-unfoldable pub walkIn : List ℕ → List ℕ → List ℕ → List ℕ → ℕ → ℕ → ℕ → WalkEnd
-walkIn degrees sides ends lengths zero d v = walkEnd v 0 0
-walkIn degrees sides ends lengths (suc n) d v =
+unfoldable pub walkIn : List ℕ → List ℕ → List ℕ → List ℕ → ℕ → ℕ → ℕ → ℕ → WalkEnd
+walkIn degrees sides ends lengths home zero d v = walkEnd v 0 0 home
+walkIn degrees sides ends lengths home (suc n) d v =
     let c = turnIn sides d v in
-    let rest = walkIn degrees sides ends lengths n c (farIn ends c v) in
-    let on = walkAhead 1 (getD lengths c 0) rest in
-    if eqb (getD degrees v 0) 2 then on else walkEnd v 0 0
+    let rest = walkIn degrees sides ends lengths home n c (farIn ends c v) in
+    let on = walkAhead 1 (getD lengths c 0) v rest in
+    if goesOnIn degrees home v then on else walkEnd v 0 0 home
 
--- Whether no edge of two walks has a number below e: both go on in lockstep, and stop at the first lower number.
-unfoldable pub noLowerIn : List ℕ → List ℕ → List ℕ → ℕ → ℕ → ℕ → ℕ → ℕ → ℕ → Bool
-noLowerIn degrees sides ends e zero d v c w = true
-noLowerIn degrees sides ends e (suc n) d v c w =
-    let d′ = turnIn sides d v in
-    let c′ = turnIn sides c w in
-    let v′ = farIn ends d′ v in
-    let w′ = farIn ends c′ w in
-    let both = if ltb d′ e then false else if ltb c′ e then false else noLowerIn degrees sides ends e n d′ v′ c′ w′ in
-    let first = if ltb d′ e then false else noLowerIn degrees sides ends e n d′ v′ c w in
-    let second = if ltb c′ e then false else noLowerIn degrees sides ends e n d v c′ w′ in
-    if eqb (getD degrees v 0) 2 then (if eqb (getD degrees w 0) 2 then both else first)
-    else if eqb (getD degrees w 0) 2 then second
-    else true
+-- ---- names, by marks on the edges that were passed
 
--- whether edge e is the name of its chain
-unfoldable pub isNameIn : List ℕ → List ℕ → List ℕ → ℕ → ℕ → Bool
-isNameIn degrees sides ends n e = noLowerIn degrees sides ends e n e (getD ends (2 * e) 0) e (getD ends (2 * e + 1) 0)
+-- the marks, and where a walk ends
+pub record Marked : Type 0 where
+  pub marks : List ℕ
+  pub at : ℕ
 
--- those of some edges that are names
-unfoldable pub namesIn : List ℕ → List ℕ → List ℕ → ℕ → List ℕ → List ℕ
-namesIn degrees sides ends n [] = []
-namesIn degrees sides ends n (e ∷ es) =
-    elim (isNameIn degrees sides ends n e) [
-      | true ↦ e ∷ namesIn degrees sides ends n es
-      | false ↦ namesIn degrees sides ends n es
+abbrev pub marked : List ℕ → ℕ → Marked
+marked marks v = record { marks = marks; at = v }
+
+-- the edges behind the regular vertices that a walk passes get marks
+unfoldable pub markIn : List ℕ → List ℕ → List ℕ → ℕ → ℕ → List ℕ → ℕ → ℕ → Marked
+markIn degrees sides ends home zero marks d v = marked marks v
+markIn degrees sides ends home (suc n) marks d v =
+    let c = turnIn sides d v in
+    let rest = markIn degrees sides ends home n (set marks c 1) c (farIn ends c v) in
+    if goesOnIn degrees home v then rest else marked marks v
+
+-- All other edges on the chain of edge e get marks. The first walk has its end at e's first vertex: there it is round a ring. Else it
+-- has come to a singular vertex, and the second walk goes from e's first vertex the other way.
+unfoldable pub markChainIn : List ℕ → List ℕ → List ℕ → ℕ → List ℕ → ℕ → List ℕ
+markChainIn degrees sides ends n marks e =
+    let a = getD ends (2 * e) 0 in
+    let on = markIn degrees sides ends a n marks e (getD ends (2 * e + 1) 0) in
+    let back = markIn degrees sides ends (on .at) n (on .marks) e a in
+    if eqb (getD degrees (on .at) 0) 2 then on .marks else back .marks
+
+-- the names among k edges from d on: those that have no mark when it is their turn
+unfoldable pub sweepIn : List ℕ → List ℕ → List ℕ → ℕ → ℕ → List ℕ → ℕ → List ℕ
+sweepIn degrees sides ends n zero marks d = []
+sweepIn degrees sides ends n (suc k) marks d =
+    elim (eqb (getD marks d 0) 0) [
+      | true ↦ d ∷ sweepIn degrees sides ends n k (markChainIn degrees sides ends n marks d) (suc d)
+      | false ↦ sweepIn degrees sides ends n k marks (suc d)
     ]
 
--- the row of the chain named e
+-- marks, a table of names, and how many stand there
+pub record Took : Type 0 where
+  pub marks : List ℕ
+  pub names : List ℕ
+  pub count : ℕ
+
+abbrev pub took : List ℕ → List ℕ → ℕ → Took
+took marks names k = record { marks = marks; names = names; count = k }
+
+-- one turn of it: edge e, if it has no mark, is put behind k names
+unfoldable pub takeIn : List ℕ → List ℕ → List ℕ → ℕ → List ℕ → List ℕ → ℕ → ℕ → Took
+takeIn degrees sides ends n marks names e k =
+    if eqb (getD marks e 0) 0 then took (markChainIn degrees sides ends n marks e) (set names k e) (more16 k) else took marks names k
+
+-- the names among the first n edges, over marks that are lent
+unfoldable pub namesIn : List ℕ → List ℕ → List ℕ → ℕ → List ℕ → List ℕ
+namesIn degrees sides ends n marks = sweepIn degrees sides ends n n marks 0
+
+-- ---- rows
+
+-- The row of the chain named e, by one walk round a ring, or by two walks from e to the ends of a chain.
 unfoldable pub rowIn : List ℕ → List ℕ → List ℕ → List ℕ → ℕ → ℕ → List ℕ
 rowIn degrees sides ends lengths n e =
-    let a = walkIn degrees sides ends lengths n e (getD ends (2 * e) 0) in
-    let b = walkIn degrees sides ends lengths n e (getD ends (2 * e + 1) 0) in
-    e ∷ min (a .at) (b .at) ∷ max (a .at) (b .at) ∷ (a .inner + b .inner) ∷
-    sum32 (a .length) (sum32 (getD lengths e 0) (b .length)) ∷ []
+    let a = getD ends (2 * e) 0 in
+    let on = walkIn degrees sides ends lengths a n e (getD ends (2 * e + 1) 0) in
+    let back = walkIn degrees sides ends lengths (on .at) n e a in
+    let own = sum32 (getD lengths e 0) (on .length) in
+    if eqb (getD degrees (on .at) 0) 2 then e ∷ on .lowest ∷ on .lowest ∷ (1 + on .inner) ∷ own ∷ []
+    else e ∷ min (back .at) (on .at) ∷ max (back .at) (on .at) ∷ (back .inner + on .inner) ∷ sum32 (back .length) own ∷ []
 
 unfoldable pub rowsIn : List ℕ → List ℕ → List ℕ → List ℕ → ℕ → List ℕ → List (List ℕ)
-rowsIn degrees sides ends lengths n es = map (rowIn degrees sides ends lengths n) (namesIn degrees sides ends n es)
+rowsIn degrees sides ends lengths n names = map (rowIn degrees sides ends lengths n) names
 
-unfoldable pub sheetIn : Tables → Counts → List (List ℕ)
-sheetIn t c = rowsIn (t .degrees) (t .sides) (t .ends) (t .lengths) (c .edges) (upTo (c .edges))
+-- the first numbers of a table, where some names were put in front
+abbrev pub keptIn : List ℕ → List ℕ → List ℕ
+keptIn table names = take (length names) (sets table 0 names)
+
+-- over marks and a table for the names, both lent
+unfoldable pub sheetIn : Tables → Counts → List ℕ → List ℕ → List (List ℕ)
+sheetIn t c marks table =
+    rowsIn (t .degrees) (t .sides) (t .ends) (t .lengths) (c .edges)
+    (keptIn table (namesIn (t .degrees) (t .sides) (t .ends) (c .edges) marks))
+
+-- ---- one label, one name
 
 -- the place of the first element that is the label; the list's first place is `at`
 unfoldable pub firstFrom : ℕ → ℕ → List ℕ → Option ℕ
@@ -81,16 +127,25 @@ firstFrom at label (x ∷ xs) = elim (eqb x label) [ true ↦ some at | false �
 unfoldable pub firstAt : ℕ → List ℕ → Option ℕ
 firstAt label xs = firstFrom 0 label xs
 
--- the least of x and the numbers of the edges behind the regular vertices that a walk passes
-unfoldable pub lowestIn : List ℕ → List ℕ → List ℕ → ℕ → ℕ → ℕ → ℕ → ℕ
-lowestIn degrees sides ends zero x d v = x
-lowestIn degrees sides ends (suc n) x d v =
-    let c = turnIn sides d v in
-    let rest = lowestIn degrees sides ends n x c (farIn ends c v) in
-    if eqb (getD degrees v 0) 2 then min c rest else x
+-- where a walk ends, and the least of x and the numbers of the edges behind the regular vertices that it passes
+pub record LowEnd : Type 0 where
+  pub at : ℕ
+  pub lowest : ℕ
 
--- the name of the chain on which edge e lies
+abbrev pub lowEnd : ℕ → ℕ → LowEnd
+lowEnd v x = record { at = v; lowest = x }
+
+unfoldable pub lowestIn : List ℕ → List ℕ → List ℕ → ℕ → ℕ → ℕ → ℕ → ℕ → LowEnd
+lowestIn degrees sides ends home zero x d v = lowEnd v x
+lowestIn degrees sides ends home (suc n) x d v =
+    let c = turnIn sides d v in
+    let rest = lowestIn degrees sides ends home n (min c x) c (farIn ends c v) in
+    if goesOnIn degrees home v then rest else lowEnd v x
+
+-- the name of the chain on which edge e lies, by one walk round a ring, or by two
 unfoldable pub nameIn : List ℕ → List ℕ → List ℕ → ℕ → ℕ → ℕ
 nameIn degrees sides ends n e =
-    let x = lowestIn degrees sides ends n e e (getD ends (2 * e + 1) 0) in
-    lowestIn degrees sides ends n x e (getD ends (2 * e) 0)
+    let a = getD ends (2 * e) 0 in
+    let on = lowestIn degrees sides ends a n e e (getD ends (2 * e + 1) 0) in
+    let back = lowestIn degrees sides ends (on .at) n (on .lowest) e a in
+    if eqb (getD degrees (on .at) 0) 2 then on .lowest else back .lowest

@@ -9,7 +9,7 @@ use Rattle.model.specs.Basics.{if_then_else_}
 use Rattle.model.specs.Queries.{Reply, found, reached, refuses}
 use Rattle.model.specs.Tables.{Tables, Counts}
 use Rattle.tables.specs.Steps.{farIn, sum32}
-use Rattle.queries.specs.Chains.{walkIn, firstAt, nameIn}
+use Rattle.queries.specs.Chains.{WalkEnd, walkIn, firstAt, nameIn}
 
 -- by the wearer's edge on the low side; a singular vertex wears 0
 unfoldable pub findIn : Tables → Counts → ℕ → Reply
@@ -20,14 +20,23 @@ findIn t c label =
       | none ↦ refuses 8
     ]
 
--- the length from vertex v along its edge d to the singular vertex where that chain ends
+-- the walk from vertex v along its edge d to the chain's end, or round a ring to v again
+unfoldable pub wayIn : List ℕ → List ℕ → List ℕ → List ℕ → ℕ → ℕ → ℕ → WalkEnd
+wayIn degrees sides ends lengths n d v = walkIn degrees sides ends lengths v n d (farIn ends d v)
+
+-- where it ends, and its length with that of edge d
+unfoldable pub endToIn : List ℕ → List ℕ → List ℕ → List ℕ → ℕ → ℕ → ℕ → ℕ
+endToIn degrees sides ends lengths n d v = (wayIn degrees sides ends lengths n d v) .at
+
 unfoldable pub lengthToIn : List ℕ → List ℕ → List ℕ → List ℕ → ℕ → ℕ → ℕ → ℕ
-lengthToIn degrees sides ends lengths n d v =
-    sum32 (getD lengths d 0) ((walkIn degrees sides ends lengths n d (farIn ends d v)) .length)
+lengthToIn degrees sides ends lengths n d v = sum32 (getD lengths d 0) ((wayIn degrees sides ends lengths n d v) .length)
 
 unfoldable pub reachIn : Tables → Counts → ℕ → Reply
 reachIn t c v =
-    let along = lengthToIn (t .degrees) (t .sides) (t .ends) (t .lengths) (c .edges) in
+    let low = getD (t .sides) (2 * v) 0 in
+    let along : ℕ → ℕ = λ d. lengthToIn (t .degrees) (t .sides) (t .ends) (t .lengths) (c .edges) d v in
+    let end = endToIn (t .degrees) (t .sides) (t .ends) (t .lengths) (c .edges) low v in
     if not (ltb v (c .vertices)) then refuses 5
     else if not (eqb (getD (t .degrees) v 0) 2) then refuses 8
-    else reached (along (getD (t .sides) (2 * v) 0) v) (along (getD (t .sides) (2 * v + 1) 0) v)
+    else if eqb (getD (t .degrees) end 0) 2 then reached 0 (along low)
+    else reached (along low) (along (getD (t .sides) (2 * v + 1) 0))

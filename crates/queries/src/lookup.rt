@@ -1,5 +1,6 @@
 // The vertex that has a label, and the name of an edge's chain.
 use crate::numbers::lesser;
+use crate::walks::goes_on;
 use counters::numbers::Vertex;
 use tables::access::at16;
 use tables::access::of16;
@@ -9,7 +10,7 @@ use tables::walks::step_over;
 ghost use mathlib.Core.Path.{_≡_};
 ghost use lib.ListN.{take};
 ghost use Rattle.model.specs.Basics.{maxVertices};
-ghost use Rattle.queries.specs.Chains.{firstAt, lowestIn, nameIn};
+ghost use Rattle.queries.specs.Chains.{firstAt, lowEnd, lowestIn, nameIn};
 ghost use Rattle.queries.specs.Answers.{foundIn};
 
 pub enum Found {
@@ -34,7 +35,13 @@ pub fn find_label(labels: &[u32], label: u32) -> Found
     Found::Nothing
 }
 
-// The least of `known` and the numbers of the edges on the way from vertex `from`, reached by an edge, to the chain's end.
+// Where a walk ends, and the least number that it met.
+struct LowEnd {
+    at: u16,
+    lowest: u16,
+}
+
+// The least of `known` and the numbers of the edges on the way from vertex `from`, reached by an edge, to the chain's end or home.
 fn lowest_onwards(
     degrees: &[u16],
     sides: &[u16],
@@ -42,29 +49,45 @@ fn lowest_onwards(
     known: u16,
     edge: u16,
     from: u16,
+    home: u16,
     fuel: u16,
-) -> u16
-    ensures { λ r. ⌜ r ≡ lowestIn (now (degrees .entry)) (now (sides .entry)) (now (ends .entry)) fuel known edge from ⌝ }
+) -> LowEnd
+    ensures { λ r. ⌜ lowEnd (r .at) (r .lowest)
+        ≡ lowestIn (now (degrees .entry)) (now (sides .entry)) (now (ends .entry)) home fuel known edge from ⌝ }
 {
     let mut w = Walker { edge, at: from };
     let mut lowest = known;
     let mut left = fuel;
     while 0 < left {
-        if of16(degrees, w.at) != 2 {
+        if !goes_on(degrees, home, w.at) {
             break;
         }
         w = step_over(sides, ends, w);
         lowest = lesser(w.edge, lowest);
         left -= 1;
     }
-    lowest
+    LowEnd { at: w.at, lowest }
 }
 
-// The name of the chain on which an edge lies.
+// The name of the chain on which an edge lies: once round a ring, or both ways to the chain's ends.
 pub fn name_of(degrees: &[u16], sides: &[u16], ends: &[u16], edge: u16, fuel: u16) -> u16
     ensures { λ r. ⌜ r ≡ nameIn (now (degrees .entry)) (now (sides .entry)) (now (ends .entry)) fuel edge ⌝ }
 {
     let i = 2 * (edge as usize);
-    let low = lowest_onwards(degrees, sides, ends, edge, edge, at16(ends, i + 1), fuel);
-    lowest_onwards(degrees, sides, ends, low, edge, at16(ends, i), fuel)
+    let first = at16(ends, i);
+    let on = lowest_onwards(
+        degrees,
+        sides,
+        ends,
+        edge,
+        edge,
+        at16(ends, i + 1),
+        first,
+        fuel,
+    );
+    if of16(degrees, on.at) == 2 {
+        return on.lowest;
+    }
+    let back = lowest_onwards(degrees, sides, ends, on.lowest, edge, first, on.at, fuel);
+    back.lowest
 }

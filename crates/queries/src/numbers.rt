@@ -1,7 +1,6 @@
 // Single numbers.
 ghost use mathlib.Core.Path.{_≡_};
 ghost use Prim.Native.Nat.{min, max};
-ghost use Rattle.model.specs.Basics.{if_then_else_};
 
 pub fn lesser(m: u16, n: u16) -> u16
     ensures { λ r. ⌜ r ≡ min m n ⌝ }
@@ -19,11 +18,4 @@ pub fn wide(n: u16) -> u32
     ensures { λ r. ⌜ r ≡ n ⌝ }
 {
     n as u32
-}
-
-// 1 where the test holds.
-pub fn one_if(test: bool) -> u16
-    ensures { λ r. ⌜ r ≡ if test then 1 else 0 ⌝ }
-{
-    if test { 1 } else { 0 }
 }

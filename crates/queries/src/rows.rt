@@ -1,21 +1,22 @@
 // Rows of the sheet: of one chain, and of all.
-use crate::names::is_name;
 use crate::numbers::greater;
 use crate::numbers::lesser;
-use crate::numbers::one_if;
 use crate::numbers::wide;
+use crate::walks::WalkEnd;
 use crate::walks::walk_chain;
 use tables::access::add32;
 use tables::access::at16;
+use tables::access::of16;
 use tables::access::of32;
 use text::writing::put_u32;
 ghost use mathlib.Core.Path.{_≡_};
 ghost use mathlib.Core.List.{[], _∷_};
-ghost use lib.ListN.{length};
-ghost use Rattle.model.specs.Basics.{upTo};
+ghost use Prim.Native.Nat.{_+_, min, max};
+ghost use lib.ListN.{take};
+ghost use Rattle.tables.specs.Steps.{sum32};
 ghost use Rattle.model.specs.Queries.{concat};
 ghost use Rattle.text.specs.Pages.{page, write};
-ghost use Rattle.queries.specs.Chains.{namesIn, rowIn, rowsIn};
+ghost use Rattle.queries.specs.Chains.{rowIn, rowsIn};
 ghost use Rattle.queries.specs.Answers.{rowOf};
 
 // A chain's name, its end with the lower number, its other end, its regular vertices, its length.
@@ -25,6 +26,33 @@ pub struct Row {
     pub other: u32,
     pub inner: u32,
     pub length: u32,
+}
+
+// The row of a ring, by a walk round it from one end of its edge to the other.
+fn ring_row(edge: u16, own: u32, on: WalkEnd) -> Row
+    ensures { λ r. ⌜ rowOf r ≡ edge ∷ on .lowest ∷ on .lowest ∷ (1 + on .inner) ∷ sum32 own (on .length) ∷ [] ⌝ }
+{
+    Row {
+        name: wide(edge),
+        lower: wide(on.lowest),
+        other: wide(on.lowest),
+        inner: 1 + wide(on.inner),
+        length: add32(own, on.length),
+    }
+}
+
+// The row of a chain, by the walks from its edge to its ends.
+fn open_row(edge: u16, own: u32, back: WalkEnd, on: WalkEnd) -> Row
+    ensures { λ r. ⌜ rowOf r ≡ edge ∷ min (back .at) (on .at) ∷ max (back .at) (on .at) ∷ (back .inner + on .inner)
+        ∷ sum32 (back .length) (sum32 own (on .length)) ∷ [] ⌝ }
+{
+    Row {
+        name: wide(edge),
+        lower: wide(lesser(back.at, on.at)),
+        other: wide(greater(back.at, on.at)),
+        inner: wide(back.inner) + wide(on.inner),
+        length: add32(back.length, add32(own, on.length)),
+    }
 }
 
 // The row of the chain that has this name.
@@ -39,29 +67,23 @@ pub fn row_at(
     ensures { λ r. ⌜ rowOf r ≡ rowIn (now (degrees .entry)) (now (sides .entry)) (now (ends .entry)) (now (lengths .entry)) fuel edge ⌝ }
 {
     let i = 2 * (edge as usize);
-    let a = walk_chain(degrees, sides, ends, lengths, edge, at16(ends, i), fuel);
-    let b = walk_chain(degrees, sides, ends, lengths, edge, at16(ends, i + 1), fuel);
+    let first = at16(ends, i);
+    let on = walk_chain(
+        degrees,
+        sides,
+        ends,
+        lengths,
+        edge,
+        at16(ends, i + 1),
+        first,
+        fuel,
+    );
     let own = of32(lengths, edge);
-    Row {
-        name: wide(edge),
-        lower: wide(lesser(a.at, b.at)),
-        other: wide(greater(a.at, b.at)),
-        inner: wide(a.inner) + wide(b.inner),
-        length: add32(a.length, add32(own, b.length)),
+    if of16(degrees, on.at) == 2 {
+        return ring_row(edge, own, on);
     }
-}
-
-// How many of the edges are names.
-pub fn count_rows(degrees: &[u16], sides: &[u16], ends: &[u16], edges: u16) -> u16
-    ensures { λ r. ⌜ r ≡ length (namesIn (now (degrees .entry)) (now (sides .entry)) (now (ends .entry)) edges (upTo edges)) ⌝ }
-{
-    let mut count: u16 = 0;
-    let mut d: u16 = 0;
-    while d < edges {
-        count += one_if(is_name(degrees, sides, ends, d, edges));
-        d += 1;
-    }
-    count
+    let back = walk_chain(degrees, sides, ends, lengths, edge, first, on.at, fuel);
+    open_row(edge, own, back, on)
 }
 
 // The five numbers of a row, one after the other.
@@ -75,7 +97,7 @@ fn put_row(out: &mut [u32], at: usize, row: Row) -> usize
     put_u32(out, fifth, row.length)
 }
 
-// The row of edge's chain, if edge is its name.
+// The row of the chain named edge.
 fn put_chain(
     out: &mut [u32],
     at: usize,
@@ -90,14 +112,11 @@ fn put_chain(
         ≡ write (concat (rowsIn (now (degrees .entry)) (now (sides .entry)) (now (ends .entry)) (now (lengths .entry)) edges (edge ∷ [])))
         (page (now (out .entry)) at) ⌝ }
 {
-    if !is_name(degrees, sides, ends, edge, edges) {
-        return at;
-    }
     let row = row_at(degrees, sides, ends, lengths, edge, edges);
     put_row(out, at, row)
 }
 
-// The rows of all chains by rising name, five numbers each, from the front of the slice on.
+// The rows of the first chains of a table of names, five numbers each, from the front of the slice on.
 pub fn put_rows(
     out: &mut [u32],
     degrees: &[u16],
@@ -105,18 +124,31 @@ pub fn put_rows(
     ends: &[u16],
     lengths: &[u32],
     edges: u16,
+    names: &[u16],
+    count: u16,
 ) -> usize
     ensures { λ r. ⌜ page (now (out .exit)) r
-        ≡ write (concat (rowsIn (now (degrees .entry)) (now (sides .entry)) (now (ends .entry)) (now (lengths .entry)) edges (upTo edges)))
+        ≡ write (concat (rowsIn (now (degrees .entry)) (now (sides .entry)) (now (ends .entry)) (now (lengths .entry)) edges
+        (take count (now (names .entry)))))
         (page (now (out .entry)) 0) ⌝ }
 {
     let mut next: usize = 0;
-    let mut edge: u16 = 0;
-    let mut left = edges;
-    while 0 < left {
-        next = put_chain(out, next, degrees, sides, ends, lengths, edge, edges);
-        edge += 1;
-        left -= 1;
+    let mut i: u16 = 0;
+    while i < count {
+        if names.len() <= (i as usize) {
+            break;
+        }
+        next = put_chain(
+            out,
+            next,
+            degrees,
+            sides,
+            ends,
+            lengths,
+            of16(names, i),
+            edges,
+        );
+        i += 1;
     }
     next
 }

@@ -3,3 +3,4 @@ pub mod Lists
 pub mod SameLengths
 pub mod Sums
 pub mod Lockstep
+pub mod Rounds

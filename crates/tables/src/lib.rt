@@ -2,6 +2,7 @@
 // Contracts are equations with the definitions of specs/; a comparison tells whether two tables are the same. No function has a
 // `requires`. A written table that could be any is called narrow where it has 16-bit numbers, and wide where it has 32-bit ones.
 pub mod access;
+pub mod rings;
 pub mod steps;
 pub mod walks;
 pub mod whole;

@@ -3,7 +3,7 @@ ghost use mathlib.Core.Path.{_≡_};
 ghost use lib.ListN.{length, replicate};
 ghost use Rattle.tables.specs.Steps.{tables, Tells, zeroed};
 
-fn clear16(narrow: &mut [u16])
+pub fn clear16(narrow: &mut [u16])
     ensures { λ _. ⌜ now (narrow .exit) ≡ replicate (length (now (narrow .entry))) 0 ⌝ }
 {
     let mut i = 0;

@@ -115,7 +115,7 @@ read-edges (e ∷ es) (suc fuel) k r s few l h =
     let (a, is) = accepted r e (f .between) (f .one) in
     let n : (f .between) .vertices ≡ r .vertices = ap (λ (u : Register). u .vertices) (sym is) ∙ with-edge-vertices r e in
     ap (λ (bs : List ℕ). landRecords (suc fuel) k r bs) (records-cons e es)
-    ∙ step-edge fuel k r (f .between) e (body e (edgeRecords es)) (edgeRecords es) (read-edge (r .vertices) e (edgeRecords es) few (a .admissible .lawful)) (f .one)
+    ∙ step-edge fuel k r (f .between) e (body e (edgeRecords es)) (edgeRecords es) (read-edge (r .vertices) e (edgeRecords es) few (a .lawful)) (f .one)
     ∙ read-edges es fuel (k + 1) (f .between) s (omega (arith, n)) (omega arith) (f .others)
 
 -- ---- how long it is
@@ -191,7 +191,7 @@ written-grows r k =
     fuel-is = omega (arith, header-long rest, behind n es)
 
     few : n ≤ maxVertices
-    few = (kept r k) .labelled .few
+    few = (kept r k) .founded .few
 
     zero-n : n ≡ 0 + n
     zero-n = omega arith

@@ -1,7 +1,7 @@
+use Rattle.insertion.proofs.Answers.{insert-done}
+use Rattle.model.specs.Cases.{caseOf}
 use mathlib.Core.Path.{_∙_, ap₂}
 use borrow.Author.Needs.{needs}
-use Rattle.model.specs.Cases.{caseOf}
-use Rattle.insertion.proofs.Answers.{insert-ring, insert-done}
 use Rattle.insertion.proofs.landing.insert_edge.Statement.{statement}
 use Rattle.insertion.proofs.landing.insert_edge.Tie as tie
 
@@ -23,6 +23,15 @@ case-of-requires c κs = search needs
 place-edge-requires : tie.Need-place-edge-requires
 place-edge-requires c κs = search needs
 
+record-edge-requires : tie.Need-record-edge-requires
+record-edge-requires c κs = search needs
+
+one-more16-requires : tie.Need-one-more16-requires
+one-more16-requires c κs = search needs
+
+add32-requires : tie.Need-add32-requires
+add32-requires c κs = search needs
+
 same-length : tie.Need-same-length
 same-length c = search needs
 
@@ -35,57 +44,21 @@ same-length-3 c = search needs
 same-length-4 : tie.Need-same-length-4
 same-length-4 c = search needs
 
-returns : tie.Need-returns
-returns c =
-    let at-place-edge = c .before .before .before .before .before .before .before in
-    let at-case-of = at-place-edge .before .before .before .before .before in
-    let at-class-of2 = at-case-of .before in
-    let at-of162 = at-class-of2 .before in
-    let at-class-of = at-of162 .before .before in
-    let at-of16 = at-class-of .before in
-    insert-ring _ _ _ _ _ _ _ _ _ _ _ _ _ _ _ _ _ _ (at-of16 .of16 .ensures) (at-of162 .of162 .ensures)
-    (at-case-of .case-of .ensures ∙ ap₂ caseOf (at-class-of .class-of .ensures) (at-class-of2 .class-of2 .ensures))
-    (at-place-edge .place-edge .ensures) (c .if1 .taken)
-
-record-edge-requires : tie.Need-record-edge-requires
-record-edge-requires c κs = search needs
-
-one-more16-requires : tie.Need-one-more16-requires
-one-more16-requires c κs = search needs
-
-add32-requires : tie.Need-add32-requires
-add32-requires c κs = search needs
-
 same-length-5 : tie.Need-same-length-5
 same-length-5 c = search needs
 
-same-length-6 : tie.Need-same-length-6
-same-length-6 c = search needs
-
-same-length-7 : tie.Need-same-length-7
-same-length-7 c = search needs
-
-same-length-8 : tie.Need-same-length-8
-same-length-8 c = search needs
-
-same-length-9 : tie.Need-same-length-9
-same-length-9 c = search needs
-
-returns-2 : tie.Need-returns-2
-returns-2 c =
+returns : tie.Need-returns
+returns c =
     let at-record-edge = c .before .before .before .before .before .before in
-    let at-if1 = at-record-edge .before .before .before in
-    let at-place-edge = at-if1 .before .before .before .before .before .before .before in
+    let at-place-edge = at-record-edge .before .before .before .before .before .before .before .before .before in
     let at-case-of = at-place-edge .before .before .before .before .before in
     let at-class-of2 = at-case-of .before in
     let at-of162 = at-class-of2 .before in
     let at-class-of = at-of162 .before .before in
     let at-of16 = at-class-of .before in
-    insert-done _ _ _ _ _ _ _ _ _ _ _ _ _ _ _ _ _ _ (at-of16 .of16 .ensures) (at-of162 .of162 .ensures)
+    insert-done _ _ _ _ _ _ _ _ _ _ _ _ _ _ _ _ _ _ _ _ _ (at-of16 .of16 .ensures) (at-of162 .of162 .ensures)
     (at-case-of .case-of .ensures ∙ ap₂ caseOf (at-class-of .class-of .ensures) (at-class-of2 .class-of2 .ensures))
-    (at-place-edge .place-edge .ensures)
-    _ _ _ _ (at-if1 .if1 .left) (at-record-edge .record-edge .ensures .0) (at-record-edge .record-edge .ensures .1)
-    (c .before .one-more16 .ensures) (c .add32 .ensures)
+    (at-place-edge .place-edge .ensures) (at-record-edge .record-edge .ensures .0) (at-record-edge .record-edge .ensures .1) (c .before .one-more16 .ensures) (c .add32 .ensures)
 
 pub insert-edge-spec : {M : Type 1} → statement M
 insert-edge-spec =
@@ -97,17 +70,12 @@ insert-edge-spec =
     class-of-requires-2
     case-of-requires
     place-edge-requires
+    record-edge-requires
+    one-more16-requires
+    add32-requires
     same-length
     same-length-2
     same-length-3
     same-length-4
-    returns
-    record-edge-requires
-    one-more16-requires
-    add32-requires
     same-length-5
-    same-length-6
-    same-length-7
-    same-length-8
-    same-length-9
-    returns-2)
+    returns)

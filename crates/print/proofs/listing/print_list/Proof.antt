@@ -1,6 +1,5 @@
 use Rattle.print.proofs.Whole.{too-long, prints}
 use Rattle.model.specs.Tables.{cleared}
-use Rattle.queries.specs.Chains.{sheetIn}
 use Rattle.model.specs.Printing.{ascii}
 use native.Mathlib.Omega.{arith}
 use mathlib.Core.Path.{refl}
@@ -16,7 +15,7 @@ returns c =
     too-long _ _ _ _ (at-if1 .if1 .taken) (at-pre .pre) refl (c .before .before .put-text .ensures)
 
 returns-2 : tie.Need-returns-2
-unfolding cleared sheetIn
+unfolding cleared
 returns-2 c =
     let at-grow-list = c .before .before .before .before .before .before .before .before .before .before .before .before .before .before in
     let at-if1 = at-grow-list .before .before .before .before .before .before in

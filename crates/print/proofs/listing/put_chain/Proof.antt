@@ -1,21 +1,14 @@
-use Rattle.queries.proofs.SheetLaws.{piece-none, piece-row}
+use Rattle.queries.proofs.SheetLaws.{piece-row}
 use Rattle.print.proofs.Lines.{row-lines, line-at}
-use borrow.Author.Tests.{not-true, not-false}
 use native.Mathlib.Omega.{arith}
-use mathlib.Core.Path.{sym, _∙_}
 use borrow.Author.Needs.{needs}
 use Rattle.print.proofs.listing.put_chain.Statement.{statement}
 use Rattle.print.proofs.listing.put_chain.Tie as tie
 
 returns : tie.Need-returns
-returns c = (piece-none _ _ _ _ _ _ _ row-lines _ _ (sym (c .before .is-name .ensures) ∙ not-true _ (c .if1 .taken)), omega arith)
-
-returns-2 : tie.Need-returns-2
-returns-2 c =
-    let at-row-at = c .before .before .before .before in
-    let at-if1 = at-row-at .before in
-    let at-is-name = at-if1 .before in (
-      piece-row _ _ _ _ _ _ _ row-lines _ _ _ _ (sym (at-is-name .is-name .ensures) ∙ not-false _ (at-if1 .if1 .left)) (at-row-at .row-at .ensures) (c .before .before .put-line5 .ensures),
+returns c =
+    let at-row-at = c .before .before .before .before in (
+      piece-row _ _ _ _ _ _ _ row-lines _ _ _ _ (at-row-at .row-at .ensures) (c .before .before .put-line5 .ensures),
       line-at _ _ _ _ (omega (arith, at-row-at .row-at .ok), (omega (arith, at-row-at .row-at .ok), (omega (arith, at-row-at .row-at .ok), (omega (arith, at-row-at .row-at .ok), (omega (arith, at-row-at .row-at .ok), tt))))) (c .before .before .put-line5 .ensures),
     )
 
@@ -25,8 +18,6 @@ put-chain-spec =
     tie.close
     (tie.spec
     (λ c κs. search needs)
-    returns
-    (λ c κs. search needs)
     (λ c. search needs)
     (λ c. search needs)
     (λ c. search needs)
@@ -34,4 +25,4 @@ put-chain-spec =
     (λ c. search needs)
     (λ c κs. search needs)
     (λ c. search needs)
-    returns-2)
+    returns)

@@ -1,0 +1,65 @@
+-- How many labels a tap changes: every other vertex of the ring, but for the second end of the edge.
+use mathlib.Core.Path.{_≡_, refl, sym, ap, _∙_}
+use mathlib.Core.Logic.{_≢_, _⊎_, inl, inr}
+use Prim.Native.Nat.{ℕ, zero, suc, _+_, _<_}
+use native.Mathlib.Omega.{arith}
+use native.Mathlib.Decide.{ℕ-discrete}
+use mathlib.Core.Bool.{true}
+use mathlib.Core.List.{List, [], _∷_}
+use lib.ListN.{length, getD, set}
+use lib.Seq.{getD-set-other, set-set, set-comm}
+use borrow.Author.Tests.{eq-eqb, ne-eqb}
+use Rattle.model.specs.Basics.{if_then_else_}
+use Rattle.model.specs.Graph.{Pass}
+use Rattle.model.specs.Labels.{isRelabelled, next}
+use Rattle.labels.specs.Labelling.{countAhead, labelVertexIn}
+use Rattle.model.proofs.Labels.Relabellings.{moved, moved-old}
+use Rattle.model.proofs.Labels.Splits.{set-off}
+use Rattle.model.proofs.Walks.Places.{Ith, here, later, no-ith, InPath, Off, Once, ith-split, once-head, once-tail}
+use Rattle.agreement.proofs.Laying.{layIn}
+
+-- another label, and none of the two is 0
+moves : (old new : ℕ) → old ≢ 0 → old < new → moved old new ≡ 1
+unfolding moved isRelabelled
+moves old new n l = rw (ne-eqb old 0 n, ne-eqb new 0 (λ q. omega arith), ne-eqb old new (λ q. omega arith))
+
+-- what the vertices of the path wear is not 0 and below the labels to come
+abbrev pub Older : List ℕ → ℕ → List Pass → Type 0
+Older labels label path = (i : ℕ) (s : Pass) → Ith s i path → (getD labels (s .at) 0 ≢ 0) × (getD labels (s .at) 0 < label)
+
+older-next : (labels : List ℕ) (label : ℕ) (s : Pass) (ss : List Pass) → Once (s ∷ ss) → Older labels label (s ∷ ss) → Older (set labels (s .at) label) (label + 1) ss
+older-next labels label s ss o h i t j =
+    let q = getD-set-other labels (s .at) (t .at) label 0 (once-head s ss o i t j) in
+    let p = h (suc i) t (later j) in
+    (λ z. p .0 (sym q ∙ z), omega (arith, q, p .1))
+
+pub lay-costs : (label : ℕ) (path : List Pass) (sides labels : List ℕ) → Once path → Older labels label path → layIn true label path sides labels .count ≡ length path
+unfolding layIn countAhead labelVertexIn next moved
+lay-costs label [] sides labels o h = refl
+lay-costs label (s ∷ ss) sides labels o h =
+    let w = labelVertexIn sides labels (s .at) label (s .before) (s .after) true in
+    let p = h 0 s here in
+    omega (arith, moves (getD labels (s .at) 0) label (p .0) (p .1), lay-costs (label + 1) ss (w .sides) (set labels (s .at) label) (once-tail s ss o) (older-next labels label s ss o h))
+
+-- .. with the label of one of them cleared before
+pub lay-costs-less : (label : ℕ) (path : List Pass) (sides labels : List ℕ) (v : ℕ) → Once path → Older labels label path → InPath path v
+    → layIn true label path sides (set labels v 0) .count + 1 ≡ length path
+unfolding layIn countAhead labelVertexIn next moved
+lay-costs-less label [] sides labels v o h f = absurd (no-ith (f .ith))
+lay-costs-less label (s ∷ ss) sides labels v o h f =
+    go (ℕ-discrete (s .at) v) (λ g. lay-costs-less (label + 1) ss _ (set labels (s .at) label) v (once-tail s ss o) (older-next labels label s ss o h) g) (ith-split (f .ith))
+  where
+    go : Dec (s .at ≡ v)
+        → (InPath ss v → layIn true (label + 1) ss (labelVertexIn sides labels (s .at) label (s .before) (s .after) true .sides) (set (set labels (s .at) label) v 0) .count + 1 ≡ length ss)
+        → (f .pass-is ≡ s) ⊎ ((j : ℕ) × Ith (f .pass-is) j ss)
+        → layIn true label (s ∷ ss) sides (set labels v 0) .count + 1 ≡ suc (length ss)
+    go (yes e) ih i =
+        let z : moved (getD (set labels (s .at) 0) (s .at) 0) label ≡ 0 = moved-old (getD (set labels (s .at) 0) (s .at) 0) label (set-off labels (s .at)) in
+        rw (← e, set-set labels (s .at) 0 label)
+        (omega (arith, z, lay-costs (label + 1) ss (labelVertexIn sides labels (s .at) label (s .before) (s .after) true .sides) (set labels (s .at) label) (once-tail s ss o) (older-next labels label s ss o h)))
+    go (no n) ih (inl q) = absurd (n (ap (λ (x : Pass). x .at) (sym q) ∙ f .at-is))
+    go (no n) ih (inr (i, j)) =
+        let p = h 0 s here in
+        let q = getD-set-other labels v (s .at) 0 0 n in
+        rw (set-comm labels v (s .at) 0 label (λ z. n (sym z)), q)
+        (omega (arith, moves (getD labels (s .at) 0) label (p .0) (p .1), ih (record { index = i; pass-is = f .pass-is; ith = j; at-is = f .at-is })))

@@ -1,0 +1,127 @@
+// A regular vertex is regular no more: its chain is split there (document 01: splitting), or its ring is tapped (document 02, S-2).
+use crate::labelling::base;
+use crate::labelling::relabel_chain;
+use crate::merging::ChainChange;
+use tables::access::add32;
+use tables::access::one_more16;
+use tables::access::put32;
+use tables::rings::Round;
+use tables::rings::leave_lower;
+use tables::rings::ring_at;
+use tables::steps::put_pair;
+ghost use mathlib.Core.Path.{_≡_};
+ghost use Rattle.labels.specs.Labelling.{marksIn};
+ghost use Rattle.labels.specs.Merging.{changed};
+ghost use Rattle.labels.specs.Splitting.{bareIn, tapIn, splitBy, leftFor, splitIn, splitBothIn};
+
+// Vertex v loses its label and its sides. The pieces of its chain keep theirs: no other vertex is touched.
+fn bare_vertex(sides: &mut [u16], labels: &mut [u32], v: u16)
+    ensures { λ _. ⌜ marksIn (now (sides .exit)) (now (labels .exit)) 0 ≡ bareIn (now (sides .entry)) (now (labels .entry)) v ⌝ }
+{
+    put_pair(sides, v, 0, 0);
+    put32(labels, v as usize, 0);
+}
+
+// The ring of v becomes a loop at v, in block k. Labels rise round it from the neighbour along the lower-numbered edge of v; so many
+// others are labelled. The answer counts the relabelled.
+fn tap_ring(
+    degrees: &[u16],
+    sides: &mut [u16],
+    ends: &[u16],
+    labels: &mut [u32],
+    v: u16,
+    k: u16,
+    others: u16,
+) -> u32
+    ensures { λ r. ⌜ marksIn (now (sides .exit)) (now (labels .exit)) r
+        ≡ tapIn (now (degrees .entry)) (now (sides .entry)) (now (ends .entry)) (now (labels .entry)) v k others ⌝ }
+{
+    let from = leave_lower(sides, ends, v);
+    let n = relabel_chain(degrees, sides, ends, labels, from, base(k), true, others);
+    bare_vertex(sides, labels, v);
+    n
+}
+
+// Vertex v is split off, with what lies round about it; w is the other end of the edge. A ring that both share is tapped here, and w
+// loses its label before: it has none after the edge, so it is not relabelled on the way.
+fn split_by(
+    round: Round,
+    degrees: &[u16],
+    sides: &mut [u16],
+    ends: &[u16],
+    labels: &mut [u32],
+    blocks: u16,
+    v: u16,
+    w: u16,
+) -> ChainChange
+    ensures { λ r. ⌜ changed (now (sides .exit)) (now (labels .exit)) (r .blocks) (r .relabellings)
+        ≡ splitBy round (now (degrees .entry)) (now (sides .entry)) (now (ends .entry)) (now (labels .entry)) blocks v w ⌝ }
+{
+    match round {
+        Round::NoRing => {
+            bare_vertex(sides, labels, v);
+            ChainChange::new(blocks, 0)
+        }
+        Round::Ring(others) => {
+            let k = one_more16(blocks);
+            let n = tap_ring(degrees, sides, ends, labels, v, k, others);
+            ChainChange::new(k, n)
+        }
+        Round::Shared(others) => {
+            put32(labels, w as usize, 0);
+            let k = one_more16(blocks);
+            let n = tap_ring(degrees, sides, ends, labels, v, k, others);
+            ChainChange::new(k, n)
+        }
+    }
+}
+
+// The regular vertex v is split; w is the other end of the edge, and singular.
+pub fn split_chain(
+    degrees: &[u16],
+    sides: &mut [u16],
+    ends: &[u16],
+    labels: &mut [u32],
+    blocks: u16,
+    v: u16,
+    w: u16,
+    fuel: u16,
+) -> ChainChange
+    ensures { λ r. ⌜ changed (now (sides .exit)) (now (labels .exit)) (r .blocks) (r .relabellings)
+        ≡ splitIn (now (degrees .entry)) (now (sides .entry)) (now (ends .entry)) (now (labels .entry)) blocks v w fuel ⌝ }
+{
+    let round = ring_at(degrees, sides, ends, v, w, fuel);
+    split_by(round, degrees, sides, ends, labels, blocks, v, w)
+}
+
+// What the first split leaves round about the second vertex: a ring that they shared is one no more.
+fn left_for(second: Round) -> Round
+    ensures { λ r. ⌜ r ≡ leftFor second ⌝ }
+{
+    match second {
+        Round::NoRing => Round::NoRing,
+        Round::Ring(others) => Round::Ring(others),
+        Round::Shared(_) => Round::NoRing,
+    }
+}
+
+// The regular vertices a and b are split, a first. What lies round about them is read before anything is written.
+pub fn split_both(
+    degrees: &[u16],
+    sides: &mut [u16],
+    ends: &[u16],
+    labels: &mut [u32],
+    blocks: u16,
+    a: u16,
+    b: u16,
+    fuel: u16,
+) -> ChainChange
+    ensures { λ r. ⌜ changed (now (sides .exit)) (now (labels .exit)) (r .blocks) (r .relabellings)
+        ≡ splitBothIn (now (degrees .entry)) (now (sides .entry)) (now (ends .entry)) (now (labels .entry)) blocks a b fuel ⌝ }
+{
+    let first = ring_at(degrees, sides, ends, a, b, fuel);
+    let second = left_for(ring_at(degrees, sides, ends, b, a, fuel));
+    let c = split_by(first, degrees, sides, ends, labels, blocks, a, b);
+    let d = split_by(second, degrees, sides, ends, labels, c.blocks, b, a);
+    ChainChange::new(d.blocks, add32(c.relabellings, d.relabellings))
+}
