@@ -21,7 +21,9 @@
  *              the C library it needs memset alone.
  *
  * Fittings and pipes are numbered from 0 in the order of landing, at most 4,096 of each. A fitting with exactly two pipe ends is a
- * coupling, any other a junction; a run goes from junction to junction through couplings, and its name is its lowest pipe number.
+ * coupling, any other a junction; a run goes from junction to junction through couplings, and its name is its lowest pipe number. Couplings
+ * alone that close up are a ring, with no junction: it is listed, named and found like a run, with its lowest fitting as both ends and
+ * all its fittings as couplings.
  *
  * A tag is the number on the plate that hangs at a coupling; 0 stands for none, as at a junction. Along a run the tags rise by 1, from
  * the end that is its low end to the other, its high end. Which tag hangs where follows from the order of the list's pipes:
@@ -34,7 +36,14 @@
  *              end the next numbers, rising at its high end and falling at its low, go to its own joining fitting, to the other's, and
  *              to the other run's couplings in their order. The other run's far end becomes the end on this side. Each coupling that
  *              wore another tag before is re-hung.
+ *   closing    a pipe between the two ends of one run makes it a ring: the high end gets the highest tag plus 1, the low end the lowest
+ *              minus 1; without couplings, the fitting named first gets the list's next base and the second the base plus 1. Nothing is
+ *              re-hung.
  *   splitting  a pipe that lands on a coupling makes it a junction, without a tag; the two pieces keep their tags and sides.
+ *   tapping    a pipe that lands on a fitting of a ring makes of the ring a run from that fitting round to itself, with new tags from the
+ *              list's next base on: they begin at the neighbour along the lower-numbered of its two ring pipes, which is on the low side,
+ *              and rise round. Every other fitting of the ring is re-hung, but for one that the same pipe makes a junction. Where the
+ *              pipe's other fitting starts tags too, the tap's base comes first.
  *
  * A caller finds a run by a tag that somebody read in the trench. No call gives the tag of a fitting.
  */
@@ -50,7 +59,7 @@ extern "C" {
 
 /* The version of these calls: it rises with each change of a call, of an answer or of a constant here. Header and archive of one folder
  * belong together; pnl.pc has the same number. (A list has a version of its own, in its header.) */
-#define PNL_VERSION 1
+#define PNL_VERSION 2
 
 /* What a call may return below 0: the refusal's number made negative. */
 enum pnl_refusal {
@@ -72,8 +81,8 @@ enum pnl_refusal {
 
 /* Sizes of answers, in bytes. */
 enum pnl_size {
-    PNL_SHEET_ROW = 20,                 /* one run of the sheet */
-    PNL_SHEET_MOST = 81920,             /* the largest sheet, 4,096 runs: always enough for pnl_sheet */
+    PNL_SHEET_ROW = 20,                 /* one run or ring of the sheet */
+    PNL_SHEET_MOST = 81920,             /* the largest sheet, 4,096 lines: always enough for pnl_sheet */
     PNL_FIND_SIZE = 4,                  /* the answer of pnl_find */
     PNL_REACH_SIZE = 8,                 /* the answer of pnl_reach */
     PNL_DISTANCE_SIZE = 4               /* the answer of pnl_distance */
@@ -103,25 +112,26 @@ static inline const char *pnl_refusal_text(int32_t returned)
     case PNL_REFUSED_LENGTH: return "the pipe's length is 0 or above 100,000 mm";
     case PNL_REFUSED_TOO_MANY_FITTINGS: return "there are 4,096 fittings already";
     case PNL_REFUSED_TOO_MANY_PIPES: return "there are 4,096 pipes already";
-    case PNL_REFUSED_RING: return "the pipe closes a ring of couplings";
     case PNL_REFUSED_NO_COUPLING: return "no coupling wears that tag, or the fitting is no coupling";
     case PNL_REFUSED_SHORT_ANSWER: return "the answer does not fit in the bytes given for it";
     default: return returned < 0 ? "unknown refusal" : "no refusal";
     }
 }
 
-/* The runs by rising name, PNL_SHEET_ROW bytes each, five numbers: name; the end with the lower fitting number; the other end; how
- * many couplings; length in mm. Returns PNL_SHEET_ROW times the number of runs, which is at most the number of pipes.
+/* The runs and rings by rising name, PNL_SHEET_ROW bytes each, five numbers: name; the end with the lower fitting number; the other end;
+ * how many couplings; length in mm. A ring has its lowest fitting as both ends and all its fittings as couplings. Returns PNL_SHEET_ROW
+ * times the number of runs and rings, which is at most the number of pipes.
  *
  * Refusals: those of the list; PNL_REFUSED_SHORT_ANSWER. */
 int32_t pnl_sheet(const uint8_t *list, size_t list_len, uint8_t *answer, size_t answer_len);
 
-/* The name of the run whose couplings include the one that wears `tag`: one number. Returns PNL_FIND_SIZE.
+/* The name of the run or ring whose couplings include the one that wears `tag`: one number. Returns PNL_FIND_SIZE.
  *
  * Refusals: those of the list; PNL_REFUSED_NO_COUPLING if no coupling wears the tag, as none wears 0; PNL_REFUSED_SHORT_ANSWER. */
 int32_t pnl_find(const uint8_t *list, size_t list_len, uint32_t tag, uint8_t *answer, size_t answer_len);
 
-/* The lengths in mm along its run from a coupling to the low end and to the high end: two numbers. Returns PNL_REACH_SIZE.
+/* The lengths in mm along its run from a coupling to the low end and to the high end: two numbers; in a ring, which has no ends, 0 and the
+ * ring's length. Returns PNL_REACH_SIZE.
  *
  * Refusals: those of the list; PNL_REFUSED_NOT_LANDED if there is no such fitting, whatever the number;
  * PNL_REFUSED_NO_COUPLING if it is a junction; PNL_REFUSED_SHORT_ANSWER. */

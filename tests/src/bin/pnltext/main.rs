@@ -79,7 +79,6 @@ fn words(refusal: u8) -> &'static str {
         7 => "the pipe's length is 0 or above 100,000 mm",
         22 => "there are 4,096 fittings already",
         23 => "there are 4,096 pipes already",
-        24 => "the pipe closes a ring of couplings",
         _ => "examples/README.md says which that is",
     }
 }
