@@ -1,7 +1,7 @@
-use Rattle.lookups.proofs.WritingLaws.{list-parts}
+use Rattle.list.proofs.WritingLaws.{list-parts}
 use borrow.Author.Needs.{needs}
-use Rattle.lookups.proofs.lists.put_list.Statement.{statement}
-use Rattle.lookups.proofs.lists.put_list.Tie as tie
+use Rattle.list.proofs.writing.put_list.Statement.{statement}
+use Rattle.list.proofs.writing.put_list.Tie as tie
 
 returns : tie.Need-returns
 returns c =

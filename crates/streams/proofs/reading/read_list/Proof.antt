@@ -1,11 +1,11 @@
-use Rattle.print.proofs.Input.{more-moved, counted, stop-held, back}
+use Rattle.streams.proofs.Input.{more-moved, counted, stop-held, back}
 use Prim.Native.Nat.{_-_, _≤_}
 use mathlib.Core.Path.{_≡_, sym, _∙_}
 use lib.ListN.{length}
 use native.Mathlib.Omega.{arith}
 use borrow.Author.Needs.{needs, sfits-of}
-use Rattle.print.proofs.reading.read_list.Statement.{statement}
-use Rattle.print.proofs.reading.read_list.Tie as tie
+use Rattle.streams.proofs.reading.read_list.Statement.{statement}
+use Rattle.streams.proofs.reading.read_list.Tie as tie
 
 -- what was read stands in the slice, whose length no read changes
 abbrev Inv-loop : tie.InvT-loop

@@ -1,7 +1,7 @@
-use Rattle.lookups.proofs.WritingLaws.{one-edge}
+use Rattle.list.proofs.WritingLaws.{one-edge}
 use borrow.Author.Needs.{needs}
-use Rattle.lookups.proofs.lists.put_edge_of.Statement.{statement}
-use Rattle.lookups.proofs.lists.put_edge_of.Tie as tie
+use Rattle.list.proofs.writing.put_edge_of.Statement.{statement}
+use Rattle.list.proofs.writing.put_edge_of.Tie as tie
 
 returns : tie.Need-returns
 returns c =

@@ -1,6 +1,6 @@
 // Reading a list, where a read that fails is not taken for the list's end.
 ghost use mathlib.Core.Path.{_≡_};
-ghost use Rattle.print.specs.Input.{stepAfter, Held};
+ghost use Rattle.streams.specs.Input.{stepAfter, Held};
 
 // What reading gave: so many bytes at the slice's start, or that a read failed.
 pub enum ReadAnswer {

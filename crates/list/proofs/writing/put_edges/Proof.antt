@@ -1,11 +1,11 @@
 use native.Mathlib.Omega.{arith}
 use Rattle.text.specs.Pages.{page}
 use Rattle.text.proofs.Pieces.{Comes, comes-start, comes-on, comes-end}
-use Rattle.lookups.specs.Writing.{recordsIn}
-use Rattle.lookups.proofs.WritingLaws.{edge-pieces}
+use Rattle.list.specs.Writing.{recordsIn}
+use Rattle.list.proofs.WritingLaws.{edge-pieces}
 use borrow.Author.Needs.{needs}
-use Rattle.lookups.proofs.lists.put_edges.Statement.{statement}
-use Rattle.lookups.proofs.lists.put_edges.Tie as tie
+use Rattle.list.proofs.writing.put_edges.Statement.{statement}
+use Rattle.list.proofs.writing.put_edges.Tie as tie
 
 -- the edges left end the page as all do
 abbrev Inv-loop : tie.InvT-loop

@@ -1,6 +1,6 @@
-use Rattle.print.proofs.Input.{step-failed, step-more, more-fits, step-end}
-use Rattle.print.proofs.reading.step_after.Statement.{statement}
-use Rattle.print.proofs.reading.step_after.Tie as tie
+use Rattle.streams.proofs.Input.{step-failed, step-more, more-fits, step-end}
+use Rattle.streams.proofs.reading.step_after.Statement.{statement}
+use Rattle.streams.proofs.reading.step_after.Tie as tie
 
 returns : tie.Need-returns
 returns c = step-failed _ _ (c .before .fits .got) (c .if1 .taken)

@@ -10,7 +10,7 @@ ghost use mathlib.Core.List.{[], _∷_};
 ghost use Rattle.model.specs.Basics.{upTo};
 ghost use Rattle.counters.specs.Answers.{countsIn};
 ghost use Rattle.text.specs.Pages.{page, write};
-ghost use Rattle.lookups.specs.Writing.{listIn, recordsIn};
+ghost use Rattle.list.specs.Writing.{listIn, recordsIn};
 
 fn put_edge_of(out: &mut [u8], at: usize, ends: &[u16], lengths: &[u32], edge: u16) -> usize
     ensures { λ r. ⌜ page (now (out .exit)) r

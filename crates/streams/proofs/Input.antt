@@ -15,11 +15,11 @@ use mir.Val.{Fits, SFits, toZ, ofZ}
 use mir.ValLaws.{toZ-ofZ}
 use Rattle.io.specs.Counts.{Counts}
 use Rattle.libc.specs.Io.{Moved}
-use Rattle.print.specs.Input.{stepAfter, Held}
-use Rattle.print.specs.declared.reading.ReadAnswer.{ReadAnswer}
-use Rattle.print.specs.declared.reading.ReadAnswer.the-variants.{Bytes, Failed}
-use Rattle.print.specs.declared.reading.Step.{Step}
-use Rattle.print.specs.declared.reading.Step.the-variants.{More, Stop}
+use Rattle.streams.specs.Input.{stepAfter, Held}
+use Rattle.streams.specs.declared.reading.ReadAnswer.{ReadAnswer}
+use Rattle.streams.specs.declared.reading.ReadAnswer.the-variants.{Bytes, Failed}
+use Rattle.streams.specs.declared.reading.Step.{Step}
+use Rattle.streams.specs.declared.reading.Step.the-variants.{More, Stop}
 
 -- a test that held, against what it tests
 refused : (b : Bool) → b ≡ true → (T b → ⊥) → ⊥
