@@ -49,7 +49,7 @@ unfolding countsOf
 edges-few r g = room r g
 
 module _ (bs out : List ℕ) (d : ReadingIn) (short : length bs ≤ 65536) (long : roomBytes ≤ length out) (grown : d ≡ landListIn cleared noCounts bs) where
-  reg : Register
+  abbrev reg : Register
   reg = (growList bs) .register
 
   shown : d ≡ shownRead (growList bs)
