@@ -14,7 +14,7 @@ stepAfter done (negsuc k) = Stop Failed
 stepAfter done (pos zero) = Stop (Bytes done)
 stepAfter done (pos (suc k)) = More (suc k)
 
--- the bytes that were read stand in the slice
+-- no more bytes are counted than the slice has; which they are, no contract of the library says
 abbrev pub Held : ReadAnswer → List ℕ → Type 0
 Held (Bytes n) xs = Counts n xs
 Held Failed xs = Unit {0}
