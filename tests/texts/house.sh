@@ -15,7 +15,7 @@ make_list() {
 # explain_stop FILE < SHEET: where the sheet ends with a stop, says on standard error at which line of a text that is; and of a list without
 # its mark, whether it looks like a text under another name.
 explain_stop() {
-    local last record refusal line first=$'^(\xEF\xBB\xBF)?[[:space:]]*(#|(fittings?|pipe)[[:space:]])'
+    local last record refusal line first=$'^(\xEF\xBB\xBF)?[[:space:]]*(fittings?|pipe)([[:space:]]|$)'
     last=$(tail -n 1)
     [[ $last =~ ^stopped\ ([0-9]+)\ ([0-9]+)$ ]] || return 0
     record=${BASH_REMATCH[1]} refusal=${BASH_REMATCH[2]}

@@ -1,3 +1,4 @@
 pub mod HeaderLaws
 pub mod RecordLaws
 pub mod Passed
+pub mod WritingLaws

@@ -1,20 +1,11 @@
--- The list written to a slice, as functions that mirror the code. Of the tables they read the ends and the lengths alone.
+-- The list written to a slice, as a function that mirrors the code.
 use Prim.Native.Nat.{ℕ}
-use mathlib.Core.List.{List, [], map, _++_}
-use lib.ListN.{length, replicate}
-use Rattle.model.specs.Basics.{upTo}
-use Rattle.model.specs.Format.{edgeRecords, header}
+use mathlib.Core.List.{List}
+use lib.ListN.{length}
 use Rattle.model.specs.Queries.{Reply, wrote}
-use Rattle.model.specs.Tables.{Counts, edgeIn}
+use Rattle.model.specs.Tables.{Counts}
 use Rattle.model.specs.Calls.{Answer, fills}
-use Rattle.tables.specs.Steps.{tables}
-
--- the records of edges, by their numbers
-unfoldable pub recordsIn : List ℕ → List ℕ → List ℕ → List ℕ
-recordsIn ends lengths ds = edgeRecords (map (edgeIn (tables [] [] ends lengths [])) ds)
-
-unfoldable pub listIn : List ℕ → List ℕ → Counts → List ℕ
-listIn ends lengths c = header ++ (replicate (c .vertices) 0x46 ++ recordsIn ends lengths (upTo (c .edges)))
+use Rattle.list.specs.Writing.{listIn}
 
 -- a slice, and the answer
 abbrev pub answered : List ℕ → Reply → Answer

@@ -1,9 +1,9 @@
 // Write: the list of the register (document 02, S-1) to the front of a lent slice of bytes, or 9.
-use crate::lists::put_list;
 use admission::gate::Gate;
 use admission::gate::pass_gate;
 use counters::counts::Counts;
 use counters::refusals::Refusal;
+use list::writing::put_list;
 ghost use mathlib.Core.Path.{_≡_};
 ghost use Prim.Native.Nat.{_+_, _*_};
 ghost use Rattle.model.specs.Calls.{step, writes};

@@ -1,24 +1,21 @@
-// The printing program: reads one list on standard input and prints its sheet. All that it prints is built by `print_list`. What fails is
-// said on standard error: a Rattle program has no exit status of its own, so ./run gives one.
+// The printing program: reads one list on standard input and prints its sheet. All that it prints is built by `print_list`.
 mod listing;
-mod reading;
 
 use listing::MAX_LIST;
 use listing::ROOM;
 use listing::print_list;
-use reading::ReadAnswer;
-use reading::read_list;
-
-fn complain(what: &[u8]) {
-    io::write_all(libc::STDERR_FILENO, what);
-}
+use streams::reading::ReadAnswer;
+use streams::reading::read_list;
+use streams::writing::complain;
+use streams::writing::write_output;
 
 fn write_listing(list: &[u8]) {
     let mut out = [0u8; ROOM];
     let k = print_list(list, &mut out);
-    if !io::write_all(libc::STDOUT_FILENO, &out[..k]) {
-        complain(b"print: the listing could not be written to its end\n");
-    }
+    write_output(
+        &out[..k],
+        b"print: the listing could not be written to its end\n",
+    );
 }
 
 fn main() {

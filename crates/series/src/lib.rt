@@ -1,1 +1,1 @@
-// The contracts of the seven calls are the equations that demand 3 speaks of (proofs/CallSteps). No code.
+// The contracts of the seven calls are the equations with `step` that series are made of (proofs/CallSteps). No code.

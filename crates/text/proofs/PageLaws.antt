@@ -100,3 +100,9 @@ pub write-front : (xs bs ys : List ℕ) (at : ℕ) → length xs ≤ length bs �
 unfolding inFront
 write-front xs bs ys at h e =
     ap (λ (p : Page). p .slice) e ∙ write-sets xs bs 0 (omega arith) ∙ sets-eq xs bs 0 (omega arith) ∙ rw zero-add
+
+-- all of a text that fits stands at the front
+pub write-held : (xs bs : List ℕ) (q : Page) → q ≡ write xs (page bs 0) → length xs ≤ length bs → (q .at ≤ length (q .slice)) × (take (q .at) (q .slice) ≡ xs)
+write-held xs bs q e h =
+    let w = write-fits xs bs 0 (omega arith) in
+    rw e (omega (arith, w .next, w .long), w .front)

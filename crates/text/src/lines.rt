@@ -1,8 +1,10 @@
-// Lines of two, four or five numbers: parted by one space, ended by the byte 10.
+// Lines of two, four or five numbers: parted by one space, ended by the byte 10; and the line of a stop.
 use crate::writing::put_field;
+use crate::writing::put_text;
 ghost use mathlib.Core.Path.{_≡_};
 ghost use mathlib.Core.List.{[], _∷_};
-ghost use Rattle.model.specs.Printing.{line};
+ghost use Rattle.model.specs.Format.{stopped};
+ghost use Rattle.model.specs.Printing.{line, stopLine};
 ghost use Rattle.text.specs.Pages.{page, write};
 
 const NEWLINE: u8 = 10;
@@ -27,4 +29,12 @@ pub fn put_line5(out: &mut [u8], at: usize, a: u64, b: u64, c: u64, d: u64, e: u
 {
     let second = put_field(out, at, a, b' ');
     put_line4(out, second, b, c, d, e)
+}
+
+// "stopped RECORD REFUSAL", by the record's number and the refusal's.
+pub fn put_stopped(out: &mut [u8], at: usize, number: u64, refusal: u64) -> usize
+    ensures { λ r. ⌜ page (now (out .exit)) r ≡ write (stopLine (stopped number refusal)) (page (now (out .entry)) at) ⌝ }
+{
+    let next = put_text(out, at, b"stopped ");
+    put_line2(out, next, number, refusal)
 }

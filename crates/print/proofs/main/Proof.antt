@@ -1,4 +1,4 @@
-use Rattle.print.proofs.Input.{bytes-held}
+use Rattle.streams.proofs.Input.{bytes-held}
 use borrow.Author.Needs.{needs}
 use Rattle.print.proofs.main.Statement.{statement}
 use Rattle.print.proofs.main.Tie as tie

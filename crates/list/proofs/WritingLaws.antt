@@ -1,0 +1,65 @@
+-- The list written part by part, its length, and that what is written over the tables of a register is its list.
+use mathlib.Core.Path.{_≡_, refl, sym, ap, _∙_}
+use Prim.Native.Nat.{ℕ, _+_, _*_}
+use native.Mathlib.Omega.{arith}
+use mathlib.Core.List.{List, [], _∷_, _++_, append-nil}
+use lib.ListN.{length, getD, replicate, length-map}
+use Rattle.model.specs.Basics.{upTo}
+use Rattle.model.specs.Register.{Register}
+use Rattle.model.specs.Format.{edgeBytes, edgeRecords, header, listOf, written}
+use Rattle.model.specs.Tables.{Tables, Counts, countsOf, edgeIn, edgesIn, tablesOf}
+use Rattle.model.proofs.Basics.Lists.{length-upTo}
+use Rattle.model.proofs.Registers.ReadBack.{edges-read}
+use Rattle.model.proofs.Registers.Written.{list-long}
+use Rattle.tables.specs.Steps.{tables}
+use Rattle.text.specs.Pages.{Page, write}
+use Rattle.text.proofs.PageLaws.{write-two}
+use Rattle.text.proofs.Pieces.{Pieces}
+use Rattle.list.specs.Writing.{listIn, recordsIn}
+
+module _ (ends lengths : List ℕ) where
+  -- ---- the edges, one after the other
+
+  pub edge-pieces : Pieces (recordsIn ends lengths)
+  unfolding recordsIn edgeRecords
+  edge-pieces =
+      record {
+        none = refl;
+        first = λ d ds. ap (λ (bs : List ℕ). bs ++ recordsIn ends lengths ds) (sym (append-nil (edgeBytes (edgeIn (tables [] [] ends lengths []) d))));
+      }
+
+  pub one-edge : (d a b l : ℕ) (p q : Page) → a ≡ getD ends (2 * d) 0 → b ≡ getD ends (2 * d + 1) 0 → l ≡ getD lengths d 0
+      → q ≡ write (edgeBytes (record { first = a; second = b; len = l })) p → q ≡ write (recordsIn ends lengths (d ∷ [])) p
+  unfolding recordsIn edgeRecords edgeIn
+  one-edge d a b l p q e f g w = rw append-nil (rw (e, f, g) at w)
+
+  module _ (c : Counts) where
+    -- ---- the list, part by part
+
+    pub list-parts : (p q r s : Page) → q ≡ write header p → r ≡ write (replicate (c .vertices) 0x46) q
+        → s ≡ write (recordsIn ends lengths (upTo (c .edges))) r → s ≡ write (listIn ends lengths c) p
+    unfolding listIn
+    list-parts p q r s e f g = write-two _ _ p q s e (write-two _ _ q r s f g)
+
+    -- it is the list of the tables' own vertices and edges, whatever the other tables hold
+    list-is : (degrees sides labels : List ℕ) → listIn ends lengths c ≡ listOf (c .vertices) (edgesIn (tables degrees sides ends lengths labels) (c .edges))
+    unfolding listIn recordsIn listOf edgesIn edgeIn
+    list-is degrees sides labels = refl
+
+    length-edges : (t : Tables) (n : ℕ) → length (edgesIn t n) ≡ n
+    unfolding edgesIn
+    length-edges t n = length-map (upTo n) (edgeIn t) ∙ length-upTo n
+
+    pub list-bytes : length (listIn ends lengths c) ≡ 5 + c .vertices + 9 * c .edges
+    list-bytes =
+        let t = tables [] [] ends lengths [] in
+        ap length (list-is [] [] []) ∙ omega (arith, list-long (c .vertices) (edgesIn t (c .edges)), length-edges t (c .edges))
+
+-- ---- of a register
+
+list-of : (r : Register) → listOf ((countsOf r) .vertices) (edgesIn (tablesOf r) ((countsOf r) .edges)) ≡ written r
+unfolding countsOf written
+list-of r = ap (listOf (r .vertices)) (edges-read r)
+
+pub list-written : (r : Register) (t : Tables) (c : Counts) → t ≡ tablesOf r → c ≡ countsOf r → listIn (t .ends) (t .lengths) c ≡ written r
+list-written r t c e f = list-is (t .ends) (t .lengths) c (t .degrees) (t .sides) (t .labels) ∙ rw (e, f) (list-of r)

@@ -1,0 +1,15 @@
+-- The list of a register, as functions that mirror the code. Of the tables they read the ends and the lengths alone.
+use Prim.Native.Nat.{ℕ}
+use mathlib.Core.List.{List, [], map, _++_}
+use lib.ListN.{replicate}
+use Rattle.model.specs.Basics.{upTo}
+use Rattle.model.specs.Format.{edgeRecords, header}
+use Rattle.model.specs.Tables.{Counts, edgeIn}
+use Rattle.tables.specs.Steps.{tables}
+
+-- the records of edges, by their numbers
+unfoldable pub recordsIn : List ℕ → List ℕ → List ℕ → List ℕ
+recordsIn ends lengths ds = edgeRecords (map (edgeIn (tables [] [] ends lengths [])) ds)
+
+unfoldable pub listIn : List ℕ → List ℕ → Counts → List ℕ
+listIn ends lengths c = header ++ (replicate (c .vertices) 0x46 ++ recordsIn ends lengths (upTo (c .edges)))
