@@ -10,6 +10,7 @@ pub mod Ringing
 pub mod Meeting
 pub mod Splitting
 pub mod SplittingBoth
+pub mod Standing
 pub mod Costs
 pub mod Opening
 pub mod Extending
