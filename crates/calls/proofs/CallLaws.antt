@@ -7,7 +7,7 @@ use mathlib.Core.Option.{none}
 use mathlib.Core.List.{List, []}
 use Rattle.model.specs.Register.{Register, empty}
 use Rattle.model.specs.Format.{Read, growList, landList}
-use Rattle.model.specs.Queries.{Reply, read, refuses}
+use Rattle.model.specs.Queries.{read, refuses}
 use Rattle.model.specs.Tables.{Tables, Counts, fits, cleared, noCounts, storedOf}
 use Rattle.model.specs.Calls.{Call, grows, lands, allFit, registerFor, scratchAfter, effect, readEffect, lentSlice, step}
 use Rattle.model.proofs.Basics.Booleans.{and-true}
@@ -22,12 +22,12 @@ use Rattle.admission.proofs.GateLaws.{opened}
 use Rattle.model.proofs.Series.Calls.{outcomeOf, scratch-cleared, step-admits, step-fits, step-refused}
 
 module _ (t : Tables) (c : Counts) (s : Tables) (bs : List ℕ) where
-  -- a list that was read into the register r, with the counts and the answer that were made of the reading
-  read-out : (call : Call) (r : Register) (g : Read) (d : ReadingIn) (k : Counts) (a : Reply) (s′ : Tables) → step call (lent t c s) ≡ outcomeOf call r
-      → effect call r ≡ readEffect g → d ≡ shownRead g → (k ≡ d .counts) × (a ≡ read (d .stop)) → s′ ≡ cleared
-      → outcome (d .tables) k s′ [] a ≡ step call (lent t c s)
+  -- a list that was read into the register r
+  read-out : (call : Call) (r : Register) (g : Read) (d : ReadingIn) (s′ : Tables) → step call (lent t c s) ≡ outcomeOf call r
+      → effect call r ≡ readEffect g → d ≡ shownRead g → s′ ≡ cleared
+      → outcome (d .tables) (d .counts) s′ [] (read (d .stop)) ≡ step call (lent t c s)
   unfolding outcomeOf readEffect storedOf
-  read-out call r g d k a s′ p q f made e = rw (made .0, made .1, f, e, p, outcomeOf, q)
+  read-out call r g d s′ p q f e = rw (f, e, p, outcomeOf, q)
 
   -- ---- grow
 
@@ -36,25 +36,25 @@ module _ (t : Tables) (c : Counts) (s : Tables) (bs : List ℕ) where
   unfolding allFit lentSlice
   grow-refused t′ s′ r f a b e = rw (a, b, e) (sym (step-refused (grows bs) (lent t c s) (sym f ∙ e)))
 
-  pub grow-done : (t′ s′ : Tables) (r : Bool) (d : ReadingIn) (m : Counts) (x : Reply) → r ≡ (fits t && fits s) → t′ ≡ zeroedIf r t
-      → s′ ≡ zeroedIf r s → r ≡ true → d ≡ landListIn t′ noCounts bs → (m ≡ d .counts) × (x ≡ read (d .stop))
-      → outcome (d .tables) m s′ [] x ≡ step (grows bs) (lent t c s)
+  pub grow-done : (t′ s′ : Tables) (r : Bool) (d : ReadingIn) → r ≡ (fits t && fits s) → t′ ≡ zeroedIf r t
+      → s′ ≡ zeroedIf r s → r ≡ true → d ≡ landListIn t′ noCounts bs
+      → outcome (d .tables) (d .counts) s′ [] (read (d .stop)) ≡ step (grows bs) (lent t c s)
   unfolding allFit registerFor effect
-  grow-done t′ s′ r d m x f a b e q made =
+  grow-done t′ s′ r d f a b e q =
       let both = and-true (fits t) (fits s) (sym f ∙ e) in
       let i : t′ ≡ cleared = a ∙ rw e (zeroed-cleared t (both .0)) in
       let j : s′ ≡ cleared = b ∙ rw e (zeroed-cleared s (both .1)) in
       let g : landListIn t′ noCounts bs ≡ shownRead (growList bs) = rw i (list-leaves bs) in
-      read-out (grows bs) empty (growList bs) d m x s′ (step-admits (grows bs) (lent t c s) empty (sym f ∙ e) refl) refl (q ∙ g) made j
+      read-out (grows bs) empty (growList bs) d s′ (step-admits (grows bs) (lent t c s) empty (sym f ∙ e) refl) refl (q ∙ g) j
 
   -- ---- land
 
-  pub land-done : (s′ : Tables) (d : ReadingIn) (m : Counts) (x : Reply) → none ≡ barred (lent t c s) → s′ ≡ scratchAfter (lent t c s)
-      → d ≡ landListIn t c bs → (m ≡ d .counts) × (x ≡ read (d .stop)) → outcome (d .tables) m s′ [] x ≡ step (lands bs) (lent t c s)
+  pub land-done : (s′ : Tables) (d : ReadingIn) → none ≡ barred (lent t c s) → s′ ≡ scratchAfter (lent t c s)
+      → d ≡ landListIn t c bs → outcome (d .tables) (d .counts) s′ [] (read (d .stop)) ≡ step (lands bs) (lent t c s)
   unfolding effect
-  land-done s′ d m x h e q made =
+  land-done s′ d h e q =
       let o = opened (lent t c s) h in
       let r = o .register in
       let g : landListIn t c bs ≡ shownRead (landList r bs) = rw (held-tables (o .is), held-counts (o .is)) at (list-agrees r bs (o .is .reachable)) in
-      read-out (lands bs) r (landList r bs) d m x s′ (step-fits (lands bs) (lent t c s) r (o .fit) (o .holds)) refl (q ∙ g) made
+      read-out (lands bs) r (landList r bs) d s′ (step-fits (lands bs) (lent t c s) r (o .fit) (o .holds)) refl (q ∙ g)
       (e ∙ scratch-cleared (lent t c s) (o .fit))

@@ -1,2 +1,6 @@
 pub mod CallLaws
+pub mod Apart
+pub mod TakenApart
+pub mod Single
+pub mod WithList
 pub mod LentCounts

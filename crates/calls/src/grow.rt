@@ -1,22 +1,23 @@
 // Grow: a list landed on the cleared register.
 use crate::answered::Answered;
-use crate::answered::answer_reading;
 use admission::gate::clear_if_fit;
 use counters::answers::ListAnswer;
 use counters::counts::Counts;
 use counters::refusals::Refusal;
-use register::records::grow_list;
+use register::records::land_list;
 ghost use mathlib.Core.Path.{_≡_};
 ghost use mathlib.Core.List.{[]};
 ghost use Rattle.model.specs.Calls.{grows, step};
-ghost use Rattle.counters.specs.Answers.{countsIn, listReply};
+ghost use Rattle.counters.specs.Answers.{counts, countsIn, listReply};
 ghost use Rattle.tables.specs.Steps.{tables};
 ghost use Rattle.admission.specs.Lent.{lent, outcome};
 
-// The counts go in and come back by value: `grow` takes its counts apart for it. `grow_from` promises the same and goes through `grow`.
-// `grow_with` is open, since the proof that `grow` and `land` share names its contract.
-pub fn grow_with(
-    counts: Counts,
+// The head's four numbers are lent one by one: `grow` takes the caller's counts apart.
+fn grow_with(
+    vertices: &mut u16,
+    edges: &mut u16,
+    blocks: &mut u16,
+    relabellings: &mut u32,
     degrees: &mut [u16],
     sides: &mut [u16],
     ends: &mut [u16],
@@ -28,11 +29,13 @@ pub fn grow_with(
     slengths: &mut [u32],
     slabels: &mut [u32],
     list: &[u8],
-) -> Answered
-    ensures { λ r. ⌜ outcome (tables (now (degrees .exit)) (now (sides .exit)) (now (ends .exit)) (now (lengths .exit)) (now (labels .exit))) (countsIn (r .counts))
-        (tables (now (sdegrees .exit)) (now (ssides .exit)) (now (sends .exit)) (now (slengths .exit)) (now (slabels .exit))) [] (listReply (r .answer))
+) -> ListAnswer
+    ensures { λ r. ⌜ outcome (tables (now (degrees .exit)) (now (sides .exit)) (now (ends .exit)) (now (lengths .exit)) (now (labels .exit)))
+        (counts (now (vertices .exit)) (now (edges .exit)) (now (blocks .exit)) (now (relabellings .exit)))
+        (tables (now (sdegrees .exit)) (now (ssides .exit)) (now (sends .exit)) (now (slengths .exit)) (now (slabels .exit))) [] (listReply r)
         ≡ step (grows (now (list .entry)))
-        (lent (tables (now (degrees .entry)) (now (sides .entry)) (now (ends .entry)) (now (lengths .entry)) (now (labels .entry))) (countsIn counts)
+        (lent (tables (now (degrees .entry)) (now (sides .entry)) (now (ends .entry)) (now (lengths .entry)) (now (labels .entry)))
+        (counts (now (vertices .entry)) (now (edges .entry)) (now (blocks .entry)) (now (relabellings .entry)))
         (tables (now (sdegrees .entry)) (now (ssides .entry)) (now (sends .entry)) (now (slengths .entry)) (now (slabels .entry)))) ⌝ }
 {
     if !clear_if_fit(
@@ -47,13 +50,25 @@ pub fn grow_with(
         slengths,
         slabels,
     ) {
-        return Answered {
-            counts,
-            answer: ListAnswer::Refused(Refusal::WrongSize),
-        };
+        return ListAnswer::Refused(Refusal::WrongSize);
     }
-    let reading = grow_list(degrees, sides, ends, lengths, labels, list);
-    answer_reading(reading)
+    *vertices = 0;
+    *edges = 0;
+    *blocks = 0;
+    *relabellings = 0;
+    let stop = land_list(
+        vertices,
+        edges,
+        blocks,
+        relabellings,
+        degrees,
+        sides,
+        ends,
+        lengths,
+        labels,
+        list,
+    );
+    ListAnswer::Read(stop)
 }
 
 // What outsiders call: the head counters are updated in the caller's copy.
@@ -77,9 +92,11 @@ pub fn grow(
         (lent (tables (now (degrees .entry)) (now (sides .entry)) (now (ends .entry)) (now (lengths .entry)) (now (labels .entry))) (countsIn (now (counts .entry)))
         (tables (now (sdegrees .entry)) (now (ssides .entry)) (now (sends .entry)) (now (slengths .entry)) (now (slabels .entry)))) ⌝ }
 {
-    let c = *counts;
-    let r = grow_with(
-        c,
+    grow_with(
+        &mut counts.vertices,
+        &mut counts.edges,
+        &mut counts.blocks,
+        &mut counts.relabellings,
         degrees,
         sides,
         ends,
@@ -91,13 +108,10 @@ pub fn grow(
         slengths,
         slabels,
         list,
-    );
-    *counts = r.counts;
-    r.answer
+    )
 }
 
-// For callers that have the counts by value and want the public call: the caller's copy is a local here. `grow_with` promises the same,
-// but is what `grow` stands on.
+// For callers that have the counts by value: the caller's copy is a local here.
 pub fn grow_from(
     c: Counts,
     degrees: &mut [u16],

@@ -1,6 +1,4 @@
 // Land: a list landed on the register as it is, once it has passed its replay.
-use crate::answered::Answered;
-use crate::answered::answer_reading;
 use admission::gate::Gate;
 use admission::gate::pass_gate;
 use counters::answers::ListAnswer;
@@ -9,13 +7,16 @@ use register::records::land_list;
 ghost use mathlib.Core.Path.{_≡_};
 ghost use mathlib.Core.List.{[]};
 ghost use Rattle.model.specs.Calls.{lands, step};
-ghost use Rattle.counters.specs.Answers.{countsIn, listReply};
+ghost use Rattle.counters.specs.Answers.{counts, countsIn, listReply};
 ghost use Rattle.tables.specs.Steps.{tables};
 ghost use Rattle.admission.specs.Lent.{lent, outcome};
 
-// The counts go in and come back by value: `land` takes its counts apart for it.
+// The head's four numbers are lent one by one: `land` takes the caller's counts apart.
 fn land_with(
-    counts: Counts,
+    vertices: &mut u16,
+    edges: &mut u16,
+    blocks: &mut u16,
+    relabellings: &mut u32,
     degrees: &mut [u16],
     sides: &mut [u16],
     ends: &mut [u16],
@@ -27,13 +28,21 @@ fn land_with(
     slengths: &mut [u32],
     slabels: &mut [u32],
     list: &[u8],
-) -> Answered
-    ensures { λ r. ⌜ outcome (tables (now (degrees .exit)) (now (sides .exit)) (now (ends .exit)) (now (lengths .exit)) (now (labels .exit))) (countsIn (r .counts))
-        (tables (now (sdegrees .exit)) (now (ssides .exit)) (now (sends .exit)) (now (slengths .exit)) (now (slabels .exit))) [] (listReply (r .answer))
+) -> ListAnswer
+    ensures { λ r. ⌜ outcome (tables (now (degrees .exit)) (now (sides .exit)) (now (ends .exit)) (now (lengths .exit)) (now (labels .exit)))
+        (counts (now (vertices .exit)) (now (edges .exit)) (now (blocks .exit)) (now (relabellings .exit)))
+        (tables (now (sdegrees .exit)) (now (ssides .exit)) (now (sends .exit)) (now (slengths .exit)) (now (slabels .exit))) [] (listReply r)
         ≡ step (lands (now (list .entry)))
-        (lent (tables (now (degrees .entry)) (now (sides .entry)) (now (ends .entry)) (now (lengths .entry)) (now (labels .entry))) (countsIn counts)
+        (lent (tables (now (degrees .entry)) (now (sides .entry)) (now (ends .entry)) (now (lengths .entry)) (now (labels .entry)))
+        (counts (now (vertices .entry)) (now (edges .entry)) (now (blocks .entry)) (now (relabellings .entry)))
         (tables (now (sdegrees .entry)) (now (ssides .entry)) (now (sends .entry)) (now (slengths .entry)) (now (slabels .entry)))) ⌝ }
 {
+    let counts = Counts {
+        vertices: *vertices,
+        edges: *edges,
+        blocks: *blocks,
+        relabellings: *relabellings,
+    };
     let passed = pass_gate(
         degrees,
         sides,
@@ -49,13 +58,21 @@ fn land_with(
     );
     match passed {
         Gate::Open => {
-            let reading = land_list(degrees, sides, ends, lengths, labels, counts, list);
-            answer_reading(reading)
+            let stop = land_list(
+                vertices,
+                edges,
+                blocks,
+                relabellings,
+                degrees,
+                sides,
+                ends,
+                lengths,
+                labels,
+                list,
+            );
+            ListAnswer::Read(stop)
         }
-        Gate::Refused(refusal) => Answered {
-            counts,
-            answer: ListAnswer::Refused(refusal),
-        },
+        Gate::Refused(refusal) => ListAnswer::Refused(refusal),
     }
 }
 
@@ -80,9 +97,11 @@ pub fn land(
         (lent (tables (now (degrees .entry)) (now (sides .entry)) (now (ends .entry)) (now (lengths .entry)) (now (labels .entry))) (countsIn (now (counts .entry)))
         (tables (now (sdegrees .entry)) (now (ssides .entry)) (now (sends .entry)) (now (slengths .entry)) (now (slabels .entry)))) ⌝ }
 {
-    let c = *counts;
-    let r = land_with(
-        c,
+    land_with(
+        &mut counts.vertices,
+        &mut counts.edges,
+        &mut counts.blocks,
+        &mut counts.relabellings,
         degrees,
         sides,
         ends,
@@ -94,7 +113,5 @@ pub fn land(
         slengths,
         slabels,
         list,
-    );
-    *counts = r.counts;
-    r.answer
+    )
 }

@@ -1,4 +1,5 @@
 -- Document 01's values of the answers to grow and land, and of the head.
+use Prim.Native.Nat.{ℕ}
 use Rattle.model.specs.Format as format
 use Rattle.model.specs.Queries.{Reply, read, refuses}
 use Rattle.model.specs.Tables as T
@@ -17,6 +18,10 @@ abbrev pub listReply : ListAnswer → Reply
 listReply (Read s) = read (stopIn s)
 listReply (Refused x) = refuses (numberOf x)
 
+-- the head's four numbers
+abbrev pub counts : ℕ → ℕ → ℕ → ℕ → T.Counts
+counts vertices edges blocks relabellings =
+    record { vertices = vertices; edges = edges; blocks = blocks; relabellings = relabellings }
+
 abbrev pub countsIn : Counts → T.Counts
-countsIn c =
-    record { vertices = c .vertices; edges = c .edges; blocks = c .blocks; relabellings = c .relabellings }
+countsIn c = counts (c .vertices) (c .edges) (c .blocks) (c .relabellings)

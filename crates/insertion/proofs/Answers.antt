@@ -13,11 +13,12 @@ use Rattle.model.specs.Basics.{if_then_else_, maxEdges, maxLength}
 use Rattle.model.specs.Graph.{Edge}
 use Rattle.model.specs.Cases.{Case, classOf, caseOf}
 use Rattle.model.specs.Tables.{Tables, Counts}
+use Rattle.counters.specs.Answers.{counts}
 use Rattle.counters.specs.Numbers.{within}
 use Rattle.counters.proofs.Within.{within-yes, within-below, within-above}
 use Rattle.tables.specs.Steps.{tables, setPair, more16, sum32}
 use Rattle.insertion.specs.Placing.{placed, placeIn}
-use Rattle.insertion.specs.Insertion.{counts, done, landingIn, insertIn, passed, failed, checkIn, landChecked, landIn}
+use Rattle.insertion.specs.Insertion.{done, landingIn, insertIn, passed, failed, checkIn, landChecked, landIn}
 use Rattle.insertion.specs.Meaning.{checkedIn}
 use Rattle.insertion.specs.declared.landing.Checked.{Checked}
 

@@ -6,12 +6,9 @@ use lib.Dec.{eqb, leb, ltb}
 use Rattle.model.specs.Basics.{if_then_else_, maxEdges, maxLength}
 use Rattle.model.specs.Graph.{Edge}
 use Rattle.model.specs.Tables.{Tables, Counts}
+use Rattle.counters.specs.Answers.{counts}
 use Rattle.tables.specs.Steps.{tables, setPair, more16, sum32}
 use Rattle.insertion.specs.Placing.{placedBy}
-
-abbrev pub counts : ℕ → ℕ → ℕ → ℕ → Counts
-counts vertices edges blocks relabellings =
-    record { vertices = vertices; edges = edges; blocks = blocks; relabellings = relabellings }
 
 -- the counts after a landing and whether a ring may stand then, or its refusal
 pub data AnswerIn : Type 0 where

@@ -1,23 +1,18 @@
-use Rattle.calls.proofs.CallLaws.{land-done}
-use Rattle.admission.proofs.QueryLaws.{query-refused}
-use Rattle.model.specs.Calls.{lands, registerFor, lentSlice}
-use Rattle.admission.specs.Gate.{gateRefusal}
 use mathlib.Core.Path.{refl, sym, ap, _∙_}
+use Rattle.admission.specs.Gate.{gateRefusal}
+use Rattle.model.specs.Calls.{lands, registerFor, lentSlice}
+use Rattle.admission.proofs.QueryLaws.{query-refused}
+use Rattle.calls.proofs.CallLaws.{land-done}
 use borrow.Author.Needs.{needs}
 use Rattle.calls.proofs.land.land_with.Statement.{statement}
 use Rattle.calls.proofs.land.land_with.Tie as tie
 
-same-length-6 : tie.Need-same-length-6
-same-length-6 c =
-    let at-pass-gate = c .before .before .before .before .before .before .before .before .before .before .before .before .before .before .before .before .before .before .before .before .before .before .before .before .before .before .before .before .before in
-    at-pass-gate .pass-gate .kept .1 .1 .1 .1 .1 .1 .0
-
 returns : tie.Need-returns
 returns c =
-    let at-land-list = c .before .before .before .before .before .before .before .before .before .before .before in
-    let at-enum-told = at-land-list .before .before .before .before .before .before in
+    let at-land-list = c .before .before .before .before .before .before .before .before .before .before in
+    let at-enum-told = at-land-list .before .before .before .before .before .before .before .before .before .before in
     let at-pass-gate = at-enum-told .before .before .before .before .before .before .before .before .before .before .before .before in
-    land-done _ _ _ _ _ _ _ _ (ap gateRefusal (sym (at-enum-told .enum-told .given .1)) ∙ at-pass-gate .pass-gate .ensures .0) (at-pass-gate .pass-gate .ensures .1) (at-land-list .land-list .ensures) (c .answer-reading .ensures)
+    land-done _ _ _ _ _ _ (ap gateRefusal (sym (at-enum-told .enum-told .given .1)) ∙ at-pass-gate .pass-gate .ensures .0) (at-pass-gate .pass-gate .ensures .1) (at-land-list .land-list .ensures)
 
 returns-2 : tie.Need-returns-2
 unfolding registerFor lentSlice
@@ -33,14 +28,13 @@ land-with-spec =
     (λ c κs. search needs)
     (λ c. search needs)
     (λ c κs. search needs)
-    (λ c κs. search needs)
     (λ c. search needs)
     (λ c. search needs)
     (λ c. search needs)
     (λ c. search needs)
     (λ c. search needs)
     (λ c. search needs)
-    same-length-6
+    (λ c. search needs)
     (λ c. search needs)
     (λ c. search needs)
     (λ c. search needs)

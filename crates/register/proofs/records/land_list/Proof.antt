@@ -1,6 +1,6 @@
-use Rattle.register.proofs.RecordLaws.{list-records, list-bad}
-use Rattle.list.specs.Reading.{headerIn}
 use mathlib.Core.Path.{ap, sym, _∙_}
+use Rattle.list.specs.Reading.{headerIn}
+use Rattle.register.proofs.RecordLaws.{list-records, list-bad}
 use borrow.Author.Needs.{needs}
 use Rattle.register.proofs.records.land_list.Statement.{statement}
 use Rattle.register.proofs.records.land_list.Tie as tie
@@ -8,7 +8,7 @@ use Rattle.register.proofs.records.land_list.Tie as tie
 returns : tie.Need-returns
 returns c =
     let at-land-records = c .before .before .before .before .before .before .before .before .before .before in
-    let at-header = at-land-records .before .before .before .before .before .before .before in
+    let at-header = at-land-records .before .before .before .before .before .before .before .before .before .before .before in
     let at-read-header = at-header .before .before in
     list-records _ _ _ _ _ (ap headerIn (sym (at-header .header .given .1)) ∙ at-read-header .read-header .ensures) (at-land-records .land-records .ensures)
 
