@@ -5,12 +5,11 @@ use Prim.Native.Nat.{ℕ, zero, suc, _+_, _<_}
 use native.Mathlib.Omega.{arith}
 use native.Mathlib.Decide.{ℕ-discrete}
 use mathlib.Core.Bool.{Bool, true, false, _||_}
-use mathlib.Core.List.{List, [], _∷_, _++_}
-use lib.ListN.{length, getD, length-append}
+use mathlib.Core.List.{List, []}
+use lib.ListN.{length, getD}
 use lib.Dec.{eqb}
 use borrow.Author.Tests.{lt-ltb, le-ltb}
-use Rattle.model.specs.Basics.{if_then_else_}
-use Rattle.model.specs.Graph.{Edge, Pass, degree, far, isRegular, lowerNumbered, edgeOnRing, onceRound, turn}
+use Rattle.model.specs.Graph.{Edge, Pass, degree, far, isRegular, lowerNumbered, onceRound, turn}
 use Rattle.model.specs.Labels.{passes, vertexOnRing}
 use Rattle.tables.specs.Steps.{farIn, turnIn}
 use Rattle.tables.specs.Rounds.{backIn, lowerIn, ringIn, roundIn}
@@ -21,27 +20,13 @@ use Rattle.model.proofs.Basics.Booleans.{not-both}
 use Rattle.model.proofs.Walks.Degree.{Proper, two-is}
 use Rattle.model.proofs.Walks.Turn.{At, TwoEdges, two-edges, turn-between}
 use Rattle.model.proofs.Walks.Joins.{Across, across}
-use Rattle.model.proofs.Walks.Trail.{Trail, done, pass, Next, backwards, length-backwards, next-edge, trail-append, trail-back}
+use Rattle.model.proofs.Walks.Trail.{Trail, done, pass, Next, backwards, length-backwards, next-edge, trail-back}
 use Rattle.model.proofs.Walks.Places.{Off, here}
 use Rattle.model.proofs.Walks.Ended.{Ended, first-short, off-tail}
-use Rattle.model.proofs.Walks.Returns.{off-ring, returns-ring}
-use Rattle.model.proofs.Walks.Round.{First, Meets, Round, first-time, meets, meets-or, misses, ring-round}
-use Rattle.model.proofs.Walks.Round as R
+use Rattle.model.proofs.Walks.Returns.{off-ring}
+use Rattle.model.proofs.Walks.Round.{Meets, Round, arrives-ring, meets, meets-or, misses, ring-round}
 use Rattle.agreement.proofs.Linked.{Linked}
 use Rattle.agreement.proofs.Lockstep.{Shows, shows-regular, shows-singular, shows-turn}
-
--- ---- from v along d, and to v again: d is on a ring
-
-pub arrives-ring : (es : List Edge) → Proper es → {d v q : ℕ} {ss : List Pass} → At es v d → isRegular es v ≡ true → Trail es d (far es d v) ss q v → edgeOnRing es d ≡ true
-arrives-ring es pr {d} {v} {q} {ss} a c u =
-    let x : Across es d v = across es d v pr a in
-    let f : First es d (far es d v) ss q v = first-time u in
-    let on : Trail es (f .onto) v (record { before = f .onto; at = v; after = d } ∷ []) d (far es d v) = pass d c (R.round-turn es pr a c (f .trail) (f .off)) done in
-    returns-ring es pr d (a .inside) (far es d v) (x .at) (record {
-      passes = f .front ++ (record { before = f .onto; at = v; after = d } ∷ []);
-      trail = trail-append (f .trail) on;
-      some-passed = omega (arith, length-append (f .front) (record { before = f .onto; at = v; after = d } ∷ []));
-    })
 
 -- ---- the lower-numbered edge, by the sides
 

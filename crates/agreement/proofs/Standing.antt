@@ -1,5 +1,5 @@
 -- Whether a ring may stand. Where none does no split looks for one, and leaves what it would leave if it did.
-use mathlib.Core.Path.{_≡_, refl, _∙_, subst}
+use mathlib.Core.Path.{_≡_, _∙_, subst}
 use mathlib.Core.Logic.{_⊎_, inl, inr}
 use Prim.Native.Nat.{ℕ, _<_}
 use native.Mathlib.Omega.{arith}
@@ -9,15 +9,13 @@ use mathlib.Core.List.{List, [], _∷_, _++_}
 use lib.ListN.{length}
 use lib.Dec.{ltb}
 use borrow.Author.Tests.{ltb-false}
-use Rattle.model.specs.Basics.{if_then_else_}
 use Rattle.model.specs.Graph.{Edge, degree, edgeOnRing, lowerNumbered}
 use Rattle.model.specs.Cases.{closesRing}
 use Rattle.model.specs.Labels.{vertexOnRing}
 use Rattle.model.specs.Register.{Register, landEdge, landVertex, landed, withEdge, withVertex}
 use Rattle.model.specs.Notions.{Admissible, Reachable}
 use Rattle.tables.specs.Steps.{sum32}
-use Rattle.labels.specs.Merging.{Changed}
-use Rattle.labels.specs.Splitting.{leftFor, splitBothIn, splitBy, splitEndsIn, splitIn}
+use Rattle.labels.specs.Splitting.{leftFor, splitBothIn, splitEndsIn, splitIn}
 use Rattle.labels.specs.declared.splitting.Splits.the-variants.{Both, One}
 use Rattle.model.proofs.Basics.Booleans.{or-false, true-or-false}
 use Rattle.model.proofs.Walks.Degree.{Proper}

@@ -16,13 +16,13 @@ use Rattle.model.specs.Notions.{Reachable, with-edge}
 use Rattle.model.proofs.Computing.{computing}
 use Rattle.tables.specs.Steps.{edgeOf, stored}
 use Rattle.counters.specs.Answers.{counts}
-use Rattle.insertion.specs.Insertion.{LandingIn, done, landingIn, refusedIn}
+use Rattle.insertion.specs.Insertion.{LandingIn, refusedIn}
 use Rattle.model.proofs.Registers.Held.{grow-again, grown-from, onVertices, vertices-grow}
 use Rattle.model.proofs.Registers.OnlyHeld.{grow-reaches, held-counts, held-tables, only-held, vertices-reach}
 use Rattle.model.proofs.Registers.Reachable.{reachable-empty}
 use Rattle.agreement.proofs.Registers.{few, stored-held, regrows}
 use Rattle.agreement.proofs.Standing.{Warns, warns-edge}
-use Rattle.agreement.proofs.Landing.{edge-parts, ringsAfter, shownIn}
+use Rattle.agreement.proofs.Landing.{edge-parts, shownIn}
 use Rattle.holding.specs.Replay.{leftAs, leftBy, regrowIn, replayIn}
 use Rattle.holding.proofs.ReplayLaws.{none-some, stored-is}
 use Rattle.model.proofs.Registers.Accepted.{vertex-lands}
@@ -58,7 +58,7 @@ module _ (own : Tables) where
           → Agrees (landEdges (edgesFrom (suc n) e) r) (replayIn (own .ends) (own .lengths) (suc n) e (tablesOf r) (countsOf r) rings)
       go (landed r′) q ih =
           let p = edge-parts r (edgeIn own e) rings g w (landed r′) q in
-          rw (q, own-is e, p .0, replayIn, landEdges, own-is e, p .1, ← next) (ih r′ (ringsAfter r rings (edgeIn own e)) (with-edge (edgeIn own e) g q) (warns-edge r (edgeIn own e) r′ rings g q w))
+          rw (q, own-is e, p .0, replayIn, landEdges, own-is e, p .1, ← next) (ih r′ _ (with-edge (edgeIn own e) g q) (warns-edge r (edgeIn own e) r′ rings g q w))
       go (refused x) q ih =
           let p = edge-parts r (edgeIn own e) rings g w (refused x) q in
           rw (q, own-is e, p .0, replayIn, landEdges, own-is e) (p .0)

@@ -109,7 +109,8 @@ fn insert_edge(
     Inserted::Done(after, rings || p.ring)
 }
 
-// Every refusal in its order; a refused edge leaves the tables.
+// Every refusal in its order; a refused edge leaves the tables. `rings` is to be false only where no ring stands, and then so is the
+// answer's.
 pub fn land_edge(
     degrees: &mut [u16],
     sides: &mut [u16],

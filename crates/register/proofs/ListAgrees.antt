@@ -18,7 +18,7 @@ use Rattle.model.specs.Notions.{Reachable, with-edge, with-vertex}
 use Rattle.list.specs.Reading.{badRecord, edgeTo, ends, headerAt, recordAt, recordOf, vertexTo}
 use Rattle.tables.proofs.Sums.{more16-is}
 use Rattle.agreement.proofs.Standing.{Warns, warns-edge, warns-first, warns-vertex}
-use Rattle.agreement.proofs.Landing.{edge-parts, ringsAfter, shownIn}
+use Rattle.agreement.proofs.Landing.{edge-parts, shownIn}
 use Rattle.register.specs.Records.{ReadingIn, landListIn, landRecordIn, landRecordsIn, landVertexIn, readingIn}
 use Rattle.model.proofs.Registers.Accepted.{added}
 
@@ -107,7 +107,7 @@ records-agree bs (suc n) k r rings i g w = go (drop i bs) refl (λ r′ rings′
     on-vertex : (kind : ℕ) (bytes rest : List ℕ) → drop i bs ≡ kind ∷ bytes → firstRecord kind bytes ≡ vertex rest → (l : Landed) → landVertex r ≡ l → Rest → Goal
     on-vertex kind bytes rest p q (landed r′) f ih =
         let s = at-vertex bs i kind bytes p rest q in
-        rw (s .0, vertex-answer r rings (landed r′) f, landRecordsIn, s .0, p, q, f, landRecords, ← vertex-tables r r′ f, ← s .1) (ih r′ rings (i + 1) (with-vertex g f) (warns-vertex r r′ rings f w))
+        rw (s .0, vertex-answer r rings (landed r′) f, landRecordsIn, s .0, p, q, f, landRecords, ← vertex-tables r r′ f, ← s .1) (ih r′ _ (i + 1) (with-vertex g f) (warns-vertex r r′ rings f w))
     on-vertex kind bytes rest p q (refused x) f ih =
         let s = at-vertex bs i kind bytes p rest q in
         rw (s .0, vertex-answer r rings (refused x) f, landRecordsIn, s .0, p, q, f, landRecords)
@@ -116,7 +116,7 @@ records-agree bs (suc n) k r rings i g w = go (drop i bs) refl (λ r′ rings′
     on-edge kind bytes e rest p q (landed r′) f ih =
         let s = at-edge bs i kind bytes p e rest q in
         let a = edge-parts r e rings g w (landed r′) f in
-        rw (s .0, a .0, landRecordsIn, s .0, a .1, p, q, f, landRecords, ← s .1) (ih r′ (ringsAfter r rings e) (i + 9) (with-edge e g f) (warns-edge r e r′ rings g f w))
+        rw (s .0, a .0, landRecordsIn, s .0, a .1, p, q, f, landRecords, ← s .1) (ih r′ _ (i + 9) (with-edge e g f) (warns-edge r e r′ rings g f w))
     on-edge kind bytes e rest p q (refused x) f ih =
         let s = at-edge bs i kind bytes p e rest q in
         let a = edge-parts r e rings g w (refused x) f in
