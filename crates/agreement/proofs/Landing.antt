@@ -29,7 +29,8 @@ use Rattle.agreement.proofs.Relabelled.{relabelled-most}
 use Rattle.agreement.proofs.Tables.{degrees-are, linked-sides}
 use Rattle.agreement.proofs.Registers.{labels-long}
 use Rattle.agreement.proofs.Standing.{Warns}
-use Rattle.agreement.proofs.Inserting.{Stands, stands}
+use Rattle.agreement.proofs.Placing.{Stands}
+use Rattle.agreement.proofs.Inserting.{stands}
 
 -- what the definition leaves, as tables and counts; then a ring may stand or not
 unfoldable pub shownIn : Register → Bool → Landed → LandingIn

@@ -126,23 +126,13 @@ fn land_records(
     let mut number: usize = 0;
     let mut left = list.len();
     while 0 < left {
-        let sofar = Counts {
+        let head = Counts {
             vertices: *vertices,
             edges: *edges,
             blocks: *blocks,
             relabellings: *relabellings,
         };
-        let step = land_record(
-            degrees,
-            sides,
-            ends,
-            lengths,
-            labels,
-            sofar,
-            list,
-            at,
-            rings,
-        );
+        let step = land_record(degrees, sides, ends, lengths, labels, head, list, at, rings);
         match step {
             Step::End => {
                 return Stop::Whole;
