@@ -8,7 +8,9 @@ use lib.Dec.{eqb}
 use borrow.Author.Tests.{ne-eqb}
 use Rattle.model.specs.Basics.{if_then_else_}
 use Rattle.model.specs.Cases.{Class, branch, caseOf, classOf, isolated, leaf, regular}
-use Rattle.insertion.specs.Placing.{Placed, extendedIn, mergedIn, newIn, placeIn, splitBothNewIn, splitExtendedIn, splitNewIn}
+use Rattle.labels.specs.declared.splitting.Splits.the-variants.{Both, Neither, One}
+use Rattle.insertion.specs.Placing.{Placed, mergedIn, openIn, placeIn}
+use Rattle.insertion.specs.declared.placing.Extension.the-variants.{Leaf, Nothing}
 use Rattle.model.proofs.Labels.Cases.{class-leaf, isLeafClass}
 
 unfoldable isRegularClass : Class → Bool
@@ -24,19 +26,19 @@ class-regular (suc zero) = refl
 class-regular (suc (suc zero)) = refl
 class-regular (suc (suc (suc n))) = ne-eqb (suc (suc (suc n))) 2 (λ z. omega arith)
 
-module _ (degrees sides ends labels : List ℕ) (blocks a b e : ℕ) where
+module _ (degrees sides ends labels : List ℕ) (blocks a b e : ℕ) (rings : Bool) where
   abbrev pub byEnds : Bool → Bool → Bool → Bool → Placed
   byEnds la lb ra rb =
       if la
       then (if lb then mergedIn degrees sides ends labels blocks a b e
-      else if rb then splitExtendedIn degrees sides ends labels blocks b a e
-      else extendedIn degrees sides ends labels blocks a b e)
-      else (if lb then (if ra then splitExtendedIn degrees sides ends labels blocks a b e else extendedIn degrees sides ends labels blocks b a e)
-      else if ra then (if rb then splitBothNewIn degrees sides ends labels blocks a b e else splitNewIn degrees sides ends labels blocks a b e)
-      else if rb then splitNewIn degrees sides ends labels blocks b a e
-      else newIn degrees sides ends labels blocks a b e)
+      else if rb then openIn (One b a) (Leaf a) degrees sides ends labels blocks a b e rings
+      else openIn Neither (Leaf a) degrees sides ends labels blocks a b e rings)
+      else (if lb then (if ra then openIn (One a b) (Leaf b) degrees sides ends labels blocks a b e rings else openIn Neither (Leaf b) degrees sides ends labels blocks a b e rings)
+      else if ra then (if rb then openIn Both Nothing degrees sides ends labels blocks a b e rings else openIn (One a b) Nothing degrees sides ends labels blocks a b e rings)
+      else if rb then openIn (One b a) Nothing degrees sides ends labels blocks a b e rings
+      else openIn Neither Nothing degrees sides ends labels blocks a b e rings)
 
-  place-class : (c k : Class) → placeIn (caseOf c k) degrees sides ends labels blocks a b e ≡ byEnds (isLeafClass c) (isLeafClass k) (isRegularClass c) (isRegularClass k)
+  place-class : (c k : Class) → placeIn (caseOf c k) degrees sides ends labels blocks a b e rings ≡ byEnds (isLeafClass c) (isLeafClass k) (isRegularClass c) (isRegularClass k)
   unfolding caseOf isLeafClass isRegularClass
   place-class isolated isolated = refl
   place-class isolated leaf = refl
@@ -55,5 +57,5 @@ module _ (degrees sides ends labels : List ℕ) (blocks a b e : ℕ) where
   place-class branch regular = refl
   place-class branch branch = refl
 
-  pub place-ends : (p q : ℕ) → placeIn (caseOf (classOf p) (classOf q)) degrees sides ends labels blocks a b e ≡ byEnds (eqb p 1) (eqb q 1) (eqb p 2) (eqb q 2)
+  pub place-ends : (p q : ℕ) → placeIn (caseOf (classOf p) (classOf q)) degrees sides ends labels blocks a b e rings ≡ byEnds (eqb p 1) (eqb q 1) (eqb p 2) (eqb q 2)
   place-ends p q = rw (class-leaf p, class-leaf q, class-regular p, class-regular q) (place-class (classOf p) (classOf q))

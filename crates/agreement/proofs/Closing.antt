@@ -13,11 +13,11 @@ use Rattle.model.specs.Basics.{if_then_else_, maxVertices}
 use Rattle.model.specs.Graph.{Edge, Pass, degree, endsAt, far, isRegular, onlyEdge}
 use Rattle.model.specs.Cases.{closesRing}
 use Rattle.model.specs.Labels.{Marks, attach, base, close, closeOver, inwards, labelPath, mark, next, relabelCount}
-use Rattle.tables.specs.Steps.{farIn, most16}
+use Rattle.tables.specs.Steps.{most16}
 use Rattle.tables.proofs.Sums.{more16-is, nextIn-is}
-use Rattle.labels.specs.Labelling.{MarksIn, countAhead, extendIn, labelVertexIn, marksIn}
+use Rattle.labels.specs.Labelling.{MarksIn, beyondIn, countAhead, labelVertexIn, marksIn}
 use Rattle.labels.specs.Merging.{beginIn, closeIn, mergeIn}
-use Rattle.labels.proofs.Labels.{extend-on}
+use Rattle.labels.proofs.Labels.{beyond-law}
 use Rattle.labels.proofs.Merges.{closes-begun, closes-on}
 use Rattle.model.proofs.Walks.Degree.{Proper, is-two}
 use Rattle.model.proofs.Walks.Turn.{At, between-back, onlyEdge-is}
@@ -87,9 +87,6 @@ module _ {es : List Edge} {n : Edge} {degrees sides ends labels : List ℕ} {m :
   even : length (inwards es a) ≡ length (inwards es b)
   even = ring-even es a b pr la lb at-a ia ib to
 
-  side-a : (da ≡ getD sides (2 * a) 0) × (ua ≡ farIn ends da a)
-  side-a = (sym (((sh .links a below-a) .leaf la) .0), sym (sh .fars-are da a (at-a .inside)))
-
   start : HoldsMarks new (λ v. (v ≢ a) × (v ≢ b)) sides labels m
   start = record {
     labels-are = k .labels-are;
@@ -132,13 +129,13 @@ module _ {es : List Edge} {n : Edge} {degrees sides ends labels : List ℕ} {m :
     unfolding beginIn labelVertexIn
     begun-count = bare-count (base (blocks + 1)) (base (blocks + 1) + 1)
 
-    closes-none : ChangedAs new labels (closeIn degrees sides ends labels blocks a b e da ua) (close es blocks a b m)
+    closes-none : ChangedAs new labels (closeIn sides labels blocks a b e da ua db ub) (close es blocks a b m)
     unfolding close closeOver beginIn
     closes-none =
         let w = beginIn sides labels a e b e da (blocks + 1) in
         rw (
           none,
-          ← closes-begun degrees sides ends labels (w .sides) (w .labels) blocks a b e da ua (blocks + 1) 0 (blocks + 1) (nil .1 ∙ to) (sym (more16-is blocks bb)) refl (refl, refl),
+          ← closes-begun sides labels (w .sides) (w .labels) blocks a b e da ua db ub (blocks + 1) 0 true (blocks + 1) (nil .1 ∙ to) (sym (more16-is blocks bb)) refl (refl, refl, refl),
         )
         (record { holds = record { kept = rw (begun .0, begun .1) laid; blocks-are = refl }; counts = begun-count })
 
@@ -188,12 +185,11 @@ module _ {es : List Edge} {n : Edge} {degrees sides ends labels : List ℕ} {m :
     read : (v : ℕ) → getD labels v 0 ≡ getD (m .labels) v 0
     read v = ap (λ (l : List ℕ). getD l v 0) (k .labels-are)
 
-    first-on : marksIn (h .sides) (h .labels) blocks ≡ extendIn degrees sides ends labels blocks a e
+    first-on : marksIn (h .sides) (h .labels) 0 ≡ beyondIn sides labels a e da ua
     first-on =
         let q : Linked es sides (m .lows) ua = sh .links ua ua-below in
-        let two : degree es ua ≡ 2 = is-two es ua (ha .1) in
-        extend-on degrees sides ends labels (h .sides) (h .labels) blocks a e da ua (h .count) side-a (getD (m .labels) ua 0) label-a up-a
-        (sh .degrees-are ua ua-below ∙ two) (ap (λ (z : ℕ). not (eqb z da)) (sym ((q .regular two) .0))) (sym (read ua))
+        beyond-law sides labels (h .sides) (h .labels) a e da ua (getD (m .labels) ua 0) label-a (h .count) up-a
+        (ap (λ (z : ℕ). not (eqb z da)) (sym ((q .regular (is-two es ua (ha .1))) .0))) (sym (read ua))
         (sym (nextIn-is up-a (getD (m .labels) ua 0) (omega (arith, k .small ua, read ua)))) refl
 
     ub-off : ub ≢ a
@@ -211,15 +207,10 @@ module _ {es : List Edge} {n : Edge} {degrees sides ends labels : List ℕ} {m :
     label-old : getD (h .labels) ub 0 ≡ getD labels ub 0
     label-old = (vertex-off up-a sides labels a label-a da e ub ub-off) .1
 
-    side-b : (db ≡ getD (h .sides) (2 * b) 0) × (ub ≡ farIn ends db b)
-    side-b =
-        let p = (vertex-off up-a sides labels a label-a da e b (λ q. ab (sym q))) .0 in
-        (sym (p .0 ∙ ((sh .links b below-b) .leaf lb) .0), sym (sh .fars-are db b (at-b .inside)))
-
-    second-on : marksIn (j .sides) (j .labels) blocks ≡ extendIn degrees (h .sides) ends (h .labels) blocks b e
+    second-on : marksIn (j .sides) (j .labels) 0 ≡ beyondIn (h .sides) (h .labels) b e db ub
     second-on =
-        extend-on degrees (h .sides) ends (h .labels) (j .sides) (j .labels) blocks b e db ub (j .count) side-b (getD (m₁ .labels) ub 0) label-b up-b
-        (sh .degrees-are ub ub-below ∙ is-two es ub (hb .1)) (ap (λ (z : ℕ). not (eqb z db)) (sym low-b)) (sym label-same)
+        beyond-law (h .sides) (h .labels) (j .sides) (j .labels) b e db ub (getD (m₁ .labels) ub 0) label-b (j .count) up-b
+        (ap (λ (z : ℕ). not (eqb z db)) (sym low-b)) (sym label-same)
         (sym (nextIn-is up-b (getD (m₁ .labels) ub 0) (omega (arith, k .small ub, label-old, label-same)))) refl
 
     on-count : relabelCount labels (j .labels) ≡ 0
@@ -230,18 +221,18 @@ module _ {es : List Edge} {n : Edge} {degrees sides ends labels : List ℕ} {m :
     unfolding close closeOver attach labelPath
     closed-as = rw (some-a, some-b, ha .0, hb .0)
 
-    closes-some : ChangedAs new labels (closeIn degrees sides ends labels blocks a b e da ua) (close es blocks a b m)
+    closes-some : ChangedAs new labels (closeIn sides labels blocks a b e da ua db ub) (close es blocks a b m)
     closes-some =
         rw (
           closed-as,
-          ← closes-on degrees sides ends labels (j .sides) (j .labels) blocks a b e da ua blocks 0 (h .sides) (h .labels) blocks blocks (no-leaf ua b (ha .1) lb) first-on second-on (refl, refl),
+          ← closes-on sides labels (j .sides) (j .labels) blocks a b e da ua db ub blocks 0 true (h .sides) (h .labels) (no-leaf ua b (ha .1) lb) first-on second-on (refl, refl, refl),
         )
         (record { holds = record { kept = second-kept; blocks-are = refl }; counts = on-count })
 
   pub closes : ChangedAs (es ++ (n ∷ [])) labels (mergeIn degrees sides ends labels blocks a b (length es) (length es)) (close es blocks a b m)
   closes = rw (← merges-ring k a b la lb oa ob ab blocks c) (go (inwards es a) (inwards es b) refl refl)
     where
-      go : (ss ts : List Pass) → inwards es a ≡ ss → inwards es b ≡ ts → ChangedAs new labels (closeIn degrees sides ends labels blocks a b e da ua) (close es blocks a b m)
+      go : (ss ts : List Pass) → inwards es a ≡ ss → inwards es b ≡ ts → ChangedAs new labels (closeIn sides labels blocks a b e da ua db ub) (close es blocks a b m)
       go [] ts p q = closes-none p
       go (u ∷ us) [] p q = absurd (omega (arith, even, ap length p, ap length q))
       go (u ∷ us) (u′ ∷ us′) p q = closes-some u u′ us us′ p q

@@ -1,21 +1,20 @@
 -- How many labels a tap changes: every other vertex of the ring, but for the second end of the edge.
 use mathlib.Core.Path.{_≡_, refl, sym, ap, _∙_}
 use mathlib.Core.Logic.{_≢_, _⊎_, inl, inr}
-use Prim.Native.Nat.{ℕ, zero, suc, _+_, _<_}
+use Prim.Native.Nat.{ℕ, suc, _+_, _<_}
 use native.Mathlib.Omega.{arith}
 use native.Mathlib.Decide.{ℕ-discrete}
 use mathlib.Core.Bool.{true}
 use mathlib.Core.List.{List, [], _∷_}
 use lib.ListN.{length, getD, set}
 use lib.Seq.{getD-set-other, set-set, set-comm}
-use borrow.Author.Tests.{eq-eqb, ne-eqb}
-use Rattle.model.specs.Basics.{if_then_else_}
+use borrow.Author.Tests.{ne-eqb}
 use Rattle.model.specs.Graph.{Pass}
 use Rattle.model.specs.Labels.{isRelabelled, next}
 use Rattle.labels.specs.Labelling.{countAhead, labelVertexIn}
 use Rattle.model.proofs.Labels.Relabellings.{moved, moved-old}
 use Rattle.model.proofs.Labels.Splits.{set-off}
-use Rattle.model.proofs.Walks.Places.{Ith, here, later, no-ith, InPath, Off, Once, ith-split, once-head, once-tail}
+use Rattle.model.proofs.Walks.Places.{Ith, here, later, no-ith, InPath, Once, ith-split, once-head, once-tail}
 use Rattle.agreement.proofs.Laying.{layIn}
 
 -- another label, and none of the two is 0

@@ -13,7 +13,7 @@ use Rattle.model.specs.Labels.{Labelling, Marks, attach, base, extend, labelPat
 use Rattle.tables.specs.Steps.{farIn, most16, most32}
 use Rattle.tables.proofs.Sums.{more16-is, nextIn-is}
 use Rattle.labels.specs.Labelling.{countAhead, extendIn, labelVertexIn}
-use Rattle.labels.proofs.Labels.{extend-begun, extend-on}
+use Rattle.labels.proofs.Labels.{beyond-law, extend-begun, extend-on}
 use Rattle.model.proofs.Walks.Degree.{Proper, is-two, not-two}
 use Rattle.model.proofs.Walks.Turn.{At, Between, OneEdge, one-edge, onlyEdge-is}
 use Rattle.model.proofs.Walks.Joins.{across, far-ne}
@@ -109,8 +109,8 @@ module _ (es : List Edge) (n : Edge) (pr : Proper es) (df : n .first ≢ n .seco
           rw (
             s,
             attach-some blocks d (record { before = d; at = u; after = turn new d u }) (walk (length es) new (turn new d u) (far new (turn new d u) u)) path m,
-            ← extend-on degrees sides ends labels (w .sides) (w .labels) blocks x (length es) d u (w .count) (sym (q .leaf x o one), sym (fars d x (a .inside))) label (next up label) up
-                (ds u u-below ∙ is-two new u c) (ap (λ (z : ℕ). not (eqb z d)) (sym ((k .regular (is-two new u c)) .0))) (sym t) (sym (nextIn-is up label (omega (arith, lb u, t)))) refl,
+            ← extend-on degrees sides ends labels (w .sides) (w .labels) blocks x (length es) d u (sym (q .leaf x o one), sym (fars d x (a .inside)))
+                (ds u u-below ∙ is-two new u c) (beyond-law sides labels (w .sides) (w .labels) x (length es) d u label (next up label) (w .count) up (ap (λ (z : ℕ). not (eqb z d)) (sym ((k .regular (is-two new u c)) .0))) (sym t) (sym (nextIn-is up label (omega (arith, lb u, t)))) refl),
           )
           (record { kept = laid up (next up label); blocks-are = refl })
       go false c =
@@ -119,7 +119,7 @@ module _ (es : List Edge) (n : Edge) (pr : Proper es) (df : n .first ≢ n .seco
           rw (
             s,
             attach-none blocks d path m,
-            ← extend-begun degrees sides ends labels (w .sides) (w .labels) blocks x (length es) d u (w .count) (sym (q .leaf x o one), sym (fars d x (a .inside))) (blocks + 1) (base (blocks + 1))
+            ← extend-begun degrees sides ends labels (w .sides) (w .labels) blocks x (length es) d u (sym (q .leaf x o one), sym (fars d x (a .inside))) (blocks + 1) (base (blocks + 1)) (w .count)
                 (λ z. not-two new u c (sym (ds u u-below) ∙ z)) (sym (more16-is blocks bb)) refl refl,
           )
           (record { kept = laid true (base (blocks + 1)); blocks-are = refl })

@@ -3,7 +3,7 @@ use mathlib.Core.Path.{_≡_, refl, sym, ap, _∙_}
 use mathlib.Core.Logic.{_≢_}
 use Prim.Native.Nat.{ℕ, _+_, _*_, _≤_, _<_}
 use native.Mathlib.Omega.{arith}
-use mathlib.Core.Bool.{Bool, true, not}
+use mathlib.Core.Bool.{Bool, true, false, not}
 use mathlib.Core.List.{List, [], _∷_, _++_}
 use lib.ListN.{length, getD, set}
 use lib.Dec.{eqb}
@@ -179,12 +179,12 @@ module _ {es : List Edge} {n : Edge} {degrees sides ends labels : List ℕ} {m :
 
   pub joins : (blocks : ℕ) → 0 < length (inwards es x)
       → let j = joinIn degrees sides ends labels x y (length es) (length es) in
-      ChangedAs new labels (changed (j .sides) (j .labels) blocks (j .count)) (attach blocks dx (inwards es x) path m)
+      ChangedAs new labels (changed (j .sides) (j .labels) blocks (j .count) false) (attach blocks dx (inwards es x) path m)
   joins blocks h = go (first-of (inwards es x) h)
     where
       go : ((u : Pass) × (us : List Pass) × (inwards es x ≡ u ∷ us))
           → let j = joinIn degrees sides ends labels x y (length es) (length es) in
-          ChangedAs new labels (changed (j .sides) (j .labels) blocks (j .count)) (attach blocks dx (inwards es x) path m)
+          ChangedAs new labels (changed (j .sides) (j .labels) blocks (j .count) false) (attach blocks dx (inwards es x) path m)
       go (u, us, e) =
           let hd = trail-cons (rw e at ((inward es pr x dx lx ax) .trail)) in
           let c : isRegular es (u .at) ≡ true = rw (hd .0) (hd .1) in
@@ -205,7 +205,7 @@ module _ {es : List Edge} {n : Edge} {degrees sides ends labels : List ℕ} {m :
 
   pub begins : (blocks : ℕ) → inwards es x ≡ [] → inwards es y ≡ [] → getD labels x 0 ≡ 0 → getD labels y 0 ≡ 0
       → let w = beginIn sides labels x dx y dy (length es) (blocks + 1) in
-      ChangedAs new labels (changed (w .sides) (w .labels) (blocks + 1) 0) (attach blocks dx (inwards es x) path m)
+      ChangedAs new labels (changed (w .sides) (w .labels) (blocks + 1) 0 false) (attach blocks dx (inwards es x) path m)
   begins blocks a b zx zy =
       let p = begin-lays (blocks + 1) b in
       rw (a, attach-none blocks dx path m) (record {

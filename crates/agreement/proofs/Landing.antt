@@ -1,4 +1,5 @@
--- Landing an edge on the tables of a register that landing leaves: the tables, counts and refusals of the definition.
+-- Landing an edge on the tables of a register that landing leaves: the tables, counts and refusals of the definition, and whether a
+-- ring may stand then.
 use mathlib.Core.Path.{_≡_, refl, sym, ap, ap₂, _∙_}
 use mathlib.Core.Logic.{_≢_}
 use Prim.Native.Nat.{ℕ, _+_, _≤_, _<_}
@@ -10,6 +11,7 @@ use lib.Dec.{eqb, leb, ltb}
 use borrow.Author.Tests.{eqb-false, leb-false, ltb-true, not-false}
 use Rattle.model.specs.Basics.{if_then_else_, maxEdges, maxLength}
 use Rattle.model.specs.Graph.{Edge}
+use Rattle.model.specs.Cases.{closesRing}
 use Rattle.model.specs.Labels.{labelEdge, relabelCount}
 use Rattle.model.specs.Register.{Landed, Register, landEdge, landed, marksOf, refused, withEdge}
 use Rattle.model.specs.Tables.{Counts, Tables, countsOf, tablesOf}
@@ -26,24 +28,30 @@ use Rattle.agreement.proofs.Lists.{ends-stored, lengths-stored}
 use Rattle.agreement.proofs.Relabelled.{relabelled-most}
 use Rattle.agreement.proofs.Tables.{degrees-are, linked-sides}
 use Rattle.agreement.proofs.Registers.{labels-long}
-use Rattle.agreement.proofs.Inserting.{Stands, stands}
+use Rattle.agreement.proofs.Standing.{Warns}
+use Rattle.agreement.proofs.Placing.{Stands}
+use Rattle.agreement.proofs.Inserting.{stands}
 
--- what the definition leaves, as tables and counts
-unfoldable pub shownIn : Register → Landed → LandingIn
-shownIn r (landed r′) = landingIn (tablesOf r′) (done (countsOf r′))
-shownIn r (refused x) = landingIn (tablesOf r) (refusedIn x)
+-- what the definition leaves, as tables and counts; then a ring may stand or not
+unfoldable pub shownIn : Register → Bool → Landed → LandingIn
+shownIn r rings (landed r′) = landingIn (tablesOf r′) (done (countsOf r′) rings)
+shownIn r rings (refused x) = landingIn (tablesOf r) (refusedIn x)
+
+-- a ring may stand after an edge: one did before, or the edge closes one
+abbrev pub ringsAfter : Register → Bool → Edge → Bool
+ringsAfter r rings e = rings || closesRing (r .edges) (e .first) (e .second)
 
 -- ---- an edge that passed the first refusals
 
-module _ (r : Register) (e : Edge) (g : Reachable r) (fa : e .first < r .vertices) (fb : e .second < r .vertices) (df : e .first ≢ e .second) (rm : length (r .edges) < maxEdges) where
+module _ (r : Register) (e : Edge) (rings : Bool) (g : Reachable r) (warns : Warns rings (r .edges)) (fa : e .first < r .vertices) (fb : e .second < r .vertices) (df : e .first ≢ e .second) (rm : length (r .edges) < maxEdges) where
   abbrev p : Placed
-  p = placedBy (tablesOf r) (countsOf r) e
+  p = placedBy (tablesOf r) (countsOf r) rings e
 
   abbrev r′ : Register
   r′ = withEdge r e
 
-  st : Stands (r .edges ++ (e ∷ [])) (r .labels) p (labelEdge (r .edges) e (r .blocks) (marksOf r))
-  st = stands r e g fa fb df
+  st : Stands (r .edges ++ (e ∷ [])) (r .labels) p (labelEdge (r .edges) e (r .blocks) (marksOf r)) (closesRing (r .edges) (e .first) (e .second))
+  st = stands r e rings g warns fa fb df
 
   degrees-new : p .degrees ≡ (tablesOf r′) .degrees
   unfolding withEdge
@@ -84,39 +92,47 @@ module _ (r : Register) (e : Edge) (g : Reachable r) (fa : e .first < r .vertice
       sum32-is (r .relabellings) (p .relabellings) (omega (arith, total-small r g))
       ∙ ap (λ (n : ℕ). r .relabellings + n) (sym (st .counts) ∙ ap (λ (l : List ℕ). relabelCount (r .labels) l) (st .holds .kept .labels-are))
 
-  pub inserts-agree : insertIn (tablesOf r) (countsOf r) e ≡ landingIn (tablesOf r′) (done (countsOf r′))
+  pub inserts-agree : insertIn (tablesOf r) (countsOf r) rings e ≡ landingIn (tablesOf r′) (done (countsOf r′) (ringsAfter r rings e))
   unfolding insertIn
   inserts-agree =
-      ap₂ {C = LandingIn} (λ (t : Tables) (c : Counts). landingIn t (done c))
+      ap₂ {C = LandingIn} (λ (t : Tables) (c : Counts). landingIn t (done c (rings || p .ring)))
       (tables-parts degrees-new sides-new ends-new lengths-new labels-new)
       (counts-parts vertices-new edges-new blocks-new relabellings-new)
+      ∙ ap (λ (t : Bool). landingIn (tablesOf r′) (done (countsOf r′) (rings || t))) (st .ring-is)
 
 -- ---- with every refusal, in its order
 
-same-if : (r : Register) (e : Edge) (b : Bool) (n : ℕ) (x : CheckIn) (y : Landed) → (b ≡ false → landChecked (tablesOf r) (countsOf r) e x ≡ shownIn r y)
-    → landChecked (tablesOf r) (countsOf r) e (if b then failed n else x) ≡ shownIn r (if b then refused n else y)
-unfolding shownIn
-same-if r e true n x y h = refl
-same-if r e false n x y h = h refl
+module _ (r : Register) (e : Edge) (rings : Bool) where
+  abbrev shown : Landed → LandingIn
+  shown l = shownIn r (ringsAfter r rings e) l
 
-last-agrees : (r : Register) (e : Edge) → Reachable r → e .first < r .vertices → e .second < r .vertices → e .first ≢ e .second → length (r .edges) < maxEdges
-    → insertIn (tablesOf r) (countsOf r) e ≡ shownIn r (landed (withEdge r e))
-unfolding shownIn
-last-agrees r e g fa fb df rm = inserts-agree r e g fa fb df rm
+  same-if : (b : Bool) (n : ℕ) (x : CheckIn) (y : Landed) → (b ≡ false → landChecked (tablesOf r) (countsOf r) rings e x ≡ shown y)
+      → landChecked (tablesOf r) (countsOf r) rings e (if b then failed n else x) ≡ shown (if b then refused n else y)
+  unfolding shownIn
+  same-if true n x y h = refl
+  same-if false n x y h = h refl
 
-pub land-agrees : (r : Register) (e : Edge) → Reachable r → landIn (tablesOf r) (countsOf r) e ≡ shownIn r (landEdge r e)
-unfolding landIn checkIn landEdge countsOf
-land-agrees r e g =
-    same-if r e (not (ltb (e .first) (r .vertices) && ltb (e .second) (r .vertices))) 5 _ _ (λ h₅.
-    same-if r e (eqb (e .first) (e .second)) 6 _ _ (λ h₆.
-    same-if r e (eqb (e .len) 0 || ltb maxLength (e .len)) 7 _ _ (λ h₇.
-    same-if r e (leb maxEdges (length (r .edges))) 23 _ _ (λ h₂₃.
-    last-agrees r e g (ltb-true _ _ (ends h₅ .0)) (ltb-true _ _ (ends h₅ .1)) (eqb-false _ _ h₆) (leb-false _ _ h₂₃)))))
-  where
-    ends : not (ltb (e .first) (r .vertices) && ltb (e .second) (r .vertices)) ≡ false → (ltb (e .first) (r .vertices) ≡ true) × (ltb (e .second) (r .vertices) ≡ true)
-    ends h = and-true (ltb (e .first) (r .vertices)) (ltb (e .second) (r .vertices)) (not-false _ h)
+  module _ (g : Reachable r) (warns : Warns rings (r .edges)) where
+    last-agrees : e .first < r .vertices → e .second < r .vertices → e .first ≢ e .second → length (r .edges) < maxEdges
+        → insertIn (tablesOf r) (countsOf r) rings e ≡ shown (landed (withEdge r e))
+    unfolding shownIn
+    last-agrees fa fb df rm = inserts-agree r e rings g warns fa fb df rm
 
--- .. in two parts, for a function that goes on by the answer
-pub edge-parts : (r : Register) (e : Edge) (l : Landed) → Reachable r → landEdge r e ≡ l
-    → ((landIn (tablesOf r) (countsOf r) e) .answer ≡ (shownIn r l) .answer) × ((landIn (tablesOf r) (countsOf r) e) .tables ≡ (shownIn r l) .tables)
-edge-parts r e l g q = let p : landIn (tablesOf r) (countsOf r) e ≡ shownIn r l = land-agrees r e g ∙ ap (shownIn r) q in (rw p, rw p)
+    pub land-agrees : landIn (tablesOf r) (countsOf r) rings e ≡ shownIn r (ringsAfter r rings e) (landEdge r e)
+    unfolding landIn checkIn landEdge countsOf
+    land-agrees =
+        same-if (not (ltb (e .first) (r .vertices) && ltb (e .second) (r .vertices))) 5 _ _ (λ h₅.
+        same-if (eqb (e .first) (e .second)) 6 _ _ (λ h₆.
+        same-if (eqb (e .len) 0 || ltb maxLength (e .len)) 7 _ _ (λ h₇.
+        same-if (leb maxEdges (length (r .edges))) 23 _ _ (λ h₂₃.
+        last-agrees (ltb-true _ _ (ends h₅ .0)) (ltb-true _ _ (ends h₅ .1)) (eqb-false _ _ h₆) (leb-false _ _ h₂₃)))))
+      where
+        ends : not (ltb (e .first) (r .vertices) && ltb (e .second) (r .vertices)) ≡ false → (ltb (e .first) (r .vertices) ≡ true) × (ltb (e .second) (r .vertices) ≡ true)
+        ends h = and-true (ltb (e .first) (r .vertices)) (ltb (e .second) (r .vertices)) (not-false _ h)
+
+    -- .. in two parts, for a function that goes on by the answer
+    pub edge-parts : (l : Landed) → landEdge r e ≡ l → let shows = shownIn r (ringsAfter r rings e) l in
+        ((landIn (tablesOf r) (countsOf r) rings e) .answer ≡ shows .answer) × ((landIn (tablesOf r) (countsOf r) rings e) .tables ≡ shows .tables)
+    edge-parts l q =
+        let p : landIn (tablesOf r) (countsOf r) rings e ≡ shown l = land-agrees ∙ ap (shownIn r (ringsAfter r rings e)) q in
+        (rw p, rw p)

@@ -1,4 +1,4 @@
--- Landing, in the order of the argument: Lists .. Tables on the tables, Cases and Inserting for one edge, Landing with the refusals.
+-- Landing, in the order of the argument: Lists .. Tables on the tables, Placing, Cases and Inserting for one edge, Landing with the refusals.
 -- Queries: Chaining (a walk), Rounds and Ends (a chain from one edge), Lowest (a name), Marking (marks), Sheeting, Finding.
 pub mod Lists
 pub mod Relabelled
@@ -10,6 +10,7 @@ pub mod Ringing
 pub mod Meeting
 pub mod Splitting
 pub mod SplittingBoth
+pub mod Standing
 pub mod Costs
 pub mod Opening
 pub mod Extending
@@ -19,6 +20,7 @@ pub mod Closing
 pub mod Registers
 pub mod Tables
 pub mod TapCosts
+pub mod Placing
 pub mod Cases
 pub mod Inserting
 pub mod Landing

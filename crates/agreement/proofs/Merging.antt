@@ -4,11 +4,12 @@ use mathlib.Core.Logic.{_≢_}
 use Prim.Native.Nat.{ℕ, _*_, _≤_, _<_}
 use native.Mathlib.Omega.{arith}
 use native.Mathlib.Decide.{ℕ-discrete, decLe, decLt}
-use mathlib.Core.Bool.{true, false}
+use mathlib.Core.Bool.{Bool, true, false}
 use mathlib.Core.List.{List, [], _∷_, _++_}
 use lib.ListN.{length, getD}
 use lib.Dec.{eqb}
 use borrow.Author.Tests.{eq-eqb, eqb-false, eqb-true, le-leb, lt-leb}
+use Rattle.model.specs.Basics.{if_then_else_}
 use Rattle.model.specs.Graph.{Edge, Pass, degree, endOf, endOnwards, endsAt, far, isLeaf, onlyEdge, onwards}
 use Rattle.model.specs.Cases.{closesRing}
 use Rattle.model.specs.Labels.{Labelling, Marks, attach, inwards, joinPath, merge}
@@ -105,7 +106,7 @@ module _ {es : List Edge} {n : Edge} {degrees sides ends labels : List ℕ} {m :
   side-b : (db ≡ getD sides (2 * b) 0) × (far es db b ≡ farIn ends db b)
   side-b = (sym (((sh .links b (sh .below b db at-b)) .leaf lb) .0), sym (sh .fars-are db b (at-b .inside)))
 
-  pub merges-ring : closesRing es a b ≡ true → closeIn degrees sides ends labels blocks a b (length es) da (far es da a) ≡ merging
+  pub merges-ring : closesRing es a b ≡ true → closeIn sides labels blocks a b (length es) da (far es da a) db (far es db b) ≡ merging
   merges-ring c =
       let to : ia .to ≡ b = eqb-true (ia .to) b (sym (ring-is es a b la lb ia) ∙ c) in
       let even : length (inwards es a) ≡ length (inwards es b) = ring-even es a b pr la lb at-a ia ib to in
@@ -122,6 +123,27 @@ module _ {es : List Edge} {n : Edge} {degrees sides ends labels : List ℕ} {m :
       go : Dec (length (inwards es a) ≤ length (inwards es b)) → ⊥
       go (yes l) = h (sym (finds .first-ends l) ∙ e)
       go (no l) = let two : getD degrees b 0 ≡ 2 = rw e at (finds .first-on (omega arith)) in omega (arith, one)
+
+  off : closesRing es a b ≡ false → met .first ≢ b
+  off c = no-end (eqb-false (ia .to) b (sym (ring-is es a b la lb ia) ∙ c))
+
+  -- the answer tells a closing
+  pub merging-open : closesRing es a b ≡ false → merging .ring ≡ false
+  merging-open c =
+      rw (← merge-kept degrees sides ends labels blocks a b (length es) (length es) da (far es da a) db (far es db b) met side-a side-b refl (keeperFor degrees a b met) (off c) refl)
+      (no-closing (keeperFor degrees a b met))
+    where
+      no-closing : (keeper : Keeper) → keeperIn keeper degrees sides ends labels blocks a b (length es) (length es) da db .ring ≡ false
+      no-closing Neither = refl
+      no-closing (Chain x y) = refl
+
+  pub merging-closes : closesRing es a b ≡ true → merging .ring ≡ true
+  unfolding closeIn
+  merging-closes c = rw (← merges-ring c) (either-way (eqb (far es da a) b) _ _ refl refl)
+    where
+      either-way : (t : Bool) (x y : Changed) → x .ring ≡ true → y .ring ≡ true → (if t then x else y) .ring ≡ true
+      either-way true x y p q = p
+      either-way false x y p q = q
 
   first-off : length (inwards es a) ≤ length (inwards es b) → getD degrees (met .first) 0 ≢ 2
   first-off l = rw (finds .first-ends l) (shows-singular sh (trail-at pr next-a (ia .trail)) (ia .singular))
@@ -141,14 +163,11 @@ module _ {es : List Edge} {n : Edge} {degrees sides ends labels : List ℕ} {m :
   merges c bb za zb =
       go (decLt (length (inwards es a)) (length (inwards es b))) (decLt (length (inwards es b)) (length (inwards es a))) (ℕ-discrete (length (inwards es a)) 0)
     where
-      off : met .first ≢ b
-      off = no-end (eqb-false (ia .to) b (sym (ring-is es a b la lb ia) ∙ c))
-
       -- the keeper is the chain that keeps its labels
       keeps : (keeper : Keeper) (g : Labelling) → keeper ≡ keeperFor degrees a b met → merge es blocks a b m ≡ g
           → ChangedAs new labels (keeperIn keeper degrees sides ends labels blocks a b (length es) (length es) da db) g → ChangedAs new labels merging (merge es blocks a b m)
       keeps keeper g p q j =
-          rw (← merge-kept degrees sides ends labels blocks a b (length es) (length es) da (far es da a) db (far es db b) met side-a side-b refl keeper off p, q) j
+          rw (← merge-kept degrees sides ends labels blocks a b (length es) (length es) da (far es da a) db (far es db b) met side-a side-b refl keeper (off c) p, q) j
 
       keeps-a : Chain a b ≡ keeperFor degrees a b met → length (inwards es b) ≤ length (inwards es a) → 0 < length (inwards es a) → ChangedAs new labels merging (merge es blocks a b m)
       keeps-a p l h = keeps (Chain a b) _ p (merge-first l) (joins k a b la lb oa ob ab blocks h)

@@ -22,7 +22,7 @@ use Rattle.agreement.proofs.Splitting.{SplitAs}
 -- ---- the edge comes to x
 
 module _ (degrees sides : List ℕ) (x e : ℕ) where
-  pub meet-same : getD degrees x 0 ≢ 0 → meetIn degrees sides x e ≡ sides
+  meet-same : getD degrees x 0 ≢ 0 → meetIn degrees sides x e ≡ sides
   meet-same n = sym (meet-left degrees sides x e n)
 
   meet-zero : getD degrees x 0 ≡ 0 → 2 * x + 1 < length sides → PairAt (meetIn degrees sides x e) x e 0

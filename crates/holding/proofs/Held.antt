@@ -1,35 +1,37 @@
 -- Refusal 21 on the tables: landing their own vertices and edges on cleared tables leaves them again just where they hold a register.
-use mathlib.Core.Path.{_≡_, refl, sym, ap, _∙_}
+use mathlib.Core.Path.{_≡_, refl, sym, ap, _∙_, subst}
 use mathlib.Core.Logic.{_≢_}
 use Prim.Native.Nat.{ℕ, zero, suc, _+_, _≤_, _<_}
 use native.Mathlib.Omega.{arith}
 use native.Mathlib.Decide.{decLe}
 use mathlib.Core.Option.{Option, none, some}
+use mathlib.Core.Bool.{Bool, false}
 use mathlib.Core.List.{List, map}
 use borrow.Author.Tests.{le-leb, lt-leb}
 use Rattle.model.specs.Basics.{countFrom, maxVertices, upTo}
 use Rattle.model.specs.Graph.{Edge}
 use Rattle.model.specs.Register.{Landed, Register, empty, landEdge, landVertex, landed, refused, withVertex}
-use Rattle.model.specs.Tables.{Counts, Tables, cleared, countsOf, edgeIn, edgesIn, growFrom, held, landEdges, landVertices, storedOf, tablesOf}
+use Rattle.model.specs.Tables.{Counts, Stored, Tables, cleared, countsOf, edgeIn, edgesIn, growFrom, held, landEdges, landVertices, storedOf, tablesOf}
 use Rattle.model.specs.Notions.{Reachable, with-edge}
 use Rattle.model.proofs.Computing.{computing}
 use Rattle.tables.specs.Steps.{edgeOf, stored}
 use Rattle.counters.specs.Answers.{counts}
-use Rattle.insertion.specs.Insertion.{LandingIn, done, landingIn, refusedIn}
+use Rattle.insertion.specs.Insertion.{LandingIn, refusedIn}
 use Rattle.model.proofs.Registers.Held.{grow-again, grown-from, onVertices, vertices-grow}
 use Rattle.model.proofs.Registers.OnlyHeld.{grow-reaches, held-counts, held-tables, only-held, vertices-reach}
 use Rattle.model.proofs.Registers.Reachable.{reachable-empty}
 use Rattle.agreement.proofs.Registers.{few, stored-held, regrows}
+use Rattle.agreement.proofs.Standing.{Warns, warns-edge}
 use Rattle.agreement.proofs.Landing.{edge-parts, shownIn}
-use Rattle.holding.specs.Replay.{regrowIn, replayIn}
-use Rattle.holding.proofs.ReplayLaws.{done-is, refused-done}
+use Rattle.holding.specs.Replay.{leftAs, leftBy, regrowIn, replayIn}
+use Rattle.holding.proofs.ReplayLaws.{none-some, stored-is}
 use Rattle.model.proofs.Registers.Accepted.{vertex-lands}
 
 -- ---- edges one after the other
 
 -- what the tables answer, of what the definition leaves: the same register, or the same refusal
 abbrev Agrees : Landed → LandingIn → Type 0
-Agrees (landed r) l = l ≡ landingIn (tablesOf r) (done (countsOf r))
+Agrees (landed r) l = leftBy l ≡ some (stored (tablesOf r) (countsOf r))
 Agrees (refused x) l = l .answer ≡ refusedIn x
 
 module _ (own : Tables) where
@@ -41,22 +43,24 @@ module _ (own : Tables) where
   abbrev edgesFrom : ℕ → ℕ → List Edge
   edgesFrom n e = map (edgeIn own) (countFrom e n)
 
-  replay-agrees : (n e : ℕ) (r : Register) → Reachable r → Agrees (landEdges (edgesFrom n e) r) (replayIn (own .ends) (own .lengths) n e (tablesOf r) (countsOf r))
+  replay-agrees : (n e : ℕ) (r : Register) (rings : Bool) → Reachable r → Warns rings (r .edges)
+      → Agrees (landEdges (edgesFrom n e) r) (replayIn (own .ends) (own .lengths) n e (tablesOf r) (countsOf r) rings)
   unfolding replayIn landEdges countFrom shownIn
-  replay-agrees zero e r g = refl
-  replay-agrees (suc n) e r g = go (landEdge r (edgeIn own e)) refl (λ r′ h. replay-agrees n (e + 1) r′ h)
+  replay-agrees zero e r rings g w = refl
+  replay-agrees (suc n) e r rings g w = go (landEdge r (edgeIn own e)) refl (λ r′ rings′ h w′. replay-agrees n (e + 1) r′ rings′ h w′)
     where
       next : e + 1 ≡ suc e
       next = omega arith
 
       go : (l : Landed) → landEdge r (edgeIn own e) ≡ l
-          → ((r′ : Register) → Reachable r′ → Agrees (landEdges (edgesFrom n (e + 1)) r′) (replayIn (own .ends) (own .lengths) n (e + 1) (tablesOf r′) (countsOf r′)))
-          → Agrees (landEdges (edgesFrom (suc n) e) r) (replayIn (own .ends) (own .lengths) (suc n) e (tablesOf r) (countsOf r))
+          → ((r′ : Register) (rings′ : Bool) → Reachable r′ → Warns rings′ (r′ .edges)
+          → Agrees (landEdges (edgesFrom n (e + 1)) r′) (replayIn (own .ends) (own .lengths) n (e + 1) (tablesOf r′) (countsOf r′) rings′))
+          → Agrees (landEdges (edgesFrom (suc n) e) r) (replayIn (own .ends) (own .lengths) (suc n) e (tablesOf r) (countsOf r) rings)
       go (landed r′) q ih =
-          let p = edge-parts r (edgeIn own e) (landed r′) g q in
-          rw (q, own-is e, p .0, replayIn, landEdges, own-is e, p .1, ← next) (ih r′ (with-edge (edgeIn own e) g q))
+          let p = edge-parts r (edgeIn own e) rings g w (landed r′) q in
+          rw (q, own-is e, p .0, replayIn, landEdges, own-is e, p .1, ← next) (ih r′ _ (with-edge (edgeIn own e) g q) (warns-edge r (edgeIn own e) r′ rings g q w))
       go (refused x) q ih =
-          let p = edge-parts r (edgeIn own e) (refused x) g q in
+          let p = edge-parts r (edgeIn own e) rings g w (refused x) q in
           rw (q, own-is e, p .0, replayIn, landEdges, own-is e) (p .0)
 
 -- ---- vertices alone
@@ -69,6 +73,10 @@ module _ (n : ℕ) where
   on-counts : countsOf (onVertices n) ≡ counts n 0 0 0
   unfolding countsOf onVertices
   on-counts = refl
+
+  on-warns : Warns false ((onVertices n) .edges)
+  unfolding onVertices
+  on-warns f d l = absurd (omega arith)
 
   on-reachable : n ≤ maxVertices → Reachable (onVertices n)
   on-reachable h = vertices-reach n empty (onVertices n) reachable-empty (vertices-grow n h)
@@ -118,41 +126,41 @@ regrow-agrees t c = go (decLe (c .vertices) maxVertices)
         let n = c .vertices in
         let r = onVertices n in
         let es = edgesIn t (c .edges) in
-        let a = replay-agrees t (c .edges) 0 r (on-reachable n q) in
+        let a = replay-agrees t (c .edges) 0 r false (on-reachable n q) (on-warns n) in
         rw (grown-from n es r (landEdges es r) (vertices-grow n q) refl, le-leb n maxVertices q, ← on-tables n, ← on-counts n) a
     go (no q) = rw (grow-over (c .vertices) (edgesIn t (c .edges)) (omega arith), lt-leb (c .vertices) maxVertices (omega arith)) refl
 
 -- ---- the claim
 
 -- a replay that leaves the tables and counts themselves finds the register that they hold
-pub replay-held : (t : Tables) (c : Counts) → regrown t c ≡ landingIn t (done c) → (r : Register) × (held (stored t c) ≡ some r)
+pub replay-held : (t : Tables) (c : Counts) → leftBy (regrown t c) ≡ some (stored t c) → (r : Register) × (held (stored t c) ≡ some r)
 unfolding storedOf
 replay-held t c e = go (growing t c) refl (regrow-agrees t c)
   where
     go : (l : Landed) → growing t c ≡ l → Agrees (growing t c) (regrown t c) → (r : Register) × (held (stored t c) ≡ some r)
     go (landed r) q a =
-        let a′ : regrown t c ≡ landingIn (tablesOf r) (done (countsOf r)) = rw q at a in
-        let i = done-is (tablesOf r) t (countsOf r) c (sym a′ ∙ e) in
+        let a′ : leftBy (regrown t c) ≡ some (stored (tablesOf r) (countsOf r)) = rw q at a in
+        let i = stored-is (stored (tablesOf r) (countsOf r)) (stored t c) (sym a′ ∙ e) in
         let g : Reachable r = grow-reaches (c .vertices) (edgesIn t (c .edges)) r q in
-        (r, rw (i .0, i .1) at (stored-held r g))
+        (r, subst (λ (s : Stored). held s ≡ some r) i (stored-held r g))
     go (refused x) q a =
         let a′ : (regrown t c) .answer ≡ refusedIn x = rw q at a in
-        absurd (refused-done t t x c (ap (landingIn t) (sym a′ ∙ ap (λ (l : LandingIn). l .answer) e)))
+        absurd (none-some (stored t c) (sym (ap (leftAs ((regrown t c) .tables)) a′) ∙ e))
 
 -- what is stored for a register that landing leaves is left by its own replay
-stored-replays : (r : Register) → Reachable r → regrown (tablesOf r) (countsOf r) ≡ landingIn (tablesOf r) (done (countsOf r))
+stored-replays : (r : Register) → Reachable r → leftBy (regrown (tablesOf r) (countsOf r)) ≡ some (stored (tablesOf r) (countsOf r))
 unfolding storedOf
 stored-replays r g =
     let q : growing (tablesOf r) (countsOf r) ≡ landed r = grow-again r (few r g) (regrows r g) in
     rw q at (regrow-agrees (tablesOf r) (countsOf r))
 
 -- so tables and counts that hold a register are left by their own replay
-held-replays : (t : Tables) (c : Counts) (r : Register) → held (stored t c) ≡ some r → regrown t c ≡ landingIn t (done c)
+held-replays : (t : Tables) (c : Counts) (r : Register) → held (stored t c) ≡ some r → leftBy (regrown t c) ≡ some (stored t c)
 held-replays t c r e =
     let h = only-held (stored t c) r e in
     rw (held-tables h, held-counts h) at (stored-replays r (h .reachable))
 
-pub replay-none : (t : Tables) (c : Counts) → regrown t c ≢ landingIn t (done c) → held (stored t c) ≡ none
+pub replay-none : (t : Tables) (c : Counts) → leftBy (regrown t c) ≢ some (stored t c) → held (stored t c) ≡ none
 replay-none t c n = go (held (stored t c)) refl
   where
     go : (o : Option Register) → held (stored t c) ≡ o → held (stored t c) ≡ none

@@ -9,13 +9,14 @@ use tables::access::of32;
 use tables::whole::clear_tables;
 use tables::whole::same_tables;
 ghost use mathlib.Core.Path.{_≡_};
+ghost use mathlib.Core.Bool.{false};
 ghost use Rattle.counters.specs.Answers.{countsIn};
 ghost use Rattle.tables.specs.Steps.{tables, zeroed, Tells};
 ghost use Rattle.insertion.specs.Insertion.{landingIn};
 ghost use Rattle.insertion.specs.Meaning.{answerIn};
 ghost use Rattle.holding.specs.Replay.{replayIn, regrowIn, Regrows};
 
-// The first edges of the tables of ends and lengths, landed on other tables.
+// The first edges of the tables of ends and lengths, landed on other tables, on which no ring stands.
 fn replay(
     ownends: &[u16],
     ownlengths: &[u32],
@@ -29,9 +30,10 @@ fn replay(
 ) -> Inserted
     ensures { λ r. ⌜ landingIn (tables (now (degrees .exit)) (now (sides .exit)) (now (ends .exit)) (now (lengths .exit)) (now (labels .exit))) (answerIn r)
         ≡ replayIn (now (ownends .entry)) (now (ownlengths .entry)) number 0
-        (tables (now (degrees .entry)) (now (sides .entry)) (now (ends .entry)) (now (lengths .entry)) (now (labels .entry))) (countsIn from) ⌝ }
+        (tables (now (degrees .entry)) (now (sides .entry)) (now (ends .entry)) (now (lengths .entry)) (now (labels .entry))) (countsIn from) false ⌝ }
 {
     let mut counts = from;
+    let mut rings = false;
     let mut i: usize = 0;
     let mut edge: u16 = 0;
     let mut left = number;
@@ -46,10 +48,12 @@ fn replay(
             at16(ownends, i),
             at16(ownends, i + 1),
             of32(ownlengths, edge),
+            rings,
         );
         match inserted {
-            Inserted::Done(next) => {
+            Inserted::Done(next, then) => {
                 counts = next;
+                rings = then;
             }
             Inserted::Refused(refusal) => {
                 return inserted;
@@ -59,7 +63,7 @@ fn replay(
         edge += 1;
         left -= 1;
     }
-    Inserted::Done(counts)
+    Inserted::Done(counts, rings)
 }
 
 // As many edges as the counts say, landed on tables that come cleared, after as many vertices.
@@ -142,7 +146,7 @@ fn leaves_same(
         slabels,
     );
     match inserted {
-        Inserted::Done(counts) => {
+        Inserted::Done(counts, rings) => {
             if !same_counts(counts, own) {
                 return false;
             }

@@ -17,20 +17,27 @@ use Rattle.counters.specs.Answers.{counts}
 use Rattle.counters.specs.Numbers.{within}
 use Rattle.counters.proofs.Within.{within-yes, within-below, within-above}
 use Rattle.tables.specs.Steps.{tables, setPair, more16, sum32}
-use Rattle.insertion.specs.Placing.{Placed, placed, placeIn}
-use Rattle.insertion.specs.Insertion.{done, refusedIn, landingIn, insertIn, passed, failed, checkIn, landChecked, landIn, counts}
+use Rattle.insertion.specs.Placing.{placed, placeIn}
+use Rattle.insertion.specs.Insertion.{done, landingIn, insertIn, passed, failed, checkIn, landChecked, landIn}
 use Rattle.insertion.specs.Meaning.{checkedIn}
 use Rattle.insertion.specs.declared.landing.Checked.{Checked}
 
-pub insert-done : (d s ends l t d′ s′ t′ ends′ l′ : List ℕ) (c : Counts) (a b len da db blocks m edges n : ℕ) (k : Case)
+pub insert-done : (d s ends l t d′ s′ t′ ends′ l′ : List ℕ) (c : Counts) (rings ring after : Bool) (a b len da db blocks m edges n : ℕ) (k : Case)
     → da ≡ getD d a 0 → db ≡ getD d b 0 → k ≡ caseOf (classOf da) (classOf db)
-    → placed d′ s′ t′ blocks m ≡ placeIn k d s ends t (c .blocks) a b (c .edges) → ends′ ≡ setPair ends (c .edges) a b
-    → l′ ≡ set l (c .edges) len → edges ≡ more16 (c .edges) → n ≡ sum32 (c .relabellings) m
-    → landingIn (tables d′ s′ ends′ l′ t′) (done (counts (c .vertices) edges blocks n))
-    ≡ insertIn (tables d s ends l t) c (record { first = a; second = b; len = len })
+    → placed d′ s′ t′ blocks m ring ≡ placeIn k d s ends t (c .blocks) a b (c .edges) rings → ends′ ≡ setPair ends (c .edges) a b
+    → l′ ≡ set l (c .edges) len → edges ≡ more16 (c .edges) → n ≡ sum32 (c .relabellings) m → after ≡ (rings || ring)
+    → landingIn (tables d′ s′ ends′ l′ t′) (done (counts (c .vertices) edges blocks n) after)
+    ≡ insertIn (tables d s ends l t) c rings (record { first = a; second = b; len = len })
 unfolding insertIn
-insert-done d s ends l t d′ s′ t′ ends′ l′ c a b len da db blocks m edges n k i j g p z x v u =
-    rw (← i, ← j, ← g, ← p, z, x, v, u)
+insert-done d s ends l t d′ s′ t′ ends′ l′ c rings ring after a b len da db blocks m edges n k i j g p z x v u o =
+    rw (← i, ← j, ← g, ← p, z, x, v, u, o)
+
+-- a ring may stand where one did before, or is closed now
+pub ring-before : (rings ring : Bool) → rings ≡ true → rings ≡ (rings || ring)
+ring-before rings ring h = rw h
+
+pub ring-now : (rings ring : Bool) → rings ≡ false → ring ≡ (rings || ring)
+ring-now rings ring h = rw h
 
 -- the test of refusal 7 is that of the checked constructor
 length-test : (n : ℕ) → within 1 maxLength n ≡ (if eqb n 0 || ltb maxLength n then none else some n)
@@ -87,7 +94,7 @@ module _ (c : Counts) (a b n : ℕ) where
       rw (lt-ltb _ _ h, lt-ltb _ _ g, ne-eqb _ _ e, q .0, lt-leb _ _ o, q .1)
 
 -- landing goes on as the check's answer says
-pub checked-given : (t : Tables) (c : Counts) (e : Edge) (k k′ : Checked) → k ≡ k′ → checkedIn k ≡ checkIn c e
-    → landChecked t c e (checkedIn k′) ≡ landIn t c e
+pub checked-given : (t : Tables) (c : Counts) (rings : Bool) (e : Edge) (k k′ : Checked) → k ≡ k′ → checkedIn k ≡ checkIn c e
+    → landChecked t c rings e (checkedIn k′) ≡ landIn t c rings e
 unfolding landIn
-checked-given t c e k k′ q h = rw (← h, q)
+checked-given t c rings e k k′ q h = rw (← h, q)

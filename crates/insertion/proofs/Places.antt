@@ -1,5 +1,6 @@
--- An edge comes to an end, and is placed, case by case.
+-- An edge comes to an end, and is placed.
 use mathlib.Core.Path.{_≡_}
+use mathlib.Core.Bool.{Bool, false}
 use mathlib.Core.List.{List}
 use Prim.Native.Nat.{ℕ}
 use borrow.Author.Tests.{eq-eqb, ne-eqb}
@@ -7,8 +8,12 @@ use lib.ListN.{getD}
 use Rattle.tables.specs.Steps.{setPair, raiseBothIn}
 use Rattle.labels.specs.Labelling.{marksIn, extendIn}
 use Rattle.labels.specs.Merging.{changed, mergeIn}
-use Rattle.labels.specs.Splitting.{splitIn, splitBothIn}
-use Rattle.insertion.specs.Placing.{meetIn, placed, newIn, extendedIn, mergedIn, splitNewIn, splitExtendedIn, splitBothNewIn}
+use Rattle.labels.specs.Splitting.{splitEndsIn}
+use Rattle.labels.specs.declared.splitting.Splits.{Splits}
+use Rattle.insertion.specs.Placing.{meetIn, Placed, placed, openedIn, goesOnIn, openIn, mergedIn, workIn}
+use Rattle.insertion.specs.declared.placing.Extension.{Extension}
+use Rattle.insertion.specs.declared.placing.Extension.the-variants.{Nothing, Leaf}
+use Rattle.insertion.specs.declared.placing.Work.{Work}
 
 module _ (degrees s : List ℕ) (v e : ℕ) where
   pub meet-isolated : getD degrees v 0 ≡ 0 → setPair s v e 0 ≡ meetIn degrees s v e
@@ -19,37 +24,33 @@ module _ (degrees s : List ℕ) (v e : ℕ) where
   unfolding meetIn
   meet-left h = rw (ne-eqb _ _ h)
 
-module _ (degrees s ends l degrees′ s′ : List ℕ) (blocks blocks′ m e : ℕ) where
-  pub placed-new : (a b : ℕ) → (degrees′ ≡ raiseBothIn degrees a b) × (s′ ≡ meetIn degrees (meetIn degrees s a e) b e)
-      → (blocks′ ≡ blocks) × (m ≡ 0) → placed degrees′ s′ l blocks′ m ≡ newIn degrees s ends l blocks a b e
-  unfolding newIn
-  placed-new a b h z = rw (z .0, z .1, ← h .0, ← h .1)
+-- both ends opened, and then a leaf's chain goes on
+module _ (degrees s ends l degrees′ s′ l′ : List ℕ) (blocks a b blocks′ m e : ℕ) (ring rings : Bool) (splits : Splits) where
+  pub opened-law : (s₁ s₂ : List ℕ) → changed s₁ l′ blocks′ m ring ≡ splitEndsIn splits degrees s ends l blocks a b e rings
+      → s₂ ≡ meetIn degrees s₁ a e → s′ ≡ meetIn degrees s₂ b e → degrees′ ≡ raiseBothIn degrees a b
+      → placed degrees′ s′ l′ blocks′ m ring ≡ openedIn splits degrees s ends l blocks a b e rings
+  unfolding openedIn
+  opened-law s₁ s₂ h i j k = rw (← h, ← i, ← j, ← k)
 
-module _ (degrees s ends l degrees′ s′ l′ : List ℕ) (blocks blocks′ m e : ℕ) where
-  pub placed-extended : (s₁ : List ℕ) (x y k : ℕ) → s₁ ≡ meetIn degrees s y e → degrees′ ≡ raiseBothIn degrees x y
-      → marksIn s′ l′ k ≡ extendIn degrees′ s₁ ends l blocks x e → (blocks′ ≡ k) × (m ≡ 0)
-      → placed degrees′ s′ l′ blocks′ m ≡ extendedIn degrees s ends l blocks x y e
-  unfolding extendedIn
-  placed-extended s₁ x y k i j h z = rw (z .0, z .1, ← i, ← j, ← h)
+  pub open-nothing : (extension : Extension) → extension ≡ Nothing
+      → placed degrees′ s′ l′ blocks′ m ring ≡ openedIn splits degrees s ends l blocks a b e rings
+      → placed degrees′ s′ l′ blocks′ m ring ≡ openIn splits extension degrees s ends l blocks a b e rings
+  open-nothing extension o h = rw o h
 
-  pub placed-merged : (a b : ℕ) → changed s′ l′ blocks′ m ≡ mergeIn degrees s ends l blocks a b e e → degrees′ ≡ raiseBothIn degrees a b
-      → placed degrees′ s′ l′ blocks′ m ≡ mergedIn degrees s ends l blocks a b e
+  pub open-leaf : (extension : Extension) (x : ℕ) (s₁ l₁ : List ℕ) (k₁ k m₁ : ℕ) (ring₁ : Bool) → extension ≡ Leaf x
+      → placed degrees′ s₁ l₁ k₁ m₁ ring₁ ≡ openedIn splits degrees s ends l blocks a b e rings
+      → marksIn s′ l′ k ≡ extendIn degrees′ s₁ ends l₁ k₁ x e → (blocks′ ≡ k) × (m ≡ m₁) × (ring ≡ false)
+      → placed degrees′ s′ l′ blocks′ m ring ≡ openIn splits extension degrees s ends l blocks a b e rings
+  unfolding goesOnIn
+  open-leaf extension x s₁ l₁ k₁ k m₁ ring₁ o h g z = rw (o, z .0, z .1, z .2, ← h, ← g)
+
+module _ (degrees s ends l degrees′ s′ l′ : List ℕ) (blocks a b blocks′ m e : ℕ) (ring : Bool) where
+  pub merged-law : changed s′ l′ blocks′ m ring ≡ mergeIn degrees s ends l blocks a b e e → degrees′ ≡ raiseBothIn degrees a b
+      → placed degrees′ s′ l′ blocks′ m ring ≡ mergedIn degrees s ends l blocks a b e
   unfolding mergedIn
-  placed-merged a b h j = rw (← h, ← j)
+  merged-law h j = rw (← h, ← j)
 
-  pub placed-split : (s₁ : List ℕ) (v y : ℕ) → changed s₁ l′ blocks′ m ≡ splitIn degrees s ends l blocks v y e
-      → s′ ≡ meetIn degrees s₁ y e → degrees′ ≡ raiseBothIn degrees v y
-      → placed degrees′ s′ l′ blocks′ m ≡ splitNewIn degrees s ends l blocks v y e
-  unfolding splitNewIn
-  placed-split s₁ v y h i j = rw (← h, ← i, ← j)
-
-  pub placed-split-extended : (s₁ l₁ : List ℕ) (v x k₁ k n : ℕ) → changed s₁ l₁ k₁ n ≡ splitIn degrees s ends l blocks v x e
-      → degrees′ ≡ raiseBothIn degrees v x → marksIn s′ l′ k ≡ extendIn degrees′ s₁ ends l₁ k₁ x e → (blocks′ ≡ k) × (m ≡ n)
-      → placed degrees′ s′ l′ blocks′ m ≡ splitExtendedIn degrees s ends l blocks v x e
-  unfolding splitExtendedIn
-  placed-split-extended s₁ l₁ v x k₁ k n h j g z = rw (z .0, z .1, ← h, ← j, ← g)
-
-  pub placed-both : (a b : ℕ) → changed s′ l′ blocks′ m ≡ splitBothIn degrees s ends l blocks a b e → degrees′ ≡ raiseBothIn degrees a b
-      → placed degrees′ s′ l′ blocks′ m ≡ splitBothNewIn degrees s ends l blocks a b e
-  unfolding splitBothNewIn
-  placed-both a b h j = rw (← h, ← j)
+-- what is done is what the case says
+pub work-given : (degrees s ends l : List ℕ) (blocks a b e : ℕ) (rings : Bool) (work work′ said : Work) (p : Placed) → work ≡ work′ → work ≡ said
+    → p ≡ workIn work′ degrees s ends l blocks a b e rings → p ≡ workIn said degrees s ends l blocks a b e rings
+work-given degrees s ends l blocks a b e rings work work′ said p q h g = rw (← h, q) g

@@ -1,6 +1,6 @@
 -- One edge into the five tables: its refusals in their order, what it leaves and its answer.
 use Prim.Native.Nat.{ℕ}
-use mathlib.Core.Bool.{not, _&&_, _||_}
+use mathlib.Core.Bool.{Bool, not, _&&_, _||_}
 use lib.ListN.{set}
 use lib.Dec.{eqb, leb, ltb}
 use Rattle.model.specs.Basics.{if_then_else_, maxEdges, maxLength}
@@ -10,9 +10,9 @@ use Rattle.counters.specs.Answers.{counts}
 use Rattle.tables.specs.Steps.{tables, setPair, more16, sum32}
 use Rattle.insertion.specs.Placing.{placedBy}
 
--- the counts after a landing, or its refusal
+-- the counts after a landing and whether a ring may stand then, or its refusal
 pub data AnswerIn : Type 0 where
-  done : Counts → AnswerIn
+  done : Counts → Bool → AnswerIn
   refusedIn : ℕ → AnswerIn
 
 -- what a landing leaves in the tables, and its answer
@@ -23,14 +23,14 @@ pub record LandingIn : Type 0 where
 abbrev pub landingIn : Tables → AnswerIn → LandingIn
 landingIn t a = record { tables = t; answer = a }
 
--- an edge that passed refusals 5, 6, 7 and 23
-unfoldable pub insertIn : Tables → Counts → Edge → LandingIn
-insertIn t c e =
+-- an edge that passed refusals 5, 6, 7 and 23; rings: a ring may stand
+unfoldable pub insertIn : Tables → Counts → Bool → Edge → LandingIn
+insertIn t c rings e =
     let new = c .edges in
-    let p = placedBy t c e in
+    let p = placedBy t c rings e in
     landingIn
     (tables (p .degrees) (p .sides) (setPair (t .ends) new (e .first) (e .second)) (set (t .lengths) new (e .len)) (p .labels))
-    (done (counts (c .vertices) (more16 new) (p .blocks) (sum32 (c .relabellings) (p .relabellings))))
+    (done (counts (c .vertices) (more16 new) (p .blocks) (sum32 (c .relabellings) (p .relabellings))) (rings || p .ring))
 
 -- the length of an edge that passed, or the first of refusals 5, 6, 7 and 23 that holds of it
 pub data CheckIn : Type 0 where
@@ -46,9 +46,9 @@ checkIn c e =
     else passed (e .len)
 
 -- what landing comes to, once the edge was checked; a refused edge leaves the tables
-abbrev pub landChecked : Tables → Counts → Edge → CheckIn → LandingIn
-landChecked t c e (passed n) = insertIn t c (record { first = e .first; second = e .second; len = n })
-landChecked t c e (failed x) = landingIn t (refusedIn x)
+abbrev pub landChecked : Tables → Counts → Bool → Edge → CheckIn → LandingIn
+landChecked t c rings e (passed n) = insertIn t c rings (record { first = e .first; second = e .second; len = n })
+landChecked t c rings e (failed x) = landingIn t (refusedIn x)
 
-unfoldable pub landIn : Tables → Counts → Edge → LandingIn
-landIn t c e = landChecked t c e (checkIn c e)
+unfoldable pub landIn : Tables → Counts → Bool → Edge → LandingIn
+landIn t c rings e = landChecked t c rings e (checkIn c e)

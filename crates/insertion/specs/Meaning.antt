@@ -37,7 +37,7 @@ caseIn SplitSecond = C.splitNew C.secondNamed
 caseIn SplitBoth = C.splitBoth
 
 abbrev pub answerIn : Inserted → AnswerIn
-answerIn (inserted.Done c) = done (countsIn c)
+answerIn (inserted.Done c rings) = done (countsIn c) rings
 answerIn (inserted.Refused x) = refusedIn (numberOf x)
 
 abbrev pub checkedIn : Checked → CheckIn

@@ -17,12 +17,12 @@ ghost use mathlib.Core.Path.{_≡_};
 ghost use lib.ListN.{set};
 ghost use Rattle.counters.specs.Answers.{countsIn};
 ghost use Rattle.tables.specs.Steps.{tables, setPair};
-ghost use Rattle.insertion.specs.Insertion.{landingIn, done, insertIn, checkIn, landIn};
+ghost use Rattle.insertion.specs.Insertion.{landingIn, insertIn, checkIn, landIn};
 ghost use Rattle.insertion.specs.Meaning.{answerIn, checkedIn};
 
-// The counts after the edge (document 01: the head), or its refusal.
+// The counts after the edge (document 01: the head) and whether a ring may stand then; or the edge's refusal.
 pub enum Inserted {
-    Done(Counts),
+    Done(Counts, bool),
     Refused(Refusal),
 }
 
@@ -63,7 +63,8 @@ fn record_edge(ends: &mut [u16], lengths: &mut [u32], e: u16, a: u16, b: u16, le
     put32(lengths, e as usize, length);
 }
 
-// An edge that no refusal of `check_edge` holds of.
+// An edge that no refusal of `check_edge` holds of. Whether a ring may stand is carried along: a ring comes by a closing alone, so that
+// a house without one never looks for it.
 fn insert_edge(
     degrees: &mut [u16],
     sides: &mut [u16],
@@ -74,28 +75,42 @@ fn insert_edge(
     first: Vertex,
     second: Vertex,
     length: Millimetres,
-) -> Counts
+    rings: bool,
+) -> Inserted
     ensures { λ r. ⌜ landingIn
-        (tables (now (degrees .exit)) (now (sides .exit)) (now (ends .exit)) (now (lengths .exit)) (now (labels .exit))) (done (countsIn r))
+        (tables (now (degrees .exit)) (now (sides .exit)) (now (ends .exit)) (now (lengths .exit)) (now (labels .exit))) (answerIn r)
         ≡ insertIn
         (tables (now (degrees .entry)) (now (sides .entry)) (now (ends .entry)) (now (lengths .entry)) (now (labels .entry)))
-        (countsIn counts) (record { first = first .0; second = second .0; len = length .0 }) ⌝ }
+        (countsIn counts) rings (record { first = first .0; second = second .0; len = length .0 }) ⌝ }
 {
     let a = first.0;
     let b = second.0;
     let e = counts.edges;
     let case = case_of(class_of(of16(degrees, a)), class_of(of16(degrees, b)));
-    let p = place_edge(case, degrees, sides, ends, labels, counts.blocks, a, b, e);
+    let p = place_edge(
+        case,
+        degrees,
+        sides,
+        ends,
+        labels,
+        counts.blocks,
+        a,
+        b,
+        e,
+        rings,
+    );
     record_edge(ends, lengths, e, a, b, length.0);
-    Counts {
+    let after = Counts {
         vertices: counts.vertices,
         edges: one_more16(e),
         blocks: p.blocks,
         relabellings: add32(counts.relabellings, p.relabellings),
-    }
+    };
+    Inserted::Done(after, rings || p.ring)
 }
 
-// Every refusal in its order; a refused edge leaves the tables.
+// Every refusal in its order; a refused edge leaves the tables. `rings` is to be false only where no ring stands, and then so is the
+// answer's.
 pub fn land_edge(
     degrees: &mut [u16],
     sides: &mut [u16],
@@ -106,12 +121,13 @@ pub fn land_edge(
     first: u16,
     second: u16,
     length: u32,
+    rings: bool,
 ) -> Inserted
     ensures { λ r. ⌜ landingIn
         (tables (now (degrees .exit)) (now (sides .exit)) (now (ends .exit)) (now (lengths .exit)) (now (labels .exit))) (answerIn r)
         ≡ landIn
         (tables (now (degrees .entry)) (now (sides .entry)) (now (ends .entry)) (now (lengths .entry)) (now (labels .entry)))
-        (countsIn counts) (record { first = first; second = second; len = length }) ⌝ }
+        (countsIn counts) rings (record { first = first; second = second; len = length }) ⌝ }
 {
     let checked = check_edge(counts, first, second, length);
     match checked {
@@ -119,7 +135,7 @@ pub fn land_edge(
             // below counts.vertices, so within Vertex::MAX in every register
             let v = Vertex(first);
             let w = Vertex(second);
-            let after = insert_edge(
+            insert_edge(
                 degrees,
                 sides,
                 ends,
@@ -129,8 +145,8 @@ pub fn land_edge(
                 v,
                 w,
                 millimetres,
-            );
-            Inserted::Done(after)
+                rings,
+            )
         }
         Checked::Refused(refusal) => Inserted::Refused(refusal),
     }

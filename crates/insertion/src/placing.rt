@@ -4,17 +4,46 @@ use crate::cases::Case;
 use labels::labelling::extend_chain;
 use labels::merging::ChainChange;
 use labels::merging::merge_chains;
-use labels::splitting::split_both;
-use labels::splitting::split_chain;
+use labels::splitting::Splits;
+use labels::splitting::split_ends;
 use tables::access::of16;
 use tables::steps::put_pair;
 use tables::steps::raise_both;
 ghost use mathlib.Core.Path.{_≡_};
-ghost use Rattle.tables.specs.Steps.{raiseBothIn};
-ghost use Rattle.insertion.specs.Placing.{meetIn, placed, extendedIn, mergedIn, splitNewIn, splitExtendedIn, splitBothNewIn, placeIn};
+ghost use Rattle.insertion.specs.Placing.{meetIn, placed, openedIn, openIn, mergedIn, workFor, placeIn};
 ghost use Rattle.insertion.specs.Meaning.{caseIn};
 
-// Edge e comes to vertex v, isolated or a branch: an isolated one becomes a leaf with e as its only edge.
+// The leaf whose chain goes on over the edge, if one does.
+pub enum Extension {
+    Nothing,
+    Leaf(u16),
+}
+
+// What is done for an edge: the chains of both ends are merged; or both ends are opened, those that are regular by a split, and then a
+// leaf's chain goes on.
+pub enum Work {
+    Merge,
+    Open(Splits, Extension),
+}
+
+// Document 01's cases. Document 02's ring is closed where chains are merged, and tapped where one is split.
+fn work_of(case: Case, a: u16, b: u16) -> Work
+    ensures { λ r. ⌜ r ≡ workFor (caseIn case) a b ⌝ }
+{
+    match case {
+        Case::New => Work::Open(Splits::Neither, Extension::Nothing),
+        Case::ExtendFirst => Work::Open(Splits::Neither, Extension::Leaf(a)),
+        Case::ExtendSecond => Work::Open(Splits::Neither, Extension::Leaf(b)),
+        Case::Merge => Work::Merge,
+        Case::SplitExtendFirst => Work::Open(Splits::One(b, a), Extension::Leaf(a)),
+        Case::SplitExtendSecond => Work::Open(Splits::One(a, b), Extension::Leaf(b)),
+        Case::SplitFirst => Work::Open(Splits::One(a, b), Extension::Nothing),
+        Case::SplitSecond => Work::Open(Splits::One(b, a), Extension::Nothing),
+        Case::SplitBoth => Work::Open(Splits::Both, Extension::Nothing),
+    }
+}
+
+// Edge e comes to vertex v: an isolated one becomes a leaf with e as its only edge.
 fn meet_end(degrees: &[u16], sides: &mut [u16], v: u16, e: u16)
     ensures { λ _. ⌜ now (sides .exit) ≡ meetIn (now (degrees .entry)) (now (sides .entry)) v e ⌝ }
 {
@@ -23,37 +52,58 @@ fn meet_end(degrees: &[u16], sides: &mut [u16], v: u16, e: u16)
     }
 }
 
-// Neither end is regular or a leaf: the edge is a chain by itself, and no label changes.
-fn place_new(degrees: &mut [u16], sides: &mut [u16], a: u16, b: u16, e: u16)
-    ensures { λ _. ⌜ (now (degrees .exit) ≡ raiseBothIn (now (degrees .entry)) a b)
-        × (now (sides .exit) ≡ meetIn (now (degrees .entry)) (meetIn (now (degrees .entry)) (now (sides .entry)) a e) b e) ⌝ }
-{
-    meet_end(degrees, sides, a, e);
-    meet_end(degrees, sides, b, e);
-    raise_both(degrees, a, b);
-}
-
-// x is a leaf, y isolated or a branch: x's chain goes on over the edge.
-fn place_extended(
+// Both ends before the edge comes to them.
+fn open_both(
+    splits: Splits,
     degrees: &mut [u16],
     sides: &mut [u16],
     ends: &[u16],
     labels: &mut [u32],
     blocks: u16,
-    x: u16,
-    y: u16,
+    a: u16,
+    b: u16,
     e: u16,
+    rings: bool,
 ) -> ChainChange
-    ensures { λ r. ⌜ placed (now (degrees .exit)) (now (sides .exit)) (now (labels .exit)) (r .blocks) (r .relabellings)
-        ≡ extendedIn (now (degrees .entry)) (now (sides .entry)) (now (ends .entry)) (now (labels .entry)) blocks x y e ⌝ }
+    ensures { λ r. ⌜ placed (now (degrees .exit)) (now (sides .exit)) (now (labels .exit)) (r .blocks) (r .relabellings) (r .ring)
+        ≡ openedIn splits (now (degrees .entry)) (now (sides .entry)) (now (ends .entry)) (now (labels .entry)) blocks a b e rings ⌝ }
 {
-    meet_end(degrees, sides, y, e);
-    raise_both(degrees, x, y);
-    let k = extend_chain(degrees, sides, ends, labels, blocks, x, e);
-    ChainChange::new(k, 0)
+    let c = split_ends(splits, degrees, sides, ends, labels, blocks, a, b, e, rings);
+    meet_end(degrees, sides, a, e);
+    meet_end(degrees, sides, b, e);
+    raise_both(degrees, a, b);
+    c
 }
 
-// Both are leaves: their chains are merged, or their chain becomes a ring.
+// Both ends are opened, and then the chain of a leaf goes on over the edge, if one does. If it is the leaf's own chain that was split,
+// which the edge makes a loop, the leaf is labelled by what the split left, with the new degrees.
+fn place_open(
+    splits: Splits,
+    extension: Extension,
+    degrees: &mut [u16],
+    sides: &mut [u16],
+    ends: &[u16],
+    labels: &mut [u32],
+    blocks: u16,
+    a: u16,
+    b: u16,
+    e: u16,
+    rings: bool,
+) -> ChainChange
+    ensures { λ r. ⌜ placed (now (degrees .exit)) (now (sides .exit)) (now (labels .exit)) (r .blocks) (r .relabellings) (r .ring)
+        ≡ openIn splits extension (now (degrees .entry)) (now (sides .entry)) (now (ends .entry)) (now (labels .entry)) blocks a b e rings ⌝ }
+{
+    let c = open_both(splits, degrees, sides, ends, labels, blocks, a, b, e, rings);
+    match extension {
+        Extension::Nothing => c,
+        Extension::Leaf(x) => {
+            let k = extend_chain(degrees, sides, ends, labels, c.blocks, x, e);
+            ChainChange::new(k, c.relabellings)
+        }
+    }
+}
+
+// The chains of both ends are merged, or become a ring.
 fn place_merged(
     degrees: &mut [u16],
     sides: &mut [u16],
@@ -64,7 +114,7 @@ fn place_merged(
     b: u16,
     e: u16,
 ) -> ChainChange
-    ensures { λ r. ⌜ placed (now (degrees .exit)) (now (sides .exit)) (now (labels .exit)) (r .blocks) (r .relabellings)
+    ensures { λ r. ⌜ placed (now (degrees .exit)) (now (sides .exit)) (now (labels .exit)) (r .blocks) (r .relabellings) (r .ring)
         ≡ mergedIn (now (degrees .entry)) (now (sides .entry)) (now (ends .entry)) (now (labels .entry)) blocks a b e ⌝ }
 {
     let c = merge_chains(degrees, sides, ends, labels, blocks, a, b, e, e);
@@ -72,67 +122,7 @@ fn place_merged(
     c
 }
 
-// v is regular, y isolated or a branch: v's chain is split, and the edge is a new one.
-fn place_split(
-    degrees: &mut [u16],
-    sides: &mut [u16],
-    ends: &[u16],
-    labels: &mut [u32],
-    blocks: u16,
-    v: u16,
-    y: u16,
-    e: u16,
-) -> ChainChange
-    ensures { λ r. ⌜ placed (now (degrees .exit)) (now (sides .exit)) (now (labels .exit)) (r .blocks) (r .relabellings)
-        ≡ splitNewIn (now (degrees .entry)) (now (sides .entry)) (now (ends .entry)) (now (labels .entry)) blocks v y e ⌝ }
-{
-    let c = split_chain(degrees, sides, ends, labels, blocks, v, y, e);
-    meet_end(degrees, sides, y, e);
-    raise_both(degrees, v, y);
-    c
-}
-
-// v is regular, x a leaf: v's chain is split, and then x's goes on over the edge. If that is one chain, x is labelled by what the split
-// left, with the new degrees.
-fn place_split_extended(
-    degrees: &mut [u16],
-    sides: &mut [u16],
-    ends: &[u16],
-    labels: &mut [u32],
-    blocks: u16,
-    v: u16,
-    x: u16,
-    e: u16,
-) -> ChainChange
-    ensures { λ r. ⌜ placed (now (degrees .exit)) (now (sides .exit)) (now (labels .exit)) (r .blocks) (r .relabellings)
-        ≡ splitExtendedIn (now (degrees .entry)) (now (sides .entry)) (now (ends .entry)) (now (labels .entry)) blocks v x e ⌝ }
-{
-    let c = split_chain(degrees, sides, ends, labels, blocks, v, x, e);
-    raise_both(degrees, v, x);
-    let k = extend_chain(degrees, sides, ends, labels, c.blocks, x, e);
-    ChainChange::new(k, c.relabellings)
-}
-
-// Both are regular: a's chain is split, then b's, and the edge is a new one.
-fn place_split_both(
-    degrees: &mut [u16],
-    sides: &mut [u16],
-    ends: &[u16],
-    labels: &mut [u32],
-    blocks: u16,
-    a: u16,
-    b: u16,
-    e: u16,
-) -> ChainChange
-    ensures { λ r. ⌜ placed (now (degrees .exit)) (now (sides .exit)) (now (labels .exit)) (r .blocks) (r .relabellings)
-        ≡ splitBothNewIn (now (degrees .entry)) (now (sides .entry)) (now (ends .entry)) (now (labels .entry)) blocks a b e ⌝ }
-{
-    let c = split_both(degrees, sides, ends, labels, blocks, a, b, e);
-    raise_both(degrees, a, b);
-    c
-}
-
-// Document 01's cases, and document 02's ring among the merges.
+// By the case. rings: a ring may stand.
 pub fn place_edge(
     case: Case,
     degrees: &mut [u16],
@@ -143,29 +133,17 @@ pub fn place_edge(
     a: u16,
     b: u16,
     e: u16,
+    rings: bool,
 ) -> ChainChange
-    ensures { λ r. ⌜ placed (now (degrees .exit)) (now (sides .exit)) (now (labels .exit)) (r .blocks) (r .relabellings)
-        ≡ placeIn (caseIn case) (now (degrees .entry)) (now (sides .entry)) (now (ends .entry)) (now (labels .entry)) blocks a b e ⌝ }
+    ensures { λ r. ⌜ placed (now (degrees .exit)) (now (sides .exit)) (now (labels .exit)) (r .blocks) (r .relabellings) (r .ring)
+        ≡ placeIn (caseIn case) (now (degrees .entry)) (now (sides .entry)) (now (ends .entry)) (now (labels .entry)) blocks a b e rings ⌝ }
 {
-    match case {
-        Case::New => {
-            place_new(degrees, sides, a, b, e);
-            ChainChange::new(blocks, 0)
-        }
-        Case::ExtendFirst => place_extended(degrees, sides, ends, labels, blocks, a, b, e),
-        Case::ExtendSecond => place_extended(degrees, sides, ends, labels, blocks, b, a, e),
-        Case::Merge => place_merged(degrees, sides, ends, labels, blocks, a, b, e),
-        Case::SplitExtendFirst => place_split_extended(
-            degrees,
-            sides,
-            ends,
-            labels,
-            blocks,
-            b,
-            a,
-            e,
-        ),
-        Case::SplitExtendSecond => place_split_extended(
+    let work = work_of(case, a, b);
+    match work {
+        Work::Merge => place_merged(degrees, sides, ends, labels, blocks, a, b, e),
+        Work::Open(splits, extension) => place_open(
+            splits,
+            extension,
             degrees,
             sides,
             ends,
@@ -174,9 +152,7 @@ pub fn place_edge(
             a,
             b,
             e,
+            rings,
         ),
-        Case::SplitFirst => place_split(degrees, sides, ends, labels, blocks, a, b, e),
-        Case::SplitSecond => place_split(degrees, sides, ends, labels, blocks, b, a, e),
-        Case::SplitBoth => place_split_both(degrees, sides, ends, labels, blocks, a, b, e),
     }
 }

@@ -13,7 +13,7 @@ use Rattle.model.specs.Basics.{if_then_else_}
 use Rattle.model.specs.Labels.{base, isRelabelled}
 use Rattle.model.proofs.Basics.Booleans.{one-most}
 use Rattle.tables.specs.Steps.{farIn, turnIn, more16, nextIn}
-use Rattle.labels.specs.Labelling.{MarksIn, marksIn, countAhead, risesIn, orientIn, labelVertexIn, relabelIn, extendAt, extendIn}
+use Rattle.labels.specs.Labelling.{MarksIn, marksIn, countAhead, risesIn, orientIn, labelVertexIn, relabelIn, beyondIn, extendAt, extendIn}
 
 pub label-law : (s l s′ l′ : List ℕ) (v label before after old n : ℕ) (up r : Bool) → old ≡ getD l v 0 → l′ ≡ set l v label
     → s′ ≡ orientIn up s v before after → r ≡ isRelabelled old label → n ≡ (if r then 1 else 0)
@@ -92,16 +92,21 @@ module _ (degrees ends : List ℕ) (up : Bool) where
       → marksIn s′ l′ m ≡ relabelIn degrees ends up n s l d v label → m ≤ n
   relabel-le n s l s′ l′ d v label m e = rw (ap (λ (w : MarksIn). w .count) e) (count-le n s l d v label)
 
+-- the leaf x labelled beyond its neighbour u
+pub beyond-law : (s l s′ l′ : List ℕ) (x e d u old label m : ℕ) (up : Bool) → up ≡ risesIn s d u → old ≡ getD l u 0 → label ≡ nextIn up old
+    → marksIn s′ l′ m ≡ labelVertexIn s l x label d e up → marksIn s′ l′ 0 ≡ beyondIn s l x e d u
+unfolding beyondIn
+beyond-law s l s′ l′ x e d u old label m up i j g k = rw (← i, ← j, ← g, ← k)
+
 -- the chain at the leaf x, whose one edge is d with the far end u: with regular vertices, and without
-module _ (degrees s ends l s′ l′ : List ℕ) (blocks x e d u m : ℕ)
+module _ (degrees s ends l s′ l′ : List ℕ) (blocks x e d u : ℕ)
     (a : (d ≡ getD s (2 * x) 0) × (u ≡ farIn ends d x)) where
-  pub extend-on : (old label : ℕ) (up : Bool) → getD degrees u 0 ≡ 2 → up ≡ risesIn s d u
-      → old ≡ getD l u 0 → label ≡ nextIn up old → marksIn s′ l′ m ≡ labelVertexIn s l x label d e up
+  pub extend-on : getD degrees u 0 ≡ 2 → marksIn s′ l′ 0 ≡ beyondIn s l x e d u
       → marksIn s′ l′ blocks ≡ extendIn degrees s ends l blocks x e
   unfolding extendIn extendAt
-  extend-on old label up h i j g k = rw (← a .0, ← a .1, eq-eqb _ _ h, ← i, ← j, ← g, ← k)
+  extend-on h k = rw (← a .0, ← a .1, eq-eqb _ _ h, ← k)
 
-  pub extend-begun : (k label : ℕ) → (getD degrees u 0 ≡ 2 → ⊥) → k ≡ more16 blocks → label ≡ base k
+  pub extend-begun : (k label m : ℕ) → (getD degrees u 0 ≡ 2 → ⊥) → k ≡ more16 blocks → label ≡ base k
       → marksIn s′ l′ m ≡ labelVertexIn s l x label d e true → marksIn s′ l′ k ≡ extendIn degrees s ends l blocks x e
   unfolding extendIn extendAt
-  extend-begun k label h i g j = rw (← a .0, ← a .1, ne-eqb _ _ h, ← i, ← g, ← j)
+  extend-begun k label m h i g j = rw (← a .0, ← a .1, ne-eqb _ _ h, ← i, ← g, ← j)

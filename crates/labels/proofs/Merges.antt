@@ -1,6 +1,6 @@
 -- Two chains joined, a chain begun, a ring closed, and the ways out of a merge.
 use mathlib.Core.Path.{_≡_}
-use mathlib.Core.Bool.{Bool, true}
+use mathlib.Core.Bool.{Bool, true, false}
 use mathlib.Core.List.{List}
 use Prim.Native.Nat.{ℕ, _+_, _*_}
 use borrow.Author.Tests.{eq-eqb, ne-eqb}
@@ -8,7 +8,7 @@ use lib.ListN.{getD}
 use Rattle.model.specs.Labels.{base}
 use Rattle.tables.specs.Steps.{farIn, more16, nextIn}
 use Rattle.tables.specs.Walks.{Met, lockstepIn}
-use Rattle.labels.specs.Labelling.{marksIn, countAhead, risesIn, labelVertexIn, relabelIn, extendIn}
+use Rattle.labels.specs.Labelling.{marksIn, countAhead, risesIn, labelVertexIn, relabelIn, beyondIn}
 use Rattle.labels.specs.Merging.{joinIn, beginIn, changed, closeIn, keeperFor, keeperIn, mergeAt, mergeIn}
 use Rattle.labels.specs.declared.merging.Keeper.{Keeper}
 use Rattle.labels.specs.declared.merging.Keeper.the-variants.{Neither, Chain}
@@ -51,7 +51,7 @@ module _ (degrees : List ℕ) (a b : ℕ) (m : Met) where
 
 module _ (degrees s ends l : List ℕ) (blocks a b e n da ua db ub : ℕ) (m : Met) (h : (da ≡ getD s (2 * a) 0) × (ua ≡ farIn ends da a))
     (i : (db ≡ getD s (2 * b) 0) × (ub ≡ farIn ends db b)) (is : m ≡ lockstepIn degrees s ends n da ua db ub) where
-  pub merge-closes : m .first ≡ b → closeIn degrees s ends l blocks a b e da ua ≡ mergeIn degrees s ends l blocks a b e n
+  pub merge-closes : m .first ≡ b → closeIn s l blocks a b e da ua db ub ≡ mergeIn degrees s ends l blocks a b e n
   unfolding mergeIn mergeAt
   merge-closes o = rw (← h .0, ← h .1, ← i .0, ← i .1, ← is, eq-eqb _ _ o)
 
@@ -61,24 +61,24 @@ module _ (degrees s ends l : List ℕ) (blocks a b e n da ua db ub : ℕ) (m : M
   merge-kept keeper o k = rw (← h .0, ← h .1, ← i .0, ← i .1, ← is, ne-eqb _ _ o, ← k)
 
 -- what the code answers, by the chain that keeps its labels
-module _ (degrees s ends l s′ l′ : List ℕ) (blocks a b e n da db blocks′ m′ : ℕ) (keeper : Keeper) where
+module _ (degrees s ends l s′ l′ : List ℕ) (blocks a b e n da db blocks′ m′ : ℕ) (ring : Bool) (keeper : Keeper) where
   pub answer-joined : (x y m : ℕ) → keeper ≡ Chain x y → marksIn s′ l′ m ≡ joinIn degrees s ends l x y e n
-      → (blocks′ ≡ blocks) × (m′ ≡ m) → changed s′ l′ blocks′ m′ ≡ keeperIn keeper degrees s ends l blocks a b e n da db
-  answer-joined x y m o j z = rw (o, z .0, z .1, ← j)
+      → (blocks′ ≡ blocks) × (m′ ≡ m) × (ring ≡ false) → changed s′ l′ blocks′ m′ ring ≡ keeperIn keeper degrees s ends l blocks a b e n da db
+  answer-joined x y m o j z = rw (o, z .0, z .1, z .2, ← j)
 
   pub answer-begun : (k : ℕ) → keeper ≡ Neither → k ≡ more16 blocks → marksIn s′ l′ 0 ≡ beginIn s l a da b db e k
-      → (blocks′ ≡ k) × (m′ ≡ 0) → changed s′ l′ blocks′ m′ ≡ keeperIn keeper degrees s ends l blocks a b e n da db
-  answer-begun k o r j z = rw (o, z .0, z .1, ← r, ← j)
+      → (blocks′ ≡ k) × (m′ ≡ 0) × (ring ≡ false) → changed s′ l′ blocks′ m′ ring ≡ keeperIn keeper degrees s ends l blocks a b e n da db
+  answer-begun k o r j z = rw (o, z .0, z .1, z .2, ← r, ← j)
 
 -- a ring is closed
-module _ (degrees s ends l s′ l′ : List ℕ) (blocks a b e da ua blocks′ m′ : ℕ) where
+module _ (s l s′ l′ : List ℕ) (blocks a b e da ua db ub blocks′ m′ : ℕ) (ring : Bool) where
   pub closes-begun : (k : ℕ) → ua ≡ b → k ≡ more16 blocks → marksIn s′ l′ 0 ≡ beginIn s l a e b e da k
-      → (blocks′ ≡ k) × (m′ ≡ 0) → changed s′ l′ blocks′ m′ ≡ closeIn degrees s ends l blocks a b e da ua
+      → (blocks′ ≡ k) × (m′ ≡ 0) × (ring ≡ true) → changed s′ l′ blocks′ m′ ring ≡ closeIn s l blocks a b e da ua db ub
   unfolding closeIn
-  closes-begun k o r j z = rw (eq-eqb _ _ o, z .0, z .1, ← r, ← j)
+  closes-begun k o r j z = rw (eq-eqb _ _ o, z .0, z .1, z .2, ← r, ← j)
 
-  pub closes-on : (s₁ l₁ : List ℕ) (k₁ k₂ : ℕ) → (ua ≡ b → ⊥) → marksIn s₁ l₁ k₁ ≡ extendIn degrees s ends l blocks a e
-      → marksIn s′ l′ k₂ ≡ extendIn degrees s₁ ends l₁ k₁ b e → (blocks′ ≡ k₂) × (m′ ≡ 0)
-      → changed s′ l′ blocks′ m′ ≡ closeIn degrees s ends l blocks a b e da ua
+  pub closes-on : (s₁ l₁ : List ℕ) → (ua ≡ b → ⊥) → marksIn s₁ l₁ 0 ≡ beyondIn s l a e da ua
+      → marksIn s′ l′ 0 ≡ beyondIn s₁ l₁ b e db ub → (blocks′ ≡ blocks) × (m′ ≡ 0) × (ring ≡ true)
+      → changed s′ l′ blocks′ m′ ring ≡ closeIn s l blocks a b e da ua db ub
   unfolding closeIn
-  closes-on s₁ l₁ k₁ k₂ o g h z = rw (ne-eqb _ _ o, z .0, z .1, ← g, ← h)
+  closes-on s₁ l₁ o g h z = rw (ne-eqb _ _ o, z .0, z .1, z .2, ← g, ← h)

@@ -43,11 +43,17 @@ relabelIn degrees ends up (suc n) sides labels d v label =
 abbrev pub risesIn : List ℕ → ℕ → ℕ → Bool
 risesIn sides d v = not (eqb (getD sides (2 * v) 0) d)
 
+-- the leaf x, whose one edge is d with the far end u, gets the next label beyond u's; e is its other edge
+unfoldable pub beyondIn : List ℕ → List ℕ → ℕ → ℕ → ℕ → ℕ → MarksIn
+beyondIn sides labels x e d u =
+    let up = risesIn sides d u in
+    let h = labelVertexIn sides labels x (nextIn up (getD labels u 0)) d e up in
+    marksIn (h .sides) (h .labels) 0
+
 -- the chain at the leaf x, whose one edge is d with the far end u, goes on over edge e; the count is that of blocks
 unfoldable pub extendAt : List ℕ → List ℕ → List ℕ → ℕ → ℕ → ℕ → ℕ → ℕ → MarksIn
 extendAt degrees sides labels blocks x e d u =
-    let up = risesIn sides d u in
-    let h = labelVertexIn sides labels x (nextIn up (getD labels u 0)) d e up in
+    let h = beyondIn sides labels x e d u in
     let g = labelVertexIn sides labels x (base (more16 blocks)) d e true in
     if eqb (getD degrees u 0) 2 then marksIn (h .sides) (h .labels) blocks else marksIn (g .sides) (g .labels) (more16 blocks)
 

@@ -1,6 +1,6 @@
 -- Two chains become one, or one a ring, as functions of lists that mirror the code.
 use Prim.Native.Nat.{ℕ, _+_, _*_}
-use mathlib.Core.Bool.{true}
+use mathlib.Core.Bool.{Bool, true, false}
 use mathlib.Core.List.{List}
 use lib.ListN.{getD}
 use lib.Dec.{eqb}
@@ -8,7 +8,7 @@ use Rattle.model.specs.Basics.{if_then_else_}
 use Rattle.model.specs.Labels.{base}
 use Rattle.tables.specs.Steps.{farIn, more16, nextIn}
 use Rattle.tables.specs.Walks.{Met, lockstepIn}
-use Rattle.labels.specs.Labelling.{MarksIn, marksIn, countAhead, risesIn, labelVertexIn, relabelIn, extendIn}
+use Rattle.labels.specs.Labelling.{MarksIn, marksIn, countAhead, risesIn, labelVertexIn, relabelIn, beyondIn}
 use Rattle.labels.specs.declared.merging.Keeper.{Keeper}
 use Rattle.labels.specs.declared.merging.Keeper.the-variants.{Neither, Chain}
 
@@ -33,25 +33,26 @@ beginIn sides labels a before b after between k =
     let g = labelVertexIn (h .sides) (h .labels) b (base k + 1) between after true in
     marksIn (g .sides) (g .labels) 0
 
--- what becomes of the chains
+-- what becomes of the chains, and whether a ring is closed
 pub record Changed : Type 0 where
   pub sides : List ℕ
   pub labels : List ℕ
   pub blocks : ℕ
   pub relabellings : ℕ
+  pub ring : Bool
 
-abbrev pub changed : List ℕ → List ℕ → ℕ → ℕ → Changed
-changed sides labels blocks relabellings =
-    record { sides = sides; labels = labels; blocks = blocks; relabellings = relabellings }
+abbrev pub changed : List ℕ → List ℕ → ℕ → ℕ → Bool → Changed
+changed sides labels blocks relabellings ring =
+    record { sides = sides; labels = labels; blocks = blocks; relabellings = relabellings; ring = ring }
 
--- edge e closes a ring between the leaves a and b of one chain; a's one edge is da, with the far end ua
-unfoldable pub closeIn : List ℕ → List ℕ → List ℕ → List ℕ → ℕ → ℕ → ℕ → ℕ → ℕ → ℕ → Changed
-closeIn degrees sides ends labels blocks a b e da ua =
+-- edge e closes a ring between the leaves a and b of one chain; their edges are da and db, with the far ends ua and ub
+unfoldable pub closeIn : List ℕ → List ℕ → ℕ → ℕ → ℕ → ℕ → ℕ → ℕ → ℕ → ℕ → Changed
+closeIn sides labels blocks a b e da ua db ub =
     let g = beginIn sides labels a e b e da (more16 blocks) in
-    let h = extendIn degrees sides ends labels blocks a e in
-    let j = extendIn degrees (h .sides) ends (h .labels) (h .count) b e in
-    if eqb ua b then changed (g .sides) (g .labels) (more16 blocks) 0
-    else changed (j .sides) (j .labels) (j .count) 0
+    let h = beyondIn sides labels a e da ua in
+    let j = beyondIn (h .sides) (h .labels) b e db ub in
+    if eqb ua b then changed (g .sides) (g .labels) (more16 blocks) 0 true
+    else changed (j .sides) (j .labels) blocks 0 true
 
 -- which chain keeps its labels, a's or b's, by where the walks in lockstep met
 unfoldable pub keeperFor : List ℕ → ℕ → ℕ → Met → Keeper
@@ -65,14 +66,14 @@ keeperFor degrees a b m =
 abbrev pub keeperIn : Keeper → List ℕ → List ℕ → List ℕ → List ℕ → ℕ → ℕ → ℕ → ℕ → ℕ → ℕ → ℕ → Changed
 keeperIn Neither degrees sides ends labels blocks a b e n da db =
     let g = beginIn sides labels a da b db e (more16 blocks) in
-    changed (g .sides) (g .labels) (more16 blocks) 0
+    changed (g .sides) (g .labels) (more16 blocks) 0 false
 keeperIn (Chain x y) degrees sides ends labels blocks a b e n da db =
     let j = joinIn degrees sides ends labels x y e n in
-    changed (j .sides) (j .labels) blocks (j .count)
+    changed (j .sides) (j .labels) blocks (j .count) false
 
 unfoldable pub mergeAt : List ℕ → List ℕ → List ℕ → List ℕ → ℕ → ℕ → ℕ → ℕ → ℕ → ℕ → ℕ → Met → Changed
 mergeAt degrees sides ends labels blocks a b e n da db m =
-    if eqb (m .first) b then closeIn degrees sides ends labels blocks a b e da (farIn ends da a)
+    if eqb (m .first) b then closeIn sides labels blocks a b e da (farIn ends da a) db (farIn ends db b)
     else keeperIn (keeperFor degrees a b m) degrees sides ends labels blocks a b e n da db
 
 -- the chains of the leaves a and b are merged over edge e

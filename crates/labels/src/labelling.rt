@@ -3,8 +3,8 @@
 // - the greatest key smaller than a label: `label_vertex`. It keeps no dictionary of lowest labels; a find looks for the label itself.
 // - a stored weight that a split makes false: `label_vertex`. It stores none; a reach adds up lengths.
 // - a lone regular vertex always extended upwards: `rises`.
-// - the second split in the chain as it was: `split_both`.
-// - the leaf's own chain split: `place_split_extended` of insertion.
+// - the second split in the chain as it was: `split_both` and `split_ends`.
+// - the leaf's own chain split: `place_open` of insertion.
 use tables::access::at32;
 use tables::access::of16;
 use tables::access::of32;
@@ -18,7 +18,7 @@ use tables::walks::leave_leaf;
 use tables::walks::step_over;
 ghost use mathlib.Core.Path.{_≡_};
 ghost use Rattle.model.specs.Labels.{base, isRelabelled};
-ghost use Rattle.labels.specs.Labelling.{marksIn, orientIn, labelVertexIn, relabelIn, risesIn, extendIn};
+ghost use Rattle.labels.specs.Labelling.{marksIn, orientIn, labelVertexIn, relabelIn, risesIn, beyondIn, extendIn};
 
 // The first label of block k: document 01's base of the k-th birth.
 pub fn base(k: u16) -> u32
@@ -112,6 +112,17 @@ pub fn rises(sides: &[u16], w: Walker) -> bool
     low_edge(sides, w.at) != w.edge
 }
 
+// The leaf x gets the next label beyond its neighbour, at which w stands; e is its other edge now. A leaf has no label, so it is not
+// relabelled.
+pub fn label_beyond(sides: &mut [u16], labels: &mut [u32], x: u16, e: u16, w: Walker)
+    ensures { λ _. ⌜ marksIn (now (sides .exit)) (now (labels .exit)) 0
+        ≡ beyondIn (now (sides .entry)) (now (labels .entry)) x e (w .edge) (w .at) ⌝ }
+{
+    let up = rises(sides, w);
+    let label = next_label(of32(labels, w.at), up);
+    label_vertex(sides, labels, x, label, w.edge, e, up);
+}
+
 // The chain at the leaf x goes on over edge e. The answer is the number of blocks.
 pub fn extend_chain(
     degrees: &[u16],
@@ -127,9 +138,7 @@ pub fn extend_chain(
 {
     let w = leave_leaf(sides, ends, x);
     if of16(degrees, w.at) == 2 {
-        let up = rises(sides, w);
-        let label = next_label(of32(labels, w.at), up);
-        label_vertex(sides, labels, x, label, w.edge, e, up);
+        label_beyond(sides, labels, x, e, w);
         return blocks;
     }
     let k = one_more16(blocks);

@@ -1,6 +1,6 @@
 // The chains of two leaves become one (document 01: merging), or, if that is one chain, a ring (document 02, S-2).
 use crate::labelling::base;
-use crate::labelling::extend_chain;
+use crate::labelling::label_beyond;
 use crate::labelling::label_vertex;
 use crate::labelling::relabel_chain;
 use crate::labelling::rises;
@@ -13,23 +13,38 @@ use tables::walks::Walker;
 use tables::walks::leave_leaf;
 use tables::walks::walk_lockstep;
 ghost use mathlib.Core.Path.{_≡_};
+ghost use mathlib.Core.Bool.{true, false};
 ghost use Rattle.tables.specs.Walks.{met};
 ghost use Rattle.labels.specs.Labelling.{marksIn};
 ghost use Rattle.labels.specs.Merging.{joinIn, beginIn, changed, closeIn, keeperFor, mergeIn};
 
-// What an edge makes of the chains: the number of blocks (document 01: births) then, and of the vertices relabelled (re-hung).
+// What an edge makes of the chains: the number of blocks (document 01: births) then, and of the vertices relabelled (re-hung); and
+// whether it closes a ring.
 pub struct ChainChange {
     pub blocks: u16,
     pub relabellings: u32,
+    pub ring: bool,
 }
 
 impl ChainChange {
     pub fn new(blocks: u16, relabellings: u32) -> ChainChange
-        ensures { λ r. ⌜ (r .blocks ≡ blocks) × (r .relabellings ≡ relabellings) ⌝ }
+        ensures { λ r. ⌜ (r .blocks ≡ blocks) × (r .relabellings ≡ relabellings) × (r .ring ≡ false) ⌝ }
     {
         ChainChange {
             blocks,
             relabellings,
+            ring: false,
+        }
+    }
+
+    // Closing relabels nothing.
+    pub fn closing(blocks: u16) -> ChainChange
+        ensures { λ r. ⌜ (r .blocks ≡ blocks) × (r .relabellings ≡ 0) × (r .ring ≡ true) ⌝ }
+    {
+        ChainChange {
+            blocks,
+            relabellings: 0,
+            ring: true,
         }
     }
 }
@@ -80,31 +95,29 @@ fn begin_chain(
     label_vertex(sides, labels, b, low + 1, between, after, true);
 }
 
-// Edge e closes a ring: a and b are the leaves of one chain, and `first` has left a. Each end gets the next label beyond its neighbour;
-// or, without regular vertices, it is a birth. e is then the low edge of the lowest label and the high edge of the highest.
+// Edge e closes a ring: a and b are the leaves of one chain, which `first` and `second` have left. Each end gets the next label beyond
+// its neighbour; or, without regular vertices, it is a birth. e is then the low edge of the lowest label and the high edge of the highest.
 fn close_ring(
-    degrees: &[u16],
     sides: &mut [u16],
-    ends: &[u16],
     labels: &mut [u32],
     blocks: u16,
     a: u16,
     b: u16,
     e: u16,
     first: Walker,
+    second: Walker,
 ) -> ChainChange
-    ensures { λ r. ⌜ changed (now (sides .exit)) (now (labels .exit)) (r .blocks) (r .relabellings)
-        ≡ closeIn (now (degrees .entry)) (now (sides .entry)) (now (ends .entry)) (now (labels .entry)) blocks a b e
-        (first .edge) (first .at) ⌝ }
+    ensures { λ r. ⌜ changed (now (sides .exit)) (now (labels .exit)) (r .blocks) (r .relabellings) (r .ring)
+        ≡ closeIn (now (sides .entry)) (now (labels .entry)) blocks a b e (first .edge) (first .at) (second .edge) (second .at) ⌝ }
 {
     if first.at == b {
         let k = one_more16(blocks);
         begin_chain(sides, labels, a, e, b, e, first.edge, k);
-        return ChainChange::new(k, 0);
+        return ChainChange::closing(k);
     }
-    let k = extend_chain(degrees, sides, ends, labels, blocks, a, e);
-    let m = extend_chain(degrees, sides, ends, labels, k, b, e);
-    ChainChange::new(m, 0)
+    label_beyond(sides, labels, a, e, first);
+    label_beyond(sides, labels, b, e, second);
+    ChainChange::closing(blocks)
 }
 
 // The leaf whose chain keeps its labels, then the other; or neither, where no chain has a regular vertex.
@@ -142,14 +155,14 @@ pub fn merge_chains(
     e: u16,
     fuel: u16,
 ) -> ChainChange
-    ensures { λ r. ⌜ changed (now (sides .exit)) (now (labels .exit)) (r .blocks) (r .relabellings)
+    ensures { λ r. ⌜ changed (now (sides .exit)) (now (labels .exit)) (r .blocks) (r .relabellings) (r .ring)
         ≡ mergeIn (now (degrees .entry)) (now (sides .entry)) (now (ends .entry)) (now (labels .entry)) blocks a b e fuel ⌝ }
 {
     let first = leave_leaf(sides, ends, a);
     let second = leave_leaf(sides, ends, b);
     let met = walk_lockstep(degrees, sides, ends, first, second, fuel);
     if met.first == b {
-        return close_ring(degrees, sides, ends, labels, blocks, a, b, e, first);
+        return close_ring(sides, labels, blocks, a, b, e, first, second);
     }
     let keeper = keeper_of(degrees, met, a, b);
     match keeper {

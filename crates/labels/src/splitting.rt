@@ -12,7 +12,7 @@ use tables::steps::put_pair;
 ghost use mathlib.Core.Path.{_≡_};
 ghost use Rattle.labels.specs.Labelling.{marksIn};
 ghost use Rattle.labels.specs.Merging.{changed};
-ghost use Rattle.labels.specs.Splitting.{bareIn, tapIn, splitBy, leftFor, splitIn, splitBothIn};
+ghost use Rattle.labels.specs.Splitting.{bareIn, tapIn, splitBy, leftFor, splitIn, splitBothIn, splitEndsIn};
 
 // Vertex v loses its label and its sides. The pieces of its chain keep theirs: no other vertex is touched.
 fn bare_vertex(sides: &mut [u16], labels: &mut [u32], v: u16)
@@ -54,7 +54,7 @@ fn split_by(
     v: u16,
     w: u16,
 ) -> ChainChange
-    ensures { λ r. ⌜ changed (now (sides .exit)) (now (labels .exit)) (r .blocks) (r .relabellings)
+    ensures { λ r. ⌜ changed (now (sides .exit)) (now (labels .exit)) (r .blocks) (r .relabellings) (r .ring)
         ≡ splitBy round (now (degrees .entry)) (now (sides .entry)) (now (ends .entry)) (now (labels .entry)) blocks v w ⌝ }
 {
     match round {
@@ -77,7 +77,7 @@ fn split_by(
 }
 
 // The regular vertex v is split; w is the other end of the edge, and singular.
-pub fn split_chain(
+fn split_chain(
     degrees: &[u16],
     sides: &mut [u16],
     ends: &[u16],
@@ -87,7 +87,7 @@ pub fn split_chain(
     w: u16,
     fuel: u16,
 ) -> ChainChange
-    ensures { λ r. ⌜ changed (now (sides .exit)) (now (labels .exit)) (r .blocks) (r .relabellings)
+    ensures { λ r. ⌜ changed (now (sides .exit)) (now (labels .exit)) (r .blocks) (r .relabellings) (r .ring)
         ≡ splitIn (now (degrees .entry)) (now (sides .entry)) (now (ends .entry)) (now (labels .entry)) blocks v w fuel ⌝ }
 {
     let round = ring_at(degrees, sides, ends, v, w, fuel);
@@ -106,7 +106,7 @@ fn left_for(second: Round) -> Round
 }
 
 // The regular vertices a and b are split, a first. What lies round about them is read before anything is written.
-pub fn split_both(
+fn split_both(
     degrees: &[u16],
     sides: &mut [u16],
     ends: &[u16],
@@ -116,7 +116,7 @@ pub fn split_both(
     b: u16,
     fuel: u16,
 ) -> ChainChange
-    ensures { λ r. ⌜ changed (now (sides .exit)) (now (labels .exit)) (r .blocks) (r .relabellings)
+    ensures { λ r. ⌜ changed (now (sides .exit)) (now (labels .exit)) (r .blocks) (r .relabellings) (r .ring)
         ≡ splitBothIn (now (degrees .entry)) (now (sides .entry)) (now (ends .entry)) (now (labels .entry)) blocks a b fuel ⌝ }
 {
     let first = ring_at(degrees, sides, ends, a, b, fuel);
@@ -124,4 +124,47 @@ pub fn split_both(
     let c = split_by(first, degrees, sides, ends, labels, blocks, a, b);
     let d = split_by(second, degrees, sides, ends, labels, c.blocks, b, a);
     ChainChange::new(d.blocks, add32(c.relabellings, d.relabellings))
+}
+
+// Which ends of an edge are regular: neither; one, and then the other end; both.
+pub enum Splits {
+    Neither,
+    One(u16, u16),
+    Both,
+}
+
+// The regular ends of the edge between a and b are split. Where no ring stands, none is looked for: each loses its label and its sides.
+pub fn split_ends(
+    splits: Splits,
+    degrees: &[u16],
+    sides: &mut [u16],
+    ends: &[u16],
+    labels: &mut [u32],
+    blocks: u16,
+    a: u16,
+    b: u16,
+    fuel: u16,
+    rings: bool,
+) -> ChainChange
+    ensures { λ r. ⌜ changed (now (sides .exit)) (now (labels .exit)) (r .blocks) (r .relabellings) (r .ring)
+        ≡ splitEndsIn splits (now (degrees .entry)) (now (sides .entry)) (now (ends .entry)) (now (labels .entry)) blocks a b fuel rings ⌝ }
+{
+    match splits {
+        Splits::Neither => ChainChange::new(blocks, 0),
+        Splits::One(v, w) => {
+            if rings {
+                return split_chain(degrees, sides, ends, labels, blocks, v, w, fuel);
+            }
+            bare_vertex(sides, labels, v);
+            ChainChange::new(blocks, 0)
+        }
+        Splits::Both => {
+            if rings {
+                return split_both(degrees, sides, ends, labels, blocks, a, b, fuel);
+            }
+            bare_vertex(sides, labels, a);
+            bare_vertex(sides, labels, b);
+            ChainChange::new(blocks, 0)
+        }
+    }
 }

@@ -17,6 +17,7 @@ use Rattle.model.specs.Tables.{countsOf, highSide, lowSide, sidesOf, tablesOf}
 use Rattle.model.specs.Notions.{Reachable, with-edge, with-vertex}
 use Rattle.list.specs.Reading.{badRecord, edgeTo, ends, headerAt, recordAt, recordOf, vertexTo}
 use Rattle.tables.proofs.Sums.{more16-is}
+use Rattle.agreement.proofs.Standing.{Warns, warns-edge, warns-first, warns-vertex}
 use Rattle.agreement.proofs.Landing.{edge-parts, shownIn}
 use Rattle.register.specs.Records.{ReadingIn, landListIn, landRecordIn, landRecordsIn, landVertexIn, readingIn}
 use Rattle.model.proofs.Registers.Accepted.{added}
@@ -40,16 +41,16 @@ with-vertex-tables r = rw (vertex-sides r (upTo maxVertices))
 vertex-tables : (r r′ : Register) → landVertex r ≡ landed r′ → tablesOf r′ ≡ tablesOf r
 vertex-tables r r′ e = subst (λ (s : Register). tablesOf s ≡ tablesOf r) ((added r r′ e) .1) (with-vertex-tables r)
 
-vertex-agrees : (r : Register) → landVertexIn (countsOf r) ≡ (shownIn r (landVertex r)) .answer
+vertex-agrees : (r : Register) (rings : Bool) → landVertexIn (countsOf r) rings ≡ (shownIn r rings (landVertex r)) .answer
 unfolding landVertexIn landVertex countsOf withVertex shownIn
-vertex-agrees r = go (leb maxVertices (r .vertices)) refl
+vertex-agrees r rings = go (leb maxVertices (r .vertices)) refl
   where
-    go : (b : Bool) → leb maxVertices (r .vertices) ≡ b → landVertexIn (countsOf r) ≡ (shownIn r (landVertex r)) .answer
+    go : (b : Bool) → leb maxVertices (r .vertices) ≡ b → landVertexIn (countsOf r) rings ≡ (shownIn r rings (landVertex r)) .answer
     go true e = rw e
     go false e = rw (e, more16-is (r .vertices) (omega (arith, leb-false maxVertices (r .vertices) e)))
 
-vertex-answer : (r : Register) (l : Landed) → landVertex r ≡ l → landVertexIn (countsOf r) ≡ (shownIn r l) .answer
-vertex-answer r l e = vertex-agrees r ∙ ap (λ (m : Landed). (shownIn r m) .answer) e
+vertex-answer : (r : Register) (rings : Bool) (l : Landed) → landVertex r ≡ l → landVertexIn (countsOf r) rings ≡ (shownIn r rings l) .answer
+vertex-answer r rings l e = vertex-agrees r rings ∙ ap (λ (m : Landed). (shownIn r rings m) .answer) e
 
 -- ---- which record stands at an index, and where the bytes behind it begin
 
@@ -91,34 +92,34 @@ module _ (bs : List ℕ) (i : ℕ) where
 
 -- ---- records, and the list
 
-records-agree : (bs : List ℕ) (n k : ℕ) (r : Register) (i : ℕ) → Reachable r
-    → landRecordsIn bs n k (tablesOf r) (countsOf r) i ≡ shownRead (landRecords n k r (drop i bs))
+records-agree : (bs : List ℕ) (n k : ℕ) (r : Register) (rings : Bool) (i : ℕ) → Reachable r → Warns rings (r .edges)
+    → landRecordsIn bs n k (tablesOf r) (countsOf r) rings i ≡ shownRead (landRecords n k r (drop i bs))
 unfolding landRecordsIn landRecordIn landRecords shownIn
-records-agree bs zero k r i g = refl
-records-agree bs (suc n) k r i g = go (drop i bs) refl (λ r′ j g′. records-agree bs n (k + 1) r′ j g′)
+records-agree bs zero k r rings i g w = refl
+records-agree bs (suc n) k r rings i g w = go (drop i bs) refl (λ r′ rings′ j g′ w′. records-agree bs n (k + 1) r′ rings′ j g′ w′)
   where
     Goal : Type 0
-    Goal = landRecordsIn bs (suc n) k (tablesOf r) (countsOf r) i ≡ shownRead (landRecords (suc n) k r (drop i bs))
+    Goal = landRecordsIn bs (suc n) k (tablesOf r) (countsOf r) rings i ≡ shownRead (landRecords (suc n) k r (drop i bs))
 
     Rest : Type 0
-    Rest = (r′ : Register) (j : ℕ) → Reachable r′ → landRecordsIn bs n (k + 1) (tablesOf r′) (countsOf r′) j ≡ shownRead (landRecords n (k + 1) r′ (drop j bs))
+    Rest = (r′ : Register) (rings′ : Bool) (j : ℕ) → Reachable r′ → Warns rings′ (r′ .edges) → landRecordsIn bs n (k + 1) (tablesOf r′) (countsOf r′) rings′ j ≡ shownRead (landRecords n (k + 1) r′ (drop j bs))
 
     on-vertex : (kind : ℕ) (bytes rest : List ℕ) → drop i bs ≡ kind ∷ bytes → firstRecord kind bytes ≡ vertex rest → (l : Landed) → landVertex r ≡ l → Rest → Goal
     on-vertex kind bytes rest p q (landed r′) f ih =
         let s = at-vertex bs i kind bytes p rest q in
-        rw (s .0, vertex-answer r (landed r′) f, landRecordsIn, s .0, p, q, f, landRecords, ← vertex-tables r r′ f, ← s .1) (ih r′ (i + 1) (with-vertex g f))
+        rw (s .0, vertex-answer r rings (landed r′) f, landRecordsIn, s .0, p, q, f, landRecords, ← vertex-tables r r′ f, ← s .1) (ih r′ _ (i + 1) (with-vertex g f) (warns-vertex r r′ rings f w))
     on-vertex kind bytes rest p q (refused x) f ih =
         let s = at-vertex bs i kind bytes p rest q in
-        rw (s .0, vertex-answer r (refused x) f, landRecordsIn, s .0, p, q, f, landRecords)
+        rw (s .0, vertex-answer r rings (refused x) f, landRecordsIn, s .0, p, q, f, landRecords)
 
     on-edge : (kind : ℕ) (bytes : List ℕ) (e : Edge) (rest : List ℕ) → drop i bs ≡ kind ∷ bytes → firstRecord kind bytes ≡ edge e rest → (l : Landed) → landEdge r e ≡ l → Rest → Goal
     on-edge kind bytes e rest p q (landed r′) f ih =
         let s = at-edge bs i kind bytes p e rest q in
-        let a = edge-parts r e (landed r′) g f in
-        rw (s .0, a .0, landRecordsIn, s .0, a .1, p, q, f, landRecords, ← s .1) (ih r′ (i + 9) (with-edge e g f))
+        let a = edge-parts r e rings g w (landed r′) f in
+        rw (s .0, a .0, landRecordsIn, s .0, a .1, p, q, f, landRecords, ← s .1) (ih r′ _ (i + 9) (with-edge e g f) (warns-edge r e r′ rings g f w))
     on-edge kind bytes e rest p q (refused x) f ih =
         let s = at-edge bs i kind bytes p e rest q in
-        let a = edge-parts r e (refused x) g f in
+        let a = edge-parts r e rings g w (refused x) f in
         rw (s .0, a .0, landRecordsIn, s .0, a .1, p, q, f, landRecords)
 
     on-record : (kind : ℕ) (bytes : List ℕ) → drop i bs ≡ kind ∷ bytes → (d : Record) → firstRecord kind bytes ≡ d → Rest → Goal
@@ -130,10 +131,14 @@ records-agree bs (suc n) k r i g = go (drop i bs) refl (λ r′ j g′. records-
     go [] p ih = rw (at-end bs i p, landRecordsIn, at-end bs i p, p, landRecords)
     go (kind ∷ bytes) p ih = on-record kind bytes p (firstRecord kind bytes) refl ih
 
+first-warns : (r : Register) → Warns (ltb 0 ((countsOf r) .edges)) (r .edges)
+unfolding countsOf
+first-warns r = warns-first (r .edges)
+
 pub list-agrees : (r : Register) (bs : List ℕ) → Reachable r → landListIn (tablesOf r) (countsOf r) bs ≡ shownRead (landList r bs)
 unfolding landListIn landList headerAt
 list-agrees r bs g = go (headerRefusal bs) refl
   where
     go : (o : Option ℕ) → headerRefusal bs ≡ o → landListIn (tablesOf r) (countsOf r) bs ≡ shownRead (landList r bs)
     go (some x) e = rw (e, landListIn, landList)
-    go none e = rw (e, landListIn, landList) (records-agree bs (length bs) 0 r 5 g)
+    go none e = rw (e, landListIn, landList) (records-agree bs (length bs) 0 r (ltb 0 ((countsOf r) .edges)) 5 g (first-warns r))

@@ -3,8 +3,10 @@ use mathlib.Core.Path.{_≡_, refl, ap}
 use Prim.Native.Nat.{ℕ, zero, suc, _+_, _-_, _≤_, _<_}
 use native.Mathlib.Nat.{not-suc-le-zero}
 use native.Mathlib.Numerals.{sub-one}
+use mathlib.Core.Bool.{Bool}
 use mathlib.Core.List.{List}
 use lib.ListN.{length}
+use lib.Dec.{ltb}
 use borrow.Author.Tests.{le-leb, lt-leb}
 use Rattle.model.specs.Basics.{maxVertices}
 use Rattle.model.specs.Graph.{Edge}
@@ -18,34 +20,36 @@ use Rattle.register.specs.Records.{StepIn, ended, wentOn, stoppedIn, Ste
 
 -- ---- a vertex
 
-pub vertex-full : (c : Counts) → maxVertices ≤ c .vertices → refusedIn 22 ≡ landVertexIn c
-unfolding landVertexIn
-vertex-full c h = rw (le-leb maxVertices (c .vertices) h)
+module _ (c : Counts) (rings : Bool) where
+  pub vertex-full : maxVertices ≤ c .vertices → refusedIn 22 ≡ landVertexIn c rings
+  unfolding landVertexIn
+  vertex-full h = rw (le-leb maxVertices (c .vertices) h)
 
-pub vertex-more : (c : Counts) (n : ℕ) → c .vertices < maxVertices → n ≡ more16 (c .vertices)
-    → done (counts n (c .edges) (c .blocks) (c .relabellings)) ≡ landVertexIn c
-unfolding landVertexIn
-vertex-more c n h e = rw (lt-leb maxVertices (c .vertices) h, e)
+  pub vertex-more : (n : ℕ) → c .vertices < maxVertices → n ≡ more16 (c .vertices)
+      → done (counts n (c .edges) (c .blocks) (c .relabellings)) rings ≡ landVertexIn c rings
+  unfolding landVertexIn
+  vertex-more n h e = rw (lt-leb maxVertices (c .vertices) h, e)
 
 -- ---- one record
 
-pub record-ends : (t : Tables) (c : Counts) (d : RecordAt) → ends ≡ d → steppedIn t ended ≡ landRecordIn t c d
-unfolding landRecordIn
-record-ends t c d e = rw (← e)
+module _ (t : Tables) (c : Counts) (rings : Bool) (d : RecordAt) where
+  pub record-ends : ends ≡ d → steppedIn t ended ≡ landRecordIn t c rings d
+  unfolding landRecordIn
+  record-ends e = rw (← e)
 
-pub record-vertex : (t : Tables) (c : Counts) (d : RecordAt) (i : ℕ) (a : AnswerIn) (s : StepIn) → vertexTo i ≡ d → a ≡ landVertexIn c → s ≡ stepOf i a
-    → steppedIn t s ≡ landRecordIn t c d
-unfolding landRecordIn
-record-vertex t c d i a s e f g = rw (← e, ← f, g)
+  pub record-vertex : (i : ℕ) (a : AnswerIn) (s : StepIn) → vertexTo i ≡ d → a ≡ landVertexIn c rings → s ≡ stepOf i a
+      → steppedIn t s ≡ landRecordIn t c rings d
+  unfolding landRecordIn
+  record-vertex i a s e f g = rw (← e, ← f, g)
 
-pub record-edge : (t t′ : Tables) (c : Counts) (d : RecordAt) (e : Edge) (i : ℕ) (a : AnswerIn) (s : StepIn) → edgeTo e i ≡ d
-    → landingIn t′ a ≡ landIn t c e → s ≡ stepOf i a → steppedIn t′ s ≡ landRecordIn t c d
-unfolding landRecordIn
-record-edge t t′ c d e i a s p q g = rw (← p, ← q, g)
+  pub record-edge : (t′ : Tables) (e : Edge) (i : ℕ) (a : AnswerIn) (s : StepIn) → edgeTo e i ≡ d
+      → landingIn t′ a ≡ landIn t c rings e → s ≡ stepOf i a → steppedIn t′ s ≡ landRecordIn t c rings d
+  unfolding landRecordIn
+  record-edge t′ e i a s p q g = rw (← p, ← q, g)
 
-pub record-bad : (t : Tables) (c : Counts) (d : RecordAt) (x : ℕ) → badRecord x ≡ d → steppedIn t (stoppedIn x) ≡ landRecordIn t c d
-unfolding landRecordIn
-record-bad t c d x e = rw (← e)
+  pub record-bad : (x : ℕ) → badRecord x ≡ d → steppedIn t (stoppedIn x) ≡ landRecordIn t c rings d
+  unfolding landRecordIn
+  record-bad x e = rw (← e)
 
 -- ---- the loop
 
@@ -56,33 +60,34 @@ steps-are : {x y : SteppedIn} → x ≡ y → x .step ≡ y .step
 steps-are e = ap (λ (s : SteppedIn). s .step) e
 
 module _ (bs : List ℕ) where
-  pub records-none : (n k : ℕ) (t : Tables) (c : Counts) (i : ℕ) → n ≤ 0 → readingIn t c whole ≡ landRecordsIn bs n k t c i
+  pub records-none : (n k : ℕ) (t : Tables) (c : Counts) (rings : Bool) (i : ℕ) → n ≤ 0 → readingIn t c whole ≡ landRecordsIn bs n k t c rings i
   unfolding landRecordsIn
-  records-none zero k t c i h = refl
-  records-none (suc n) k t c i h = absurd (not-suc-le-zero h)
+  records-none zero k t c rings i h = refl
+  records-none (suc n) k t c rings i h = absurd (not-suc-le-zero h)
 
-  pub records-end : (n k : ℕ) (t t′ : Tables) (c : Counts) (i : ℕ) → 0 < n → steppedIn t′ ended ≡ landRecordIn t c (recordAt bs i)
-      → readingIn t′ c whole ≡ landRecordsIn bs n k t c i
+  pub records-end : (n k : ℕ) (t t′ : Tables) (c : Counts) (rings : Bool) (i : ℕ) → 0 < n → steppedIn t′ ended ≡ landRecordIn t c rings (recordAt bs i)
+      → readingIn t′ c whole ≡ landRecordsIn bs n k t c rings i
   unfolding landRecordsIn
-  records-end zero k t t′ c i h e = absurd (not-suc-le-zero h)
-  records-end (suc n) k t t′ c i h e = rw (← steps-are e, landRecordsIn, ← tables-of e)
+  records-end zero k t t′ c rings i h e = absurd (not-suc-le-zero h)
+  records-end (suc n) k t t′ c rings i h e = rw (← steps-are e, landRecordsIn, ← tables-of e)
 
-  pub records-stop : (n k : ℕ) (t t′ : Tables) (c : Counts) (i x : ℕ) → 0 < n → steppedIn t′ (stoppedIn x) ≡ landRecordIn t c (recordAt bs i)
-      → readingIn t′ c (stopped k x) ≡ landRecordsIn bs n k t c i
+  pub records-stop : (n k : ℕ) (t t′ : Tables) (c : Counts) (rings : Bool) (i x : ℕ) → 0 < n
+      → steppedIn t′ (stoppedIn x) ≡ landRecordIn t c rings (recordAt bs i) → readingIn t′ c (stopped k x) ≡ landRecordsIn bs n k t c rings i
   unfolding landRecordsIn
-  records-stop zero k t t′ c i x h e = absurd (not-suc-le-zero h)
-  records-stop (suc n) k t t′ c i x h e = rw (← steps-are e, landRecordsIn, ← tables-of e)
+  records-stop zero k t t′ c rings i x h e = absurd (not-suc-le-zero h)
+  records-stop (suc n) k t t′ c rings i x h e = rw (← steps-are e, landRecordsIn, ← tables-of e)
 
-  pub records-on : (n k : ℕ) (t t′ : Tables) (c c′ : Counts) (i i′ : ℕ) → 0 < n → steppedIn t′ (wentOn c′ i′) ≡ landRecordIn t c (recordAt bs i)
-      → landRecordsIn bs n k t c i ≡ landRecordsIn bs (n - 1) (k + 1) t′ c′ i′
+  pub records-on : (n k : ℕ) (t t′ : Tables) (c c′ : Counts) (rings rings′ : Bool) (i i′ : ℕ) → 0 < n
+      → steppedIn t′ (wentOn c′ rings′ i′) ≡ landRecordIn t c rings (recordAt bs i)
+      → landRecordsIn bs n k t c rings i ≡ landRecordsIn bs (n - 1) (k + 1) t′ c′ rings′ i′
   unfolding landRecordsIn
-  records-on zero k t t′ c c′ i i′ h e = absurd (not-suc-le-zero h)
-  records-on (suc n) k t t′ c c′ i i′ h e = rw (← steps-are e, sub-one, landRecordsIn, ← tables-of e)
+  records-on zero k t t′ c c′ rings rings′ i i′ h e = absurd (not-suc-le-zero h)
+  records-on (suc n) k t t′ c c′ rings rings′ i i′ h e = rw (← steps-are e, sub-one, landRecordsIn, ← tables-of e)
 
 -- ---- the header
 
-pub list-records : (t : Tables) (c : Counts) (bs : List ℕ) (i : ℕ) (d : ReadingIn) → good i ≡ headerAt bs → d ≡ landRecordsIn bs (length bs) 0 t c i
-    → d ≡ landListIn t c bs
+pub list-records : (t : Tables) (c : Counts) (bs : List ℕ) (i : ℕ) (d : ReadingIn) → good i ≡ headerAt bs
+    → d ≡ landRecordsIn bs (length bs) 0 t c (ltb 0 (c .edges)) i → d ≡ landListIn t c bs
 unfolding landListIn
 list-records t c bs i d e f = rw (← e, landListIn) f
 

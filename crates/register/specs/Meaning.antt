@@ -9,7 +9,7 @@ use Rattle.register.specs.declared.records.Reading.{Reading}
 
 abbrev pub stepMeans : Step → StepIn
 stepMeans End = ended
-stepMeans (Landed c at) = wentOn (countsIn c) (at .at)
+stepMeans (Landed c rings at) = wentOn (countsIn c) rings (at .at)
 stepMeans (Refused x) = stoppedIn (numberOf x)
 
 abbrev pub readingMeans : Tables → Reading → ReadingIn

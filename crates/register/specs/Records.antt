@@ -1,8 +1,9 @@
 -- A list landed on the tables, record by record, as functions that mirror the code.
 use Prim.Native.Nat.{ℕ, zero, suc, _+_}
+use mathlib.Core.Bool.{Bool}
 use mathlib.Core.List.{List}
 use lib.ListN.{length}
-use lib.Dec.{leb}
+use lib.Dec.{leb, ltb}
 use Rattle.model.specs.Basics.{if_then_else_, maxVertices}
 use Rattle.model.specs.Format.{Stop, whole, stopped}
 use Rattle.model.specs.Tables.{Tables, Counts}
@@ -11,10 +12,10 @@ use Rattle.tables.specs.Steps.{more16}
 use Rattle.insertion.specs.Insertion.{AnswerIn, done, refusedIn, landIn}
 use Rattle.list.specs.Reading.{good, RecordAt, ends, vertexTo, edgeTo, badHeader, badRecord, headerAt, recordAt}
 
--- what stands behind a record: the end of the list; the counts and the next index; or the record's refusal
+-- what stands behind a record: the end of the list; the counts, whether a ring may stand, and the next index; or the record's refusal
 pub data StepIn : Type 0 where
   ended : StepIn
-  wentOn : Counts → ℕ → StepIn
+  wentOn : Counts → Bool → ℕ → StepIn
   stoppedIn : ℕ → StepIn
 
 -- what a record leaves in the tables, and its step
@@ -26,21 +27,21 @@ abbrev pub steppedIn : Tables → StepIn → SteppedIn
 steppedIn t s = record { tables = t; step = s }
 
 abbrev pub stepOf : ℕ → AnswerIn → StepIn
-stepOf i (done c) = wentOn c i
+stepOf i (done c rings) = wentOn c rings i
 stepOf i (refusedIn x) = stoppedIn x
 
 -- a vertex changes the counts alone
-unfoldable pub landVertexIn : Counts → AnswerIn
-landVertexIn c =
+unfoldable pub landVertexIn : Counts → Bool → AnswerIn
+landVertexIn c rings =
     if leb maxVertices (c .vertices) then refusedIn 22
-    else done (counts (more16 (c .vertices)) (c .edges) (c .blocks) (c .relabellings))
+    else done (counts (more16 (c .vertices)) (c .edges) (c .blocks) (c .relabellings)) rings
 
 -- one record on the tables; i is the index behind it
-unfoldable pub landRecordIn : Tables → Counts → RecordAt → SteppedIn
-landRecordIn t c ends = steppedIn t ended
-landRecordIn t c (vertexTo i) = steppedIn t (stepOf i (landVertexIn c))
-landRecordIn t c (edgeTo e i) = let l = landIn t c e in steppedIn (l .tables) (stepOf i (l .answer))
-landRecordIn t c (badRecord x) = steppedIn t (stoppedIn x)
+unfoldable pub landRecordIn : Tables → Counts → Bool → RecordAt → SteppedIn
+landRecordIn t c rings ends = steppedIn t ended
+landRecordIn t c rings (vertexTo i) = steppedIn t (stepOf i (landVertexIn c rings))
+landRecordIn t c rings (edgeTo e i) = let l = landIn t c rings e in steppedIn (l .tables) (stepOf i (l .answer))
+landRecordIn t c rings (badRecord x) = steppedIn t (stoppedIn x)
 
 -- the tables and counts that a list leaves, and how far it was landed
 pub record ReadingIn : Type 0 where
@@ -51,20 +52,21 @@ pub record ReadingIn : Type 0 where
 abbrev pub readingIn : Tables → Counts → Stop → ReadingIn
 readingIn t c s = record { tables = t; counts = c; stop = s }
 
--- the records from number k on, which stands at index i; at most n
-unfoldable pub landRecordsIn : List ℕ → ℕ → ℕ → Tables → Counts → ℕ → ReadingIn
-landRecordsIn bs zero k t c i = readingIn t c whole
-landRecordsIn bs (suc n) k t c i =
-    let s = landRecordIn t c (recordAt bs i) in
+-- the records from number k on, which stands at index i; at most n; rings: a ring may stand
+unfoldable pub landRecordsIn : List ℕ → ℕ → ℕ → Tables → Counts → Bool → ℕ → ReadingIn
+landRecordsIn bs zero k t c rings i = readingIn t c whole
+landRecordsIn bs (suc n) k t c rings i =
+    let s = landRecordIn t c rings (recordAt bs i) in
     elim (s .step) [
       | ended ↦ readingIn (s .tables) c whole
-      | wentOn c′ i′ ↦ landRecordsIn bs n (k + 1) (s .tables) c′ i′
+      | wentOn c′ rings′ i′ ↦ landRecordsIn bs n (k + 1) (s .tables) c′ rings′ i′
       | stoppedIn x ↦ readingIn (s .tables) c (stopped k x)
     ]
 
+-- a whole list; without edges no ring stands
 unfoldable pub landListIn : Tables → Counts → List ℕ → ReadingIn
 landListIn t c bs =
     elim (headerAt bs) [
-      | good i ↦ landRecordsIn bs (length bs) 0 t c i
+      | good i ↦ landRecordsIn bs (length bs) 0 t c (ltb 0 (c .edges)) i
       | badHeader x ↦ readingIn t c (stopped 0 x)
     ]

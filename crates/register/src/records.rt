@@ -13,6 +13,7 @@ use list::records::read_header;
 use tables::access::one_more16;
 ghost use mathlib.Core.Path.{_≡_};
 ghost use lib.ListN.{length};
+ghost use lib.Dec.{ltb};
 ghost use Rattle.model.specs.Tables.{noCounts};
 ghost use Rattle.counters.specs.Answers.{counts, countsIn, stopIn};
 ghost use Rattle.tables.specs.Steps.{tables};
@@ -21,10 +22,10 @@ ghost use Rattle.list.specs.Reading.{recordAt};
 ghost use Rattle.register.specs.Records.{landVertexIn, stepOf, steppedIn, landRecordIn, readingIn, landRecordsIn, landListIn};
 ghost use Rattle.register.specs.Meaning.{stepMeans, readingMeans};
 
-// What stands behind a record: the end of the list; the counts and the next record; or the record's refusal.
+// What stands behind a record: the end of the list; the counts, whether a ring may stand, and the next record; or the record's refusal.
 pub enum Step {
     End,
-    Landed(Counts, Cursor),
+    Landed(Counts, bool, Cursor),
     Refused(Refusal),
 }
 
@@ -34,18 +35,19 @@ pub struct Reading {
     pub stop: Stop,
 }
 
-fn land_vertex(counts: Counts) -> Inserted
-    ensures { λ r. ⌜ answerIn r ≡ landVertexIn (countsIn counts) ⌝ }
+fn land_vertex(counts: Counts, rings: bool) -> Inserted
+    ensures { λ r. ⌜ answerIn r ≡ landVertexIn (countsIn counts) rings ⌝ }
 {
     if Vertex::COUNT <= counts.vertices {
         return Inserted::Refused(Refusal::TooManyVertices);
     }
-    Inserted::Done(Counts {
+    let after = Counts {
         vertices: one_more16(counts.vertices),
         edges: counts.edges,
         blocks: counts.blocks,
         relabellings: counts.relabellings,
-    })
+    };
+    Inserted::Done(after, rings)
 }
 
 // A landed record goes on at the next one, a refused one stops.
@@ -53,7 +55,7 @@ fn step_of(inserted: Inserted, next: Cursor) -> Step
     ensures { λ r. ⌜ stepMeans r ≡ stepOf (next .at) (answerIn inserted) ⌝ }
 {
     match inserted {
-        Inserted::Done(counts) => Step::Landed(counts, next),
+        Inserted::Done(counts, rings) => Step::Landed(counts, rings, next),
         Inserted::Refused(refusal) => Step::Refused(refusal),
     }
 }
@@ -67,15 +69,16 @@ fn land_record(
     counts: Counts,
     list: &[u8],
     at: Cursor,
+    rings: bool,
 ) -> Step
     ensures { λ r. ⌜ steppedIn (tables (now (degrees .exit)) (now (sides .exit)) (now (ends .exit)) (now (lengths .exit)) (now (labels .exit))) (stepMeans r)
         ≡ landRecordIn (tables (now (degrees .entry)) (now (sides .entry)) (now (ends .entry)) (now (lengths .entry)) (now (labels .entry)))
-        (countsIn counts) (recordAt (now (list .entry)) (at .at)) ⌝ }
+        (countsIn counts) rings (recordAt (now (list .entry)) (at .at)) ⌝ }
 {
     let found = record_at(list, at);
     match found {
         Record::End => Step::End,
-        Record::Vertex(next) => step_of(land_vertex(counts), next),
+        Record::Vertex(next) => step_of(land_vertex(counts, rings), next),
         Record::Edge(first, second, length, next) => {
             let inserted = land_edge(
                 degrees,
@@ -87,6 +90,7 @@ fn land_record(
                 first,
                 second,
                 length,
+                rings,
             );
             step_of(inserted, next)
         }
@@ -96,6 +100,7 @@ fn land_record(
 
 // The records from a cursor on. Each takes at least a byte, so there are no more than bytes.
 // "At each landed record the head counters are updated in the caller's copy": the four numbers are lent from there.
+// Whether a ring may stand is not among them: without edges none does, and each record tells what comes after it.
 fn land_records(
     vertices: &mut u16,
     edges: &mut u16,
@@ -113,28 +118,31 @@ fn land_records(
         (counts (now (vertices .exit)) (now (edges .exit)) (now (blocks .exit)) (now (relabellings .exit))) (stopIn r)
         ≡ landRecordsIn (now (list .entry)) (length (now (list .entry))) 0
         (tables (now (degrees .entry)) (now (sides .entry)) (now (ends .entry)) (now (lengths .entry)) (now (labels .entry)))
-        (counts (now (vertices .entry)) (now (edges .entry)) (now (blocks .entry)) (now (relabellings .entry))) (from .at) ⌝ }
+        (counts (now (vertices .entry)) (now (edges .entry)) (now (blocks .entry)) (now (relabellings .entry)))
+        (ltb 0 (now (edges .entry))) (from .at) ⌝ }
 {
     let mut at = from;
+    let mut rings = 0 < *edges;
     let mut number: usize = 0;
     let mut left = list.len();
     while 0 < left {
-        let sofar = Counts {
+        let head = Counts {
             vertices: *vertices,
             edges: *edges,
             blocks: *blocks,
             relabellings: *relabellings,
         };
-        let step = land_record(degrees, sides, ends, lengths, labels, sofar, list, at);
+        let step = land_record(degrees, sides, ends, lengths, labels, head, list, at, rings);
         match step {
             Step::End => {
                 return Stop::Whole;
             }
-            Step::Landed(counts, next) => {
+            Step::Landed(counts, then, next) => {
                 *vertices = counts.vertices;
                 *edges = counts.edges;
                 *blocks = counts.blocks;
                 *relabellings = counts.relabellings;
+                rings = then;
                 at = next;
             }
             Step::Refused(refusal) => {

@@ -45,8 +45,8 @@ pub fn step_over(sides: &[u16], ends: &[u16], w: Walker) -> Walker
     }
 }
 
-// The two take turns until one stands at a singular vertex: the cost is that of the shorter walk. A ring of regular vertices alone
-// would never end; the fuel, the number of edges, ends the walk all the same.
+// The two take turns until one stands at a singular vertex: the cost is that of the shorter walk. A walk that left a leaf comes to one
+// (theorem 1), and the fuel, the number of edges, is enough for it.
 pub fn walk_lockstep(
     degrees: &[u16],
     sides: &[u16],

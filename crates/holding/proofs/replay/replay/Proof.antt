@@ -13,13 +13,13 @@ use Rattle.holding.proofs.replay.replay.Tie as tie
 
 -- the edges left leave what all leave; i is twice the edge's number; the tables keep their lengths
 abbrev Inv-loop : tie.InvT-loop
-Inv-loop ownends ownlengths number degrees₀ sides₀ ends₀ lengths₀ labels₀ counts₀ i₀ edge₀ left₀ degrees sides ends lengths labels counts i edge left =
+Inv-loop ownends ownlengths number degrees₀ sides₀ ends₀ lengths₀ labels₀ counts₀ rings₀ i₀ edge₀ left₀ degrees sides ends lengths labels counts rings i edge left =
     ((edge + left ≤ 65535) × (i ≡ 2 * edge)) × (SameLengths degrees₀ sides₀ ends₀ lengths₀ labels₀ degrees sides ends lengths labels
-    × (replayIn ownends ownlengths left edge (tables degrees sides ends lengths labels) (countsIn counts)
-    ≡ replayIn ownends ownlengths left₀ edge₀ (tables degrees₀ sides₀ ends₀ lengths₀ labels₀) (countsIn counts₀)))
+    × (replayIn ownends ownlengths left edge (tables degrees sides ends lengths labels) (countsIn counts) rings
+    ≡ replayIn ownends ownlengths left₀ edge₀ (tables degrees₀ sides₀ ends₀ lengths₀ labels₀) (countsIn counts₀) rings₀))
 
 abbrev μ-loop : tie.MeasureT-loop
-μ-loop ownends ownlengths number degrees₀ sides₀ ends₀ lengths₀ labels₀ counts₀ i₀ edge₀ left₀ degrees sides ends lengths labels counts i edge left = left
+μ-loop ownends ownlengths number degrees₀ sides₀ ends₀ lengths₀ labels₀ counts₀ rings₀ i₀ edge₀ left₀ degrees sides ends lengths labels counts rings i edge left = left
 
 loop-holds : tie.Need-loop-holds Inv-loop μ-loop
 loop-holds c = ((omega arith, omega arith), (same-refl _ _ _ _ _, refl))
@@ -67,8 +67,8 @@ returns c =
     let at-at16 = at-at162 .before in
     let at-loop-test = at-at16 .before .before .before .before .before .before in
     let at-loop = at-loop-test .before in
-    replay-refused _ _ _ _ _ _ _ _ _ _ _ (at-loop-test .loop-test .taken) (at-loop .loop .inv .0 .1) (at-at16 .at16 .ensures) (at-at162 .at162 .ensures) (at-of32 .of32 .ensures) _ _
-    (ap answerIn (c .before .inserted2 .given .1)) (at-land-edge .land-edge .ensures) ∙ at-loop .loop .inv .1 .1
+    replay-refused _ _ _ _ _ _ _ _ _ _ _ _ (at-loop-test .loop-test .taken) (at-loop .loop .inv .0 .1) (at-at16 .at16 .ensures) (at-at162 .at162 .ensures) (at-of32 .of32 .ensures) _ (at-land-edge .land-edge .ensures) _
+    (ap answerIn (c .before .inserted2 .given .1)) ∙ at-loop .loop .inv .1 .1
 
 add-i : tie.Need-add-i Inv-loop μ-loop
 add-i c =
@@ -103,8 +103,8 @@ loop-again c =
       (omega (arith, at-loop .loop .inv .0 .0, at-loop-test .loop-test .taken), omega (arith, at-loop .loop .inv .0 .1)),
       (
         same-on (at-land-edge .land-edge .kept) (at-loop .loop .inv .1 .0),
-        sym (replay-on _ _ _ _ _ _ _ _ _ _ _ (at-loop-test .loop-test .taken) (at-loop .loop .inv .0 .1) (at-at16 .at16 .ensures) (at-at162 .at162 .ensures) (at-of32 .of32 .ensures) _ _
-            (ap answerIn (c .before .inserted .given .1)) (at-land-edge .land-edge .ensures)) ∙ at-loop .loop .inv .1 .1,
+        sym (replay-on _ _ _ _ _ _ _ _ _ _ _ _ (at-loop-test .loop-test .taken) (at-loop .loop .inv .0 .1) (at-at16 .at16 .ensures) (at-at162 .at162 .ensures) (at-of32 .of32 .ensures) _ (at-land-edge .land-edge .ensures) _ _
+            (ap answerIn (c .before .inserted .given .1))) ∙ at-loop .loop .inv .1 .1,
       ),
     )
 
@@ -124,7 +124,7 @@ same-length-10 : tie.Need-same-length-10 Inv-loop μ-loop
 same-length-10 c = c .before .loop .inv .1 .0 .labels
 
 returns-2 : tie.Need-returns-2 Inv-loop μ-loop
-returns-2 c = replay-end _ _ _ _ _ _ (c .loop-test .left) ∙ c .before .loop .inv .1 .1
+returns-2 c = replay-end _ _ _ _ _ _ _ (c .loop-test .left) ∙ c .before .loop .inv .1 .1
 
 -- the needs in the order of the code
 pub replay-spec : {M : Type 1} → statement M

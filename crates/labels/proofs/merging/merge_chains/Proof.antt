@@ -71,7 +71,7 @@ returns-2 c =
     let at-walk-lockstep = at-if1 .before .before in
     let at-leave-leaf2 = at-walk-lockstep .before .before in
     let at-leave-leaf = at-leave-leaf2 .before .before in
-    answer-begun _ _ _ _ _ _ _ _ _ _ _ _ _ _ _ _ _ (at-enum-told .enum-told .given .1) (at-one-more16 .one-more16 .ensures) (at-begin-chain .begin-chain .ensures) (c .new .ensures)
+    answer-begun _ _ _ _ _ _ _ _ _ _ _ _ _ _ _ _ _ _ (at-enum-told .enum-told .given .1) (at-one-more16 .one-more16 .ensures) (at-begin-chain .begin-chain .ensures) (c .new .ensures)
     ∙ merge-kept _ _ _ _ _ _ _ _ _ _ _ _ _ _ (at-leave-leaf .leave-leaf .ensures) (at-leave-leaf2 .leave-leaf2 .ensures) (at-walk-lockstep .walk-lockstep .ensures) _ (at-if1 .if1 .left) (at-keeper-of .keeper-of .ensures)
 
 same-length-5 : tie.Need-same-length-5
@@ -89,7 +89,7 @@ returns-3 c =
     let at-walk-lockstep = at-if1 .before .before in
     let at-leave-leaf2 = at-walk-lockstep .before .before in
     let at-leave-leaf = at-leave-leaf2 .before .before in
-    answer-joined _ _ _ _ _ _ _ _ _ _ _ _ _ _ _ _ _ _ _ (at-keeper .keeper .given .1) (at-join-chains .join-chains .ensures) (c .new2 .ensures)
+    answer-joined _ _ _ _ _ _ _ _ _ _ _ _ _ _ _ _ _ _ _ _ (at-keeper .keeper .given .1) (at-join-chains .join-chains .ensures) (c .new2 .ensures)
     ∙ merge-kept _ _ _ _ _ _ _ _ _ _ _ _ _ _ (at-leave-leaf .leave-leaf .ensures) (at-leave-leaf2 .leave-leaf2 .ensures) (at-walk-lockstep .walk-lockstep .ensures) _ (at-if1 .if1 .left) (at-keeper-of .keeper-of .ensures)
 
 pub merge-chains-spec : {M : Type 1} → statement M

@@ -37,7 +37,7 @@ returns c =
     let at-left-for = at-split-by .before .before .before in
     let at-ring-at2 = at-left-for .before in
     let at-ring-at = at-ring-at2 .before .before in
-    both-law _ _ _ _ _ _ _ _ _ _ _ _ _ _ _ _ _ _ _ _ _ _ (at-ring-at .ring-at .ensures) (at-ring-at2 .ring-at2 .ensures) (at-left-for .left-for .ensures) (at-split-by .split-by .ensures) (at-split-by2 .split-by2 .ensures) (c .before .add32 .ensures) (c .new .ensures)
+    both-law _ _ _ _ _ _ _ _ _ _ _ _ _ _ _ _ _ _ _ _ _ _ _ _ _ (at-ring-at .ring-at .ensures) (at-ring-at2 .ring-at2 .ensures) (at-left-for .left-for .ensures) (at-split-by .split-by .ensures) (at-split-by2 .split-by2 .ensures) (c .before .add32 .ensures) (c .new .ensures)
 
 pub split-both-spec : {M : Type 1} → statement M
 split-both-spec =

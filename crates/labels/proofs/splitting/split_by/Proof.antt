@@ -49,7 +49,7 @@ returns : tie.Need-returns
 returns c =
     let at-bare-vertex = c .before .before .before .before .before in
     let at-enum-told = at-bare-vertex .before .before .before in
-    by-none _ _ _ _ _ _ _ _ _ _ _ _ (at-enum-told .enum-told .given .1) (at-bare-vertex .bare-vertex .ensures) (c .new .ensures)
+    by-none _ _ _ _ _ _ _ _ _ _ _ _ _ (at-enum-told .enum-told .given .1) (at-bare-vertex .bare-vertex .ensures) (c .new .ensures)
 
 same-length-3 : tie.Need-same-length-3
 same-length-3 c = search needs
@@ -62,7 +62,7 @@ returns-2 c =
     let at-tap-ring = c .before .before .before .before .before in
     let at-one-more16 = at-tap-ring .before .before .before in
     let at-round = at-one-more16 .before .before in
-    by-ring _ _ _ _ _ _ _ _ _ _ _ _ _ _ _ (at-round .round .given .1) (at-one-more16 .one-more16 .ensures) (at-tap-ring .tap-ring .ensures) (c .new2 .ensures)
+    by-ring _ _ _ _ _ _ _ _ _ _ _ _ _ _ _ _ (at-round .round .given .1) (at-one-more16 .one-more16 .ensures) (at-tap-ring .tap-ring .ensures) (c .new2 .ensures)
 
 same-length-5 : tie.Need-same-length-5
 same-length-5 c = search needs
@@ -76,7 +76,7 @@ returns-3 c =
     let at-one-more162 = at-tap-ring2 .before .before .before in
     let at-put32 = at-one-more162 .before .before .before in
     let at-round2 = at-put32 .before .before .before in
-    by-shared _ _ _ _ _ _ _ _ _ _ _ _ _ _ _ _ (at-round2 .round2 .given .1) (at-put32 .put32 .ensures) (at-one-more162 .one-more162 .ensures) (at-tap-ring2 .tap-ring2 .ensures) (c .new3 .ensures)
+    by-shared _ _ _ _ _ _ _ _ _ _ _ _ _ _ _ _ _ (at-round2 .round2 .given .1) (at-put32 .put32 .ensures) (at-one-more162 .one-more162 .ensures) (at-tap-ring2 .tap-ring2 .ensures) (c .new3 .ensures)
 
 pub split-by-spec : {M : Type 1} → statement M
 split-by-spec =

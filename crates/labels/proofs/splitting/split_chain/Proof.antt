@@ -19,7 +19,7 @@ returns : tie.Need-returns
 returns c =
     let at-split-by = c .before .before .before .before in
     let at-ring-at = at-split-by .before .before .before in
-    split-law _ _ _ _ _ _ _ _ _ _ _ _ _ (at-ring-at .ring-at .ensures) (at-split-by .split-by .ensures)
+    split-law _ _ _ _ _ _ _ _ _ _ _ _ _ _ (at-ring-at .ring-at .ensures) (at-split-by .split-by .ensures)
 
 pub split-chain-spec : {M : Type 1} → statement M
 split-chain-spec =
