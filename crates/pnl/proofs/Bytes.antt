@@ -1,14 +1,14 @@
 -- Numbers written as bytes, and what an answer slice holds then.
 use mathlib.Core.Path.{_≡_, refl, sym, _∙_}
-use Prim.Native.Nat.{ℕ, _*_, _/_, _%_, _≤_, _<_}
+use Prim.Native.Nat.{ℕ, _+_, _*_, _/_, _%_, _≤_, _<_}
 use native.Mathlib.Omega.{arith}
 use mathlib.Core.List.{List, [], _∷_, _++_, append-nil, append-assoc}
-use lib.ListN.{length}
+use lib.ListN.{length, set}
 use lib.IntN.{ℤ, pos, negℤ}
 use borrow.Author.Tests.{lt-ltb, le-ltb}
 use Rattle.model.specs.FromC.{Returned, bytes4, bytesOf, returnsNumbers, returnsRefusal}
 use Rattle.text.specs.Pages.{Page, page, write}
-use Rattle.text.proofs.PageLaws.{write-front}
+use Rattle.text.proofs.PageLaws.{write-front, write-in}
 use Rattle.text.proofs.Pieces.{Pieces}
 use Rattle.pnl.specs.FromC.{returned}
 
@@ -29,6 +29,11 @@ pub word-law : (n a b c d : ℕ) (p q r s t : Page) → a ≡ n % 256 → q ≡ 
     → c ≡ n / 65536 % 256 → s ≡ write (c ∷ []) r → d ≡ n / 16777216 % 256 → t ≡ write (d ∷ []) s → t ≡ write (bytes4 n) p
 unfolding bytes4 write
 word-law n a b c d p q r s t e₁ f₁ e₂ f₂ e₃ f₃ e₄ f₄ = rw (← e₁, ← e₂, ← e₃, ← e₄, ← f₁, ← f₂, ← f₃) f₄
+
+-- a byte within the page
+pub byte-in : (b at : ℕ) (bs : List ℕ) → at < length bs → page (set bs at b) (at + 1) ≡ write (b ∷ []) (page bs at)
+unfolding write
+byte-in b at bs h = sym (write-in b [] bs at h)
 
 -- numbers one by one
 pub words : Pieces bytesOf

@@ -1,7 +1,7 @@
 use Rattle.pnl.proofs.Bytes.{word-law}
 use borrow.Author.Needs.{needs}
-use Rattle.pnl.proofs.answers.put_word.Statement.{statement}
-use Rattle.pnl.proofs.answers.put_word.Tie as tie
+use Rattle.pnl.proofs.answers.put_bytes.Statement.{statement}
+use Rattle.pnl.proofs.answers.put_bytes.Tie as tie
 
 returns : tie.Need-returns
 returns c =
@@ -14,8 +14,8 @@ returns c =
     word-law _ _ _ _ _ _ _ _ _ _ (at-byte-of .byte-of .ensures) (at-put-byte .put-byte .ensures) (at-byte-of2 .byte-of2 .ensures) (at-put-byte2 .put-byte2 .ensures) (at-byte-of3 .byte-of3 .ensures) (at-put-byte3 .put-byte3 .ensures) (c .before .before .before .byte-of4 .ensures) (c .before .before .put-byte4 .ensures)
 
 -- the needs in the order of the code
-pub put-word-spec : {M : Type 1} → statement M
-put-word-spec =
+pub put-bytes-spec : {M : Type 1} → statement M
+put-bytes-spec =
     tie.close
     (tie.spec
     (λ c κs. search needs)
