@@ -11,18 +11,19 @@ use borrow.Author.Tests.{eq-eqb, ne-eqb, leb-true, leb-false, lt-ltb, le-ltb}
 use Rattle.model.specs.Queries.{concat, found, reached, listed, refuses}
 use Rattle.model.specs.Tables.{Tables, Counts}
 use Rattle.tables.specs.Steps.{farIn, sum32}
-use Rattle.queries.specs.Chains.{WalkEnd, walkEnd, walkIn, namesIn, sheetIn, firstAt, nameIn}
+use Rattle.queries.specs.Chains.{WalkEnd, walkIn, namesIn, sheetIn, firstAt, nameIn}
 use Rattle.queries.specs.Finding.{endToIn, findIn, lengthToIn, reachIn, wayIn}
 use Rattle.queries.proofs.SheetLaws.{sheet-count}
 use Rattle.text.specs.Pages.{page, write}
 use Rattle.lookups.specs.Answering.{sheeted, sheetedIn}
 
-pub way-law : (ds ss es ls : List ℕ) (n d v w at k l x own r : ℕ) → w ≡ farIn es d v → walkEnd at k l x ≡ walkIn ds ss es ls v n d w
-    → own ≡ getD ls d 0 → r ≡ sum32 own l → (at ≡ endToIn ds ss es ls n d v) × (r ≡ lengthToIn ds ss es ls n d v)
+pub way-law : (ds ss es ls : List ℕ) (n d v w at l own r : ℕ) → w ≡ farIn es d v
+    → (at ≡ (walkIn ds ss es ls v n d w) .at) × (l ≡ (walkIn ds ss es ls v n d w) .length) → own ≡ getD ls d 0 → r ≡ sum32 own l
+    → (at ≡ endToIn ds ss es ls n d v) × (r ≡ lengthToIn ds ss es ls n d v)
 unfolding endToIn lengthToIn wayIn
-way-law ds ss es ls n d v w at k l x own r a b c e =
-    let f : walkEnd at k l x ≡ walkIn ds ss es ls v n d (farIn es d v) = b ∙ ap (walkIn ds ss es ls v n d) a in
-    (ap (λ (y : WalkEnd). y .at) f, rw (← f, ← c) e)
+way-law ds ss es ls n d v w at l own r a b c e =
+    let f : walkIn ds ss es ls v n d w ≡ walkIn ds ss es ls v n d (farIn es d v) = ap (walkIn ds ss es ls v n d) a in
+    (b .0 ∙ ap (λ (x : WalkEnd). x .at) f, e ∙ rw (← c, ← f, ← b .1))
 
 module _ (t : Tables) (c : Counts) where
   -- ---- find

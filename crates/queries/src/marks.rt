@@ -1,6 +1,5 @@
 // Marks on the edges that a walk has passed.
 use crate::numbers::lesser;
-use crate::walks::WalkEnd;
 use crate::walks::goes_on;
 use tables::access::add32;
 use tables::access::of16;
@@ -49,7 +48,16 @@ pub fn mark_onwards(
     w.at
 }
 
-// The same, and all that the walk adds up.
+// Where a walk ends, how many regular vertices it passes, the lengths of the edges behind them added up, and the least of its home
+// and those vertices.
+pub struct WalkEnd {
+    pub at: u16,
+    pub inner: u16,
+    pub length: u32,
+    pub lowest: u16,
+}
+
+// The same, and all that a row is made of.
 pub fn walk_marking(
     degrees: &[u16],
     sides: &[u16],

@@ -1,10 +1,10 @@
 // Rows of the sheet: of one chain, and of all. A chain is walked once, for its row and its marks.
+use crate::marks::WalkEnd;
 use crate::marks::next_unmarked;
 use crate::marks::walk_marking;
 use crate::numbers::greater;
 use crate::numbers::lesser;
 use crate::numbers::wide;
-use crate::walks::WalkEnd;
 use tables::access::add32;
 use tables::access::at16;
 use tables::access::of16;
