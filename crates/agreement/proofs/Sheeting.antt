@@ -10,7 +10,7 @@ use mathlib.Core.List.{List, [], _∷_, _++_, map, reverse}
 use lib.ListN.{length, getD, replicate, length-append, length-map, length-replicate, length-reverse, getD-replicate}
 use lib.Dec.{eqb}
 use borrow.Author.Tests.{eq-eqb, ne-eqb, eqb-true, eqb-false}
-use Rattle.model.specs.Basics.{countFrom, least, maxEdges, maxVertices, sum, upTo}
+use Rattle.model.specs.Basics.{countFrom, least, maxEdges, sum, upTo}
 use Rattle.model.specs.Graph.{Chain, Edge, Pass, afterOf, atOf, chainLength, chainOf, edgeAt, endOnwards, lengthAt, lengthsOf, nameOf, edgeOnRing, onwards, openChain, ringChain, onceRound, until, walk}
 use Rattle.model.specs.Register.{Register}
 use Rattle.model.specs.Queries.{row, rowsOf, sheet}
@@ -18,9 +18,8 @@ use Rattle.model.specs.Tables.{Tables, countsOf, tablesOf}
 use Rattle.model.specs.Notions.{Reachable}
 use Rattle.tables.specs.Steps.{sum32}
 use Rattle.tables.proofs.Sums.{sum32-is}
-use Rattle.queries.specs.Chains.{keptIn, markChainIn, namesIn, rowIn, rowsIn, sheetIn, sweepIn}
-use Rattle.queries.proofs.NameLaws.{kept-names}
-use Rattle.queries.proofs.SheetLaws.{rows-count}
+use Rattle.queries.specs.Chains.{markChainIn, namesIn, rowIn, rowsIn, sheetIn, sweepIn}
+use Rattle.queries.proofs.SheetLaws.{sheet-count}
 use Rattle.model.proofs.Basics.Booleans.{true-or-false}
 use Rattle.model.proofs.Chains.Same.{chain-open, chain-ring}
 use Rattle.model.proofs.Chains.Reaches.{along, chain-by-walks}
@@ -132,7 +131,7 @@ row-agrees r g d h = by (chain-ends r g d h) (true-or-false (edgeOnRing es d))
 
 -- ---- the rows
 
-abbrev pub rowsOver : Tables → ℕ → List ℕ → List (List ℕ)
+abbrev rowsOver : Tables → ℕ → List ℕ → List (List ℕ)
 rowsOver t = rowsIn (t .degrees) (t .sides) (t .ends) (t .lengths)
 
 abbrev sweepOver : Tables → ℕ → ℕ → List ℕ → ℕ → List ℕ
@@ -165,34 +164,24 @@ module _ (r : Register) (g : Reachable r) where
           rw (ne-eqb (getD ms d 0) 0 n, sweepIn, ne-eqb (nameOf es d) d (λ e. omega (arith, less, e)), rowsOf) (ih ms (marks-stay r g d l ms m n))
 
   -- at the start no edge has a mark
-  unmarked : MarksAt (r .edges) 0 (replicate maxVertices 0)
-  unmarked =
+  unmarked : (m : ℕ) → maxEdges ≤ m → MarksAt (r .edges) 0 (replicate m 0)
+  unmarked m h =
       record {
-        long = rw length-replicate (room r g);
-        fresh = λ e b l f. getD-replicate {A = ℕ} maxVertices e 0 0 (omega (arith, l, room r g));
+        long = rw length-replicate (omega (arith, room r g));
+        fresh = λ e b l f. getD-replicate {A = ℕ} m e 0 0 (omega (arith, l, room r g));
         passed = λ e b l f. absurd (not-suc-le-zero f);
       }
 
-  abbrev pub names : List ℕ
-  names = namesIn ((tablesOf r) .degrees) ((tablesOf r) .sides) ((tablesOf r) .ends) (length (r .edges)) (replicate maxVertices 0)
+-- the sheet over marks that are all zero at the start, one for each edge or more
+abbrev pub sheetOver : Tables → ℕ → ℕ → List (List ℕ)
+sheetOver t n m = sheetIn (t .degrees) (t .sides) (t .ends) (t .lengths) n (replicate m 0)
 
-  pub rows-are : rowsOver (tablesOf r) (length (r .edges)) names ≡ sheet r
-  unfolding namesIn sheet upTo
-  rows-are = swept (length (r .edges)) (replicate maxVertices 0) 0 (omega arith) unmarked
+pub sheet-agrees : (r : Register) → Reachable r → (m : ℕ) → maxEdges ≤ m → sheetOver (tablesOf r) ((countsOf r) .edges) m ≡ sheet r
+unfolding sheetIn namesIn sheet upTo countsOf
+sheet-agrees r g m h = swept r g (length (r .edges)) (replicate m 0) 0 (omega arith) (unmarked r g m h)
 
-  counted : length names ≡ length (sheet r)
-  counted =
-      sym (rows-count ((tablesOf r) .degrees) ((tablesOf r) .sides) ((tablesOf r) .ends) ((tablesOf r) .lengths) (length (r .edges)) names)
-      ∙ ap (λ (rows : List (List ℕ)). length rows) rows-are
-
-pub names-counted : (r : Register) → Reachable r
-    → length (namesIn ((tablesOf r) .degrees) ((tablesOf r) .sides) ((tablesOf r) .ends) ((countsOf r) .edges) (replicate maxVertices 0)) ≡ length (sheet r)
-unfolding countsOf
-names-counted r g = counted r g
-
-pub sheet-agrees : (r : Register) → Reachable r → (table : List ℕ) → maxEdges ≤ length table
-    → sheetIn (tablesOf r) (countsOf r) (replicate maxVertices 0) table ≡ sheet r
-unfolding sheetIn countsOf
-sheet-agrees r g table l =
-    rw (kept-names ((tablesOf r) .degrees) ((tablesOf r) .sides) ((tablesOf r) .ends) (length (r .edges)) (replicate maxVertices 0) table (omega (arith, room r g)))
-    (rows-are r g)
+pub names-counted : (r : Register) → Reachable r → (m : ℕ) → maxEdges ≤ m
+    → length (namesIn ((tablesOf r) .degrees) ((tablesOf r) .sides) ((tablesOf r) .ends) ((countsOf r) .edges) (replicate m 0)) ≡ length (sheet r)
+names-counted r g m h =
+    sym (sheet-count ((tablesOf r) .degrees) ((tablesOf r) .sides) ((tablesOf r) .ends) ((tablesOf r) .lengths) ((countsOf r) .edges) (replicate m 0))
+    ∙ ap (λ (rows : List (List ℕ)). length rows) (sheet-agrees r g m h)

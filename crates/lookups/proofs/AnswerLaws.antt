@@ -8,6 +8,7 @@ use mathlib.Core.List.{List, []}
 use lib.ListN.{length, replicate, take, length-replicate}
 use lib.Seq.{take-length}
 use lib.Dec.{ltb}
+use borrow.Author.Tests.{ltb-false}
 use Rattle.model.specs.Basics.{maxEdges, maxVertices, inFront}
 use Rattle.model.specs.Register.{Register}
 use Rattle.model.specs.Queries.{Reply, concat, find, reach, sheet, sheetNumbers}
@@ -17,6 +18,7 @@ use Rattle.model.specs.Notions.{Reachable}
 use Rattle.model.proofs.Chains.Sheet.{sheet-length}
 use Rattle.model.proofs.Registers.OnlyHeld.{held-counts, held-tables}
 use Rattle.tables.specs.Steps.{tables}
+use Rattle.text.proofs.PageLaws.{write-front}
 use Rattle.queries.specs.Chains.{namesIn, sheetIn}
 use Rattle.queries.specs.Finding.{findIn, reachIn}
 use Rattle.agreement.proofs.Registers.{labels-long}
@@ -54,16 +56,16 @@ numbers-are : (r : Register) → concat (sheet r) ≡ sheetNumbers r
 unfolding sheetNumbers
 numbers-are r = refl
 
-pub sheet-answers : (t : Tables) (c : Counts) (marks table xs ys : List ℕ) (a : Reply) → marks ≡ replicate maxVertices 0 → maxEdges ≤ length table
-    → sheeted ys a ≡ sheetedIn t c marks table xs → Answers (sheets xs) t c ys a
-unfolding effect answer fills sheetedIn inFront
-sheet-answers t c marks table xs ys a m l h r k = go (ltb (length xs) (5 * length (sheet r))) refl
+pub sheet-answers : (t : Tables) (c : Counts) (m n : ℕ) (counting marks xs ys : List ℕ) (a : Reply) → maxEdges ≤ m → maxEdges ≤ n
+    → counting ≡ replicate m 0 → marks ≡ replicate n 0 → sheeted ys a ≡ sheetedIn t c counting marks xs → Answers (sheets xs) t c ys a
+unfolding effect answer fills sheetedIn
+sheet-answers t c m n counting marks xs ys a l o p q h r k = go (ltb (length xs) (5 * length (sheet r))) refl
   where
-    rows-are : sheetIn t c marks table ≡ sheet r
-    rows-are = rw (← m, held-tables k, held-counts k) at (sheet-agrees r (k .reachable) table l)
+    rows-are : sheetIn (t .degrees) (t .sides) (t .ends) (t .lengths) (c .edges) marks ≡ sheet r
+    rows-are = rw (← q, held-tables k, held-counts k) at (sheet-agrees r (k .reachable) n o)
 
-    count : length (namesIn (t .degrees) (t .sides) (t .ends) (c .edges) marks) ≡ length (sheet r)
-    count = rw (← m, held-tables k, held-counts k) at (names-counted r (k .reachable))
+    count : length (namesIn (t .degrees) (t .sides) (t .ends) (c .edges) counting) ≡ length (sheet r)
+    count = rw (← p, held-tables k, held-counts k) at (names-counted r (k .reachable) m l)
 
     go : (b : Bool) → ltb (length xs) (5 * length (sheet r)) ≡ b
         → effect (sheets xs) r ≡ record { leaves = r; slice = ys; reply = a }
@@ -71,36 +73,33 @@ sheet-answers t c marks table xs ys a m l h r k = go (ltb (length xs) (5 * lengt
         let q = rw (count, e) at h in
         rw (sheet-length r, e, ap (λ (x : Sheeted). x .slice) q, ap (λ (x : Sheeted). x .reply) q)
     go false e =
-        let q = rw (count, rows-are, numbers-are r, sheet-length r, e) at h in
-        rw (sheet-length r, e, ap (λ (x : Sheeted). x .slice) q, ap (λ (x : Sheeted). x .reply) q)
+        let q = rw (count, rows-are, numbers-are r, e) at h in
+        let fits : length (sheetNumbers r) ≤ length xs = omega (arith, sheet-length r, ltb-false (length xs) (5 * length (sheet r)) e) in
+        let front : ys ≡ inFront (sheetNumbers r) xs = ap (λ (x : Sheeted). x .slice) q ∙ write-front (sheetNumbers r) xs _ _ fits refl in
+        rw (sheet-length r, e, front, ap (λ (x : Sheeted). x .reply) q)
 
--- The sheet over scratch g that the gate left: its degrees served for marks, its sides for names, and both are zeros again.
+-- The sheet over scratch g that the gate left: its degrees and its sides served for marks, and both are zeros again.
 module _ (t : Tables) (c : Counts) (s g : Tables) (h : none ≡ barred (lent t c s)) (e : g ≡ scratchAfter (lent t c s)) where
   zeros : g ≡ cleared
   zeros = e ∙ scratch-cleared (lent t c s) ((opened (lent t c s) h) .fit)
 
-  marks-are : g .degrees ≡ replicate maxVertices 0
+  degrees-are : g .degrees ≡ replicate maxVertices 0
   unfolding cleared
-  marks-are = ap (λ (x : Tables). x .degrees) zeros
+  degrees-are = ap (λ (x : Tables). x .degrees) zeros
 
-  names-are : g .sides ≡ replicate (2 * maxVertices) 0
+  sides-are : g .sides ≡ replicate (2 * maxVertices) 0
   unfolding cleared
-  names-are = ap (λ (x : Tables). x .sides) zeros
-
-  room : maxEdges ≤ length (g .sides)
-  room = omega (arith, ap (λ (xs : List ℕ). length xs) names-are, length-replicate (2 * maxVertices) (zeroth))
-    where
-      zeroth : ℕ
-      zeroth = 0
+  sides-are = ap (λ (x : Tables). x .sides) zeros
 
   again : (xs : List ℕ) (n : ℕ) → xs ≡ replicate n 0 → replicate (length xs) 0 ≡ xs
   again xs n q = rw (q, length-replicate)
 
-  pub sheet-answered : (marks names xs ys : List ℕ) (a : Reply) → sheeted ys a ≡ sheetedIn t c (g .degrees) (g .sides) xs
-      → marks ≡ replicate (length (g .degrees)) 0 → names ≡ replicate (length (g .sides)) 0
-      → outcome t c (tables marks names (g .ends) (g .lengths) (g .labels)) ys a ≡ step (sheets xs) (lent t c s)
-  sheet-answered marks names xs ys a q m n =
-      let m′ : marks ≡ g .degrees = m ∙ again (g .degrees) maxVertices marks-are in
-      let n′ : names ≡ g .sides = n ∙ again (g .sides) (2 * maxVertices) names-are in
-      let u : tables marks names (g .ends) (g .lengths) (g .labels) ≡ g = rw (m′, n′) in
-      query-answered (sheets xs) (lent t c s) _ ys a h (u ∙ e) (sheet-answers t c (g .degrees) (g .sides) xs ys a marks-are room q)
+  pub sheet-answered : (counting marks xs ys : List ℕ) (a : Reply) → sheeted ys a ≡ sheetedIn t c (g .degrees) (g .sides) xs
+      → counting ≡ replicate (length (g .degrees)) 0 → marks ≡ replicate (length (g .sides)) 0
+      → outcome t c (tables counting marks (g .ends) (g .lengths) (g .labels)) ys a ≡ step (sheets xs) (lent t c s)
+  sheet-answered counting marks xs ys a q m n =
+      let m′ : counting ≡ g .degrees = m ∙ again (g .degrees) maxVertices degrees-are in
+      let n′ : marks ≡ g .sides = n ∙ again (g .sides) (2 * maxVertices) sides-are in
+      let u : tables counting marks (g .ends) (g .lengths) (g .labels) ≡ g = rw (m′, n′) in
+      query-answered (sheets xs) (lent t c s) _ ys a h (u ∙ e)
+      (sheet-answers t c maxVertices (2 * maxVertices) (g .degrees) (g .sides) xs ys a (omega arith) (omega arith) degrees-are sides-are q)

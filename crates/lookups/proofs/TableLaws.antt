@@ -1,28 +1,29 @@
 -- The ways out of the work of each query on the tables.
-use mathlib.Core.Path.{_≡_, ap, _∙_}
-use Prim.Native.Nat.{ℕ, _+_, _*_, _≤_, _<_}
+use mathlib.Core.Path.{_≡_, sym, ap, _∙_}
+use Prim.Native.Nat.{ℕ, _+_, _*_, _/_, _≤_, _<_}
 use native.Mathlib.Omega.{arith}
 use mathlib.Core.Option.{none, some}
+use mathlib.Core.Bool.{Bool, true, false}
 use mathlib.Core.List.{List}
-use lib.ListN.{length, getD, take, length-take}
-use lib.Seq.{sets}
-use borrow.Author.Tests.{eq-eqb, ne-eqb, lt-ltb, le-ltb}
+use lib.ListN.{length, getD}
+use lib.Dec.{leb}
+use borrow.Author.Tests.{eq-eqb, ne-eqb, leb-true, leb-false, lt-ltb, le-ltb}
 use Rattle.model.specs.Queries.{concat, found, reached, listed, refuses}
 use Rattle.model.specs.Tables.{Tables, Counts}
 use Rattle.tables.specs.Steps.{farIn, sum32}
-use Rattle.queries.specs.Chains.{WalkEnd, walkEnd, walkIn, namesIn, rowsIn, sheetIn, firstAt, nameIn}
+use Rattle.queries.specs.Chains.{WalkEnd, walkIn, namesIn, sheetIn, firstAt, nameIn}
 use Rattle.queries.specs.Finding.{endToIn, findIn, lengthToIn, reachIn, wayIn}
-use Rattle.queries.proofs.SheetLaws.{rows-fives}
+use Rattle.queries.proofs.SheetLaws.{sheet-count}
 use Rattle.text.specs.Pages.{page, write}
-use Rattle.text.proofs.PageLaws.{write-front}
 use Rattle.lookups.specs.Answering.{sheeted, sheetedIn}
 
-pub way-law : (ds ss es ls : List ℕ) (n d v w at k l x own r : ℕ) → w ≡ farIn es d v → walkEnd at k l x ≡ walkIn ds ss es ls v n d w
-    → own ≡ getD ls d 0 → r ≡ sum32 own l → (at ≡ endToIn ds ss es ls n d v) × (r ≡ lengthToIn ds ss es ls n d v)
+pub way-law : (ds ss es ls : List ℕ) (n d v w at l own r : ℕ) → w ≡ farIn es d v
+    → (at ≡ (walkIn ds ss es ls v n d w) .at) × (l ≡ (walkIn ds ss es ls v n d w) .length) → own ≡ getD ls d 0 → r ≡ sum32 own l
+    → (at ≡ endToIn ds ss es ls n d v) × (r ≡ lengthToIn ds ss es ls n d v)
 unfolding endToIn lengthToIn wayIn
-way-law ds ss es ls n d v w at k l x own r a b c e =
-    let f : walkEnd at k l x ≡ walkIn ds ss es ls v n d (farIn es d v) = b ∙ ap (walkIn ds ss es ls v n d) a in
-    (ap (λ (y : WalkEnd). y .at) f, rw (← f, ← c) e)
+way-law ds ss es ls n d v w at l own r a b c e =
+    let f : walkIn ds ss es ls v n d w ≡ walkIn ds ss es ls v n d (farIn es d v) = ap (walkIn ds ss es ls v n d) a in
+    (b .0 ∙ ap (λ (x : WalkEnd). x .at) f, e ∙ rw (← c, ← f, ← b .1))
 
 module _ (t : Tables) (c : Counts) where
   -- ---- find
@@ -64,17 +65,21 @@ module _ (t : Tables) (c : Counts) where
 
   -- ---- sheet
 
-  module _ (marks table xs : List ℕ) (k : ℕ) (count : k ≡ length (namesIn (t .degrees) (t .sides) (t .ends) (c .edges) marks)) where
-    pub sheet-short : length xs < 5 * k → sheeted xs (refuses 9) ≡ sheetedIn t c marks table xs
-    unfolding sheetedIn
-    sheet-short h = rw (← count, lt-ltb (length xs) (5 * k) h)
+  module _ (counting marks xs : List ℕ) (fits : Bool)
+      (room : fits ≡ leb (length (namesIn (t .degrees) (t .sides) (t .ends) (c .edges) counting)) (length xs / 5)) where
+    chains : ℕ
+    chains = length (namesIn (t .degrees) (t .sides) (t .ends) (c .edges) counting)
 
-    pub sheet-whole : (names ys : List ℕ) (at : ℕ) → 5 * k ≤ length xs
-        → names ≡ sets table 0 (namesIn (t .degrees) (t .sides) (t .ends) (c .edges) marks)
-        → page ys at ≡ write (concat (rowsIn (t .degrees) (t .sides) (t .ends) (t .lengths) (c .edges) (take k names))) (page xs 0)
-        → sheeted ys (listed k) ≡ sheetedIn t c marks table xs
-    unfolding sheetedIn sheetIn
-    sheet-whole names ys at h n e =
-        let fives = rows-fives (t .degrees) (t .sides) (t .ends) (t .lengths) (c .edges) (take k names) in
-        let few : length (take k names) ≤ k = rw length-take (omega arith) in
-        rw (← n, ← count, le-ltb (length xs) (5 * k) h, write-front _ xs ys at (omega (arith, fives, few)) e)
+    pub sheet-short : fits ≡ false → sheeted xs (refuses 9) ≡ sheetedIn t c counting marks xs
+    unfolding sheetedIn chains
+    sheet-short h =
+        let l : length xs < 5 * chains = omega (arith, leb-false chains (length xs / 5) (sym room ∙ h)) in
+        rw (lt-ltb (length xs) (5 * chains) l)
+
+    pub sheet-whole : (k : ℕ) (ys : List ℕ) → fits ≡ true → k ≡ length (namesIn (t .degrees) (t .sides) (t .ends) (c .edges) marks)
+        → ys ≡ (write (concat (sheetIn (t .degrees) (t .sides) (t .ends) (t .lengths) (c .edges) marks)) (page xs 0)) .slice
+        → sheeted ys (listed k) ≡ sheetedIn t c counting marks xs
+    unfolding sheetedIn chains
+    sheet-whole k ys h e f =
+        let l : 5 * chains ≤ length xs = omega (arith, leb-true chains (length xs / 5) (sym room ∙ h)) in
+        rw (le-ltb (length xs) (5 * chains) l, f, e, sheet-count (t .degrees) (t .sides) (t .ends) (t .lengths) (c .edges) marks)

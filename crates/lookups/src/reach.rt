@@ -5,6 +5,7 @@ use admission::gate::pass_gate;
 use counters::counts::Counts;
 use counters::numbers::Vertex;
 use counters::refusals::Refusal;
+use queries::walks::Way;
 use queries::walks::walk_chain;
 use tables::access::add32;
 use tables::access::at16;
@@ -25,12 +26,6 @@ ghost use Rattle.lookups.specs.Meaning.{reachedReply};
 pub enum Reached {
     Lengths(u32, u32),
     Refused(Refusal),
-}
-
-// Where a way ends, and its length.
-struct Way {
-    at: u16,
-    length: u32,
 }
 
 // From vertex v along its edge to the chain's end, or round a ring to v again.

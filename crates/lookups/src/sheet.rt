@@ -3,7 +3,7 @@ use admission::gate::Gate;
 use admission::gate::pass_gate;
 use counters::counts::Counts;
 use counters::refusals::Refusal;
-use queries::names::collect_names;
+use queries::names::has_room;
 use queries::rows::put_rows;
 use tables::whole::clear16;
 ghost use mathlib.Core.Path.{_≡_};
@@ -17,57 +17,59 @@ ghost use Rattle.admission.specs.Lent.{lent, outcome};
 ghost use Rattle.lookups.specs.Meaning.{listedReply};
 ghost use Rattle.lookups.specs.Answering.{sheeted, sheetedIn};
 
+// The numbers of a row.
+const ROW: usize = 5;
+
 // How many chains have their rows in the slice.
 pub enum Listed {
     Chains(u16),
     Refused(Refusal),
 }
 
-// The names are collected first: nothing is written to a slice that is too short.
+// Nothing is written to a slice that is too short: where it may be, the chains are counted first, over marks of their own.
 fn sheet_in(
     degrees: &[u16],
     sides: &[u16],
     ends: &[u16],
     lengths: &[u32],
     counts: Counts,
+    counting: &mut [u16],
     marks: &mut [u16],
-    names: &mut [u16],
     out: &mut [u32],
 ) -> Listed
     ensures { λ r. ⌜ ((labels : List ℕ) → sheeted
         (now (out .exit)) (listedReply r)
         ≡ sheetedIn (tables (now (degrees .entry)) (now (sides .entry)) (now (ends .entry)) (now (lengths .entry)) labels)
-        (countsIn counts) (now (marks .entry)) (now (names .entry)) (now (out .entry))) ⌝ }
+        (countsIn counts) (now (counting .entry)) (now (marks .entry)) (now (out .entry))) ⌝ }
 {
     let edges = counts.edges;
-    let count = collect_names(degrees, sides, ends, marks, names, edges);
-    if out.len() < 5 * (count as usize) {
+    if !has_room(degrees, sides, ends, counting, edges, out.len() / ROW) {
         return Listed::Refused(Refusal::ShortSlice);
     }
-    put_rows(out, degrees, sides, ends, lengths, edges, names, count);
+    let count = put_rows(out, degrees, sides, ends, lengths, marks, edges);
     Listed::Chains(count)
 }
 
-// The same; marks and names end all zero.
+// The same; both tables of marks end all zero.
 fn sheet_cleared(
     degrees: &[u16],
     sides: &[u16],
     ends: &[u16],
     lengths: &[u32],
     counts: Counts,
+    counting: &mut [u16],
     marks: &mut [u16],
-    names: &mut [u16],
     out: &mut [u32],
 ) -> Listed
     ensures { λ r. ⌜ ((labels : List ℕ) → sheeted
         (now (out .exit)) (listedReply r)
         ≡ sheetedIn (tables (now (degrees .entry)) (now (sides .entry)) (now (ends .entry)) (now (lengths .entry)) labels)
-        (countsIn counts) (now (marks .entry)) (now (names .entry)) (now (out .entry)))
-        × ((now (marks .exit) ≡ replicate (length (now (marks .entry))) 0) × (now (names .exit) ≡ replicate (length (now (names .entry))) 0)) ⌝ }
+        (countsIn counts) (now (counting .entry)) (now (marks .entry)) (now (out .entry)))
+        × ((now (counting .exit) ≡ replicate (length (now (counting .entry))) 0) × (now (marks .exit) ≡ replicate (length (now (marks .entry))) 0)) ⌝ }
 {
-    let listed = sheet_in(degrees, sides, ends, lengths, counts, marks, names, out);
+    let listed = sheet_in(degrees, sides, ends, lengths, counts, counting, marks, out);
+    clear16(counting);
     clear16(marks);
-    clear16(names);
     listed
 }
 

@@ -1,8 +1,9 @@
 -- A call whole: a list that stops, and the answer of a query on the tables that a list leaves.
 use mathlib.Core.Path.{_≡_, sym, ap, _∙_}
-use Prim.Native.Nat.{ℕ, _≤_}
+use Prim.Native.Nat.{ℕ}
+use native.Mathlib.Omega.{arith}
 use mathlib.Core.List.{List}
-use lib.ListN.{length, replicate, take}
+use lib.ListN.{length, take}
 use lib.IntN.{ℤ, pos, negℤ}
 use Rattle.model.specs.Basics.{maxEdges, maxVertices}
 use Rattle.model.specs.Register.{Register}
@@ -10,15 +11,13 @@ use Rattle.model.specs.Format.{Stop, whole, stopped, growList}
 use Rattle.model.specs.FromC.{Returned, fromC, returnsNumbers, returnsRefusal, returnsReply}
 use Rattle.model.specs.Queries.{Reply, listed, find, reach, measure, sheet, sheetNumbers, concat}
 use Rattle.model.specs.Calls.{Effect, answer, answers, effect}
-use Rattle.model.specs.Tables.{Tables, Counts, cleared, noCounts, storedOf, countsOf, tablesOf}
-use Rattle.model.specs.Notions.{HeldOf, Reachable}
+use Rattle.model.specs.Tables.{Tables, Counts, cleared, noCounts, storedOf}
+use Rattle.model.specs.Notions.{HeldOf}
 use Rattle.model.proofs.Registers.OnlyHeld.{held-counts, held-tables}
 use Rattle.model.proofs.Series.Landings.{reachable-grown}
 use Rattle.tables.specs.Steps.{stored, tables}
-use Rattle.queries.specs.Chains.{namesIn, rowsIn}
 use Rattle.queries.specs.Finding.{findIn, reachIn}
-use Rattle.agreement.proofs.Registers.{room}
-use Rattle.agreement.proofs.Sheeting.{rows-are}
+use Rattle.agreement.proofs.Sheeting.{sheet-agrees, sheetOver}
 use Rattle.agreement.proofs.Finding.{reach-agrees}
 use Rattle.register.specs.Records.{ReadingIn, readingIn, landListIn}
 use Rattle.register.proofs.ListAgrees.{shownRead}
@@ -57,25 +56,12 @@ module _ (bs : List ℕ) (t : Tables) (c : Counts) (s : Stop) (e : readingIn t c
 
 -- ---- the four queries
 
--- the rows of a register's tables, over marks of their own
-abbrev rowsOf : Tables → Counts → List (List ℕ)
-rowsOf t c = rowsIn (t .degrees) (t .sides) (t .ends) (t .lengths) (c .edges) (namesIn (t .degrees) (t .sides) (t .ends) (c .edges) (replicate maxEdges 0))
-
-rows-sheet : (r : Register) → Reachable r → rowsOf (tablesOf r) (countsOf r) ≡ sheet r
-unfolding countsOf
-rows-sheet r g = rows-are r g
-
-edges-few : (r : Register) → Reachable r → (countsOf r) .edges ≤ maxEdges
-unfolding countsOf
-edges-few r g = room r g
-
 module _ (d s e l lb : List ℕ) (c : Counts) (r : Register) (h : HeldOf (stored (tables d s e l lb) c) r) (slice : List ℕ) (z : Returned) where
-  pub sheet-query : (c .edges ≤ maxEdges → z ≡ returnsNumbers slice (concat (rowsOf (tables d s e l lb) c)))
-      → z ≡ returnsReply r slice (listed (length (sheet r)))
+  pub sheet-query : z ≡ returnsNumbers slice (concat (sheetOver (tables d s e l lb) (c .edges) maxEdges)) → z ≡ returnsReply r slice (listed (length (sheet r)))
   unfolding returnsReply sheetNumbers
   sheet-query p =
-      let few : c .edges ≤ maxEdges = rw (held-counts h) at (edges-few r (h .reachable)) in
-      p few ∙ ap (λ (rows : List (List ℕ)). returnsNumbers slice (concat rows)) (rw (held-tables h, held-counts h) at (rows-sheet r (h .reachable)))
+      let k : sheetOver (tables d s e l lb) (c .edges) maxEdges ≡ sheet r = rw (held-tables h, held-counts h) at (sheet-agrees r (h .reachable) maxEdges (omega arith)) in
+      p ∙ ap (λ (rows : List (List ℕ)). returnsNumbers slice (concat rows)) k
 
   pub find-query : (label : ℕ) (a : Reply) → a ≡ findIn (tables d s e l (take maxVertices lb)) c label → z ≡ returnsReply r slice a
       → z ≡ returnsReply r slice (find r label)

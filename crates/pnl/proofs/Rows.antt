@@ -1,32 +1,45 @@
--- The rows of the sheet as bytes.
-use mathlib.Core.Path.{_≡_, refl, ap, _∙_}
-use Prim.Native.Nat.{ℕ, _*_, _≤_}
+-- The rows of the sheet as bytes: encoded row by row, and answered.
+use mathlib.Core.Path.{_≡_, refl, sym, ap, _∙_}
+use Prim.Native.Nat.{ℕ, _*_, _/_, _≤_, _<_}
 use native.Mathlib.Omega.{arith}
+use mathlib.Core.Bool.{Bool, true, false}
 use mathlib.Core.List.{List}
-use lib.ListN.{length, replicate, take, length-replicate}
-use lib.Seq.{sets}
-use Rattle.model.specs.Basics.{maxEdges}
-use Rattle.model.specs.FromC.{bytesOf}
+use lib.Dec.{leb}
+use lib.IntN.{ℤ, pos, negℤ}
+use lib.ListN.{length}
+use borrow.Author.Tests.{leb-true, leb-false}
+use Rattle.model.specs.FromC.{bytesOf, returnsNumbers}
 use Rattle.model.specs.Queries.{concat}
-use Rattle.queries.specs.Chains.{namesIn, rowsIn}
-use Rattle.queries.proofs.NameLaws.{kept-names}
-use Rattle.queries.proofs.SheetLaws.{RowByRow, rows-fives}
-use Rattle.text.specs.Pages.{Page, write}
-use Rattle.pnl.proofs.Bytes.{bytesOf-append}
+use Rattle.queries.specs.Chains.{namesIn, sheetIn}
+use Rattle.queries.proofs.SheetLaws.{RowByRow, sheet-fives}
+use Rattle.text.specs.Pages.{page, write}
+use Rattle.pnl.specs.FromC.{returned}
+use Rattle.pnl.proofs.Bytes.{bytesOf-append, numbers-short, numbers-fit}
 
 pub row-bytes : RowByRow bytesOf (λ rows. bytesOf (concat rows))
 unfolding concat bytesOf
 row-bytes = record { none = refl; first = λ row rows. bytesOf-append row (concat rows) }
 
--- twenty bytes a row
-pub rows-size : (ds ss es ls : List ℕ) (n k : ℕ) (cs : List ℕ) → k ≡ length cs → 20 * k ≡ 4 * length (concat (rowsIn ds ss es ls n cs))
-rows-size ds ss es ls n k cs e = omega (arith, rows-fives ds ss es ls n cs)
+module _ (ds ss es ls : List ℕ) (n : ℕ) (ms slice : List ℕ) (fits : Bool) (room : fits ≡ leb (length (namesIn ds ss es n ms)) (length slice / 20)) where
+  chains : ℕ
+  chains = length (namesIn ds ss es n ms)
 
--- the rows of the names that were put in a table of their own
-pub rows-put : (ds ss es ls : List ℕ) (n k : ℕ) (marks names : List ℕ) (p q : Page) → n ≤ maxEdges → k ≡ length (namesIn ds ss es n marks)
-    → names ≡ sets (replicate maxEdges 0) 0 (namesIn ds ss es n marks) → q ≡ write (bytesOf (concat (rowsIn ds ss es ls n (take k names)))) p
-    → q ≡ write (bytesOf (concat (rowsIn ds ss es ls n (namesIn ds ss es n marks)))) p
-rows-put ds ss es ls n k marks names p q l e f w =
-    let h : n ≤ length (replicate {A = ℕ} maxEdges 0) = rw (length-replicate {A = ℕ}) l in
-    let kept : take k names ≡ namesIn ds ss es n marks = rw (e, f) (kept-names ds ss es n marks (replicate maxEdges 0) h) in
-    w ∙ ap (λ (cs : List ℕ). write (bytesOf (concat (rowsIn ds ss es ls n cs))) p) kept
+  -- twenty bytes a row
+  size : 20 * chains ≡ 4 * length (concat (sheetIn ds ss es ls n ms))
+  unfolding chains
+  size = omega (arith, sheet-fives ds ss es ls n ms)
+
+  pub sheet-short : (v : ℤ) → fits ≡ false → v ≡ negℤ (pos 9) → returned slice v ≡ returnsNumbers slice (concat (sheetIn ds ss es ls n ms))
+  unfolding chains
+  sheet-short v h e =
+      let l : length slice < 20 * chains = omega (arith, leb-false chains (length slice / 20) (sym room ∙ h)) in
+      numbers-short slice _ (20 * chains) size v l e
+
+  pub sheet-whole : (k : ℕ) (after : List ℕ) (v : ℤ) → fits ≡ true → k ≡ length (namesIn ds ss es n ms)
+      → after ≡ (write (bytesOf (concat (sheetIn ds ss es ls n ms))) (page slice 0)) .slice → v ≡ pos (20 * k)
+      → returned after v ≡ returnsNumbers slice (concat (sheetIn ds ss es ls n ms))
+  unfolding chains
+  sheet-whole k after v h c e f =
+      let l : 20 * chains ≤ length slice = omega (arith, leb-true chains (length slice / 20) (sym room ∙ h)) in
+      let at : ℕ = (write (bytesOf (concat (sheetIn ds ss es ls n ms))) (page slice 0)) .at in
+      numbers-fit slice _ (20 * chains) size after at v l (ap (λ (xs : List ℕ). page xs at) e) (f ∙ ap (λ (i : ℕ). pos (20 * i)) c)

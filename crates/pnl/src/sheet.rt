@@ -4,81 +4,58 @@ use crate::answers::put_words;
 use crate::answers::refused;
 use counters::refusals::Refusal;
 use counters::sizes::EDGES;
-use queries::names::collect_names;
-use queries::rows::row_at;
-use tables::access::of16;
+use queries::marks::next_unmarked;
+use queries::names::has_room;
+use queries::rows::Row;
+use queries::rows::take_row;
 ghost use mathlib.Core.Path.{_≡_};
-ghost use mathlib.Core.List.{[], _∷_};
-ghost use Prim.Native.Nat.{_≤_};
-ghost use lib.ListN.{replicate, take};
+ghost use lib.ListN.{length, replicate};
 ghost use Rattle.model.specs.Basics.{maxEdges};
 ghost use Rattle.model.specs.FromC.{bytesOf, returnsNumbers};
 ghost use Rattle.model.specs.Queries.{concat};
-ghost use Rattle.queries.specs.Chains.{namesIn, rowsIn};
+ghost use Rattle.queries.specs.Answers.{rowOf};
+ghost use Rattle.queries.specs.Chains.{namesIn, sheetIn};
 ghost use Rattle.text.specs.Pages.{page, write};
 ghost use Rattle.pnl.specs.FromC.{returned};
 
 // Five numbers of four bytes.
 const ROW_BYTES: usize = 20;
 
-// The row of the chain named edge.
-fn put_chain(
-    out: &mut [u8],
-    at: usize,
-    degrees: &[u16],
-    sides: &[u16],
-    ends: &[u16],
-    lengths: &[u32],
-    edge: u16,
-    edges: u16,
-) -> usize
-    ensures { λ r. ⌜ page (now (out .exit)) r
-        ≡ write (bytesOf (concat (rowsIn (now (degrees .entry)) (now (sides .entry)) (now (ends .entry)) (now (lengths .entry)) edges (edge ∷ []))))
-        (page (now (out .entry)) at) ⌝ }
+fn put_row(out: &mut [u8], at: usize, row: Row) -> usize
+    ensures { λ r. ⌜ page (now (out .exit)) r ≡ write (bytesOf (rowOf row)) (page (now (out .entry)) at) ⌝ }
 {
-    let row = row_at(degrees, sides, ends, lengths, edge, edges);
     let numbers = [row.name, row.lower, row.other, row.inner, row.length];
     put_words(out, at, &numbers)
 }
 
-// The rows of the first chains of a table of names.
+// The rows of all chains; the answer is how many there are.
 fn put_sheet(
     out: &mut [u8],
     degrees: &[u16],
     sides: &[u16],
     ends: &[u16],
     lengths: &[u32],
+    marks: &mut [u16],
     edges: u16,
-    names: &[u16],
-    count: u16,
-) -> usize
-    ensures { λ r. ⌜ page (now (out .exit)) r
-        ≡ write (bytesOf (concat (rowsIn (now (degrees .entry)) (now (sides .entry)) (now (ends .entry)) (now (lengths .entry)) edges
-        (take count (now (names .entry))))))
-        (page (now (out .entry)) 0) ⌝ }
+) -> u16
+    ensures { λ r. ⌜ (r ≡ length (namesIn (now (degrees .entry)) (now (sides .entry)) (now (ends .entry)) edges (now (marks .entry))))
+        × (now (out .exit)
+        ≡ (write (bytesOf (concat (sheetIn (now (degrees .entry)) (now (sides .entry)) (now (ends .entry)) (now (lengths .entry)) edges (now (marks .entry)))))
+        (page (now (out .entry)) 0)) .slice) ⌝ }
 {
     let mut next: usize = 0;
-    let mut i: u16 = 0;
-    while i < count {
-        if names.len() <= (i as usize) {
-            break;
-        }
-        next = put_chain(
-            out,
-            next,
-            degrees,
-            sides,
-            ends,
-            lengths,
-            of16(names, i),
-            edges,
-        );
-        i += 1;
+    let mut count: u16 = 0;
+    let mut edge = next_unmarked(marks, 0, edges);
+    while edge < edges {
+        let row = take_row(degrees, sides, ends, lengths, marks, edge, edges);
+        next = put_row(out, next, row);
+        count += 1;
+        edge = next_unmarked(marks, edge + 1, edges);
     }
-    next
+    count
 }
 
-// The names are collected first: a slice that is too short stays as it is.
+// A slice that is too short stays as it is: where it may be, the chains are counted first, over marks of their own.
 pub fn answer_sheet(
     answer: &mut [u8],
     degrees: &[u16],
@@ -87,18 +64,16 @@ pub fn answer_sheet(
     lengths: &[u32],
     edges: u16,
 ) -> i32
-    ensures { λ r. ⌜ (edges ≤ maxEdges → returned (now (answer .exit)) r
+    ensures { λ r. ⌜ returned (now (answer .exit)) r
         ≡ returnsNumbers (now (answer .entry))
-        (concat (rowsIn (now (degrees .entry)) (now (sides .entry)) (now (ends .entry)) (now (lengths .entry)) edges
-        (namesIn (now (degrees .entry)) (now (sides .entry)) (now (ends .entry)) edges (replicate maxEdges 0))))) ⌝ }
+        (concat (sheetIn (now (degrees .entry)) (now (sides .entry)) (now (ends .entry)) (now (lengths .entry)) edges (replicate maxEdges 0))) ⌝ }
 {
+    let mut counting = [0u16; EDGES];
     let mut marks = [0u16; EDGES];
-    let mut names = [0u16; EDGES];
-    let count = collect_names(degrees, sides, ends, &mut marks, &mut names, edges);
-    let size = ROW_BYTES * (count as usize);
-    if answer.len() < size {
+    let rows = answer.len() / ROW_BYTES;
+    if !has_room(degrees, sides, ends, &mut counting, edges, rows) {
         return refused(Refusal::ShortSlice);
     }
-    put_sheet(answer, degrees, sides, ends, lengths, edges, &names, count);
-    counted(size)
+    let count = put_sheet(answer, degrees, sides, ends, lengths, &mut marks, edges);
+    counted(ROW_BYTES * (count as usize))
 }

@@ -3,20 +3,18 @@ use mathlib.Core.Path.{_≡_, sym, ap, _∙_}
 use Prim.Native.Nat.{ℕ, _+_, _*_, _≤_, _<_}
 use native.Mathlib.Omega.{arith}
 use mathlib.Core.List.{List, [], _∷_}
-use lib.ListN.{length, replicate, take, length-replicate}
-use lib.Seq.{sets, length-take-le}
+use lib.ListN.{length, take}
+use lib.Seq.{length-take-le}
 use borrow.Author.Tests.{lt-ltb, le-ltb}
 use Rattle.model.specs.Basics.{maxEdges}
 use Rattle.model.specs.Register.{Register}
 use Rattle.model.specs.Format.{Read, Stop, growList}
-use Rattle.model.specs.Tables.{Counts, Tables, tablesOf, countsOf, cleared, noCounts}
+use Rattle.model.specs.Tables.{Counts, tablesOf, countsOf, cleared, noCounts}
 use Rattle.model.specs.Printing.{ascii, line, lines, listing, printed, stopLine}
 use Rattle.model.specs.Notions.{Reachable}
 use Rattle.model.proofs.Series.Landings.{reachable-grown}
-use Rattle.queries.specs.Chains.{namesIn, rowsIn}
-use Rattle.queries.proofs.NameLaws.{kept-names, names-few}
 use Rattle.agreement.proofs.Registers.{room}
-use Rattle.agreement.proofs.Sheeting.{rows-are}
+use Rattle.agreement.proofs.Sheeting.{sheet-agrees, sheetOver}
 use Rattle.register.specs.Records.{ReadingIn, landListIn}
 use Rattle.register.proofs.ListAgrees.{shownRead}
 use Rattle.register.proofs.Growing.{list-leaves}
@@ -34,27 +32,11 @@ listing-parts c rows a k p q r s n e f g =
     let head : q ≡ write (line (c .vertices ∷ c .edges ∷ length rows ∷ c .relabellings ∷ [])) p = rw (← n) e in
     write-two _ (stopLine a) p r s (write-two _ _ p q r head f) g
 
--- the rows of the names that were put in a table of their own
-pub lines-put : (ds ss es ls : List ℕ) (n k : ℕ) (marks names : List ℕ) (p q : Page) → n ≤ maxEdges → k ≡ length (namesIn ds ss es n marks)
-    → names ≡ sets (replicate maxEdges 0) 0 (namesIn ds ss es n marks) → q ≡ write (lines (rowsIn ds ss es ls n (take k names))) p
-    → q ≡ write (lines (rowsIn ds ss es ls n (namesIn ds ss es n marks))) p
-lines-put ds ss es ls n k marks names p q l e f w =
-    let h : n ≤ length (replicate {A = ℕ} maxEdges 0) = rw (length-replicate {A = ℕ}) l in
-    let kept : take k names ≡ namesIn ds ss es n marks = rw (e, f) (kept-names ds ss es n marks (replicate maxEdges 0) h) in
-    w ∙ ap (λ (cs : List ℕ). write (lines (rowsIn ds ss es ls n cs)) p) kept
-
-pub count-few : (ds ss es : List ℕ) (n k : ℕ) (marks : List ℕ) → k ≡ length (namesIn ds ss es n marks) → k ≤ n
-count-few ds ss es n k marks e = omega (arith, e, names-few ds ss es n marks)
-
--- the rows of tables, over marks of their own
-abbrev rowsOf : Tables → Counts → List (List ℕ)
-rowsOf t c = rowsIn (t .degrees) (t .sides) (t .ends) (t .lengths) (c .edges) (namesIn (t .degrees) (t .sides) (t .ends) (c .edges) (replicate maxEdges 0))
-
 -- the listing of the tables is that of the register
 listing-is : (d : Read) → Reachable (d .register)
-    → listingIn (countsOf (d .register)) (rowsOf (tablesOf (d .register)) (countsOf (d .register))) (d .stop) ≡ listing d
+    → listingIn (countsOf (d .register)) (sheetOver (tablesOf (d .register)) ((countsOf (d .register)) .edges) maxEdges) (d .stop) ≡ listing d
 unfolding listingIn listing countsOf
-listing-is d g = rw (rows-are (d .register) g)
+listing-is d g = rw (sheet-agrees (d .register) g maxEdges (omega arith))
 
 -- what a page holds that ends before the end of its slice
 page-holds : (xs ys out : List ℕ) (q : Page) → q ≡ write xs (page out 0) → q .at < length out → xs ≡ ys
@@ -84,13 +66,13 @@ unfolding printed
 printed-short bs h = rw (le-ltb 65536 (length bs) h)
 
 pub prints : (bs out : List ℕ) (d : ReadingIn) (q : Page) → length bs ≤ 65536 → roomBytes ≤ length out → d ≡ landListIn cleared noCounts bs
-    → (d .counts .edges ≤ maxEdges → q ≡ write (listingIn (d .counts) (rowsOf (d .tables) (d .counts)) (d .stop)) (page out 0))
+    → q ≡ write (listingIn (d .counts) (sheetOver (d .tables) (d .counts .edges) maxEdges) (d .stop)) (page out 0)
     → q .at ≤ headBytes + rowBytes * d .counts .edges + stopBytes → Counted (q .at) (q .slice) × (take (q .at) (q .slice) ≡ printed bs)
 prints bs out d q h l e f b =
     let g : Reachable ((growList bs) .register) = reachable-grown bs in
     let i : d ≡ shownRead (growList bs) = e ∙ list-leaves bs in
     let k : d .counts .edges ≡ (countsOf ((growList bs) .register)) .edges = ap (λ (z : ReadingIn). z .counts .edges) i in
     let few : d .counts .edges ≤ maxEdges = omega (arith, k, edges-few ((growList bs) .register) g) in
-    let x : listingIn (d .counts) (rowsOf (d .tables) (d .counts)) (d .stop) ≡ listing (growList bs) =
-    ap (λ (z : ReadingIn). listingIn (z .counts) (rowsOf (z .tables) (z .counts)) (z .stop)) i ∙ listing-is (growList bs) g in
-    page-holds _ (printed bs) out q (f few) (omega (arith, few)) (x ∙ printed-short bs h)
+    let x : listingIn (d .counts) (sheetOver (d .tables) (d .counts .edges) maxEdges) (d .stop) ≡ listing (growList bs) =
+    ap (λ (z : ReadingIn). listingIn (z .counts) (sheetOver (z .tables) (z .counts .edges) maxEdges) (z .stop)) i ∙ listing-is (growList bs) g in
+    page-holds _ (printed bs) out q f (omega (arith, few)) (x ∙ printed-short bs h)

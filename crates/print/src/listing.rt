@@ -5,22 +5,23 @@ use counters::sizes::EDGES;
 use counters::sizes::ENDS;
 use counters::sizes::SIDES;
 use counters::sizes::VERTICES;
-use queries::names::collect_names;
-use queries::rows::row_at;
+use queries::marks::next_unmarked;
+use queries::names::count_chains;
+use queries::rows::Row;
+use queries::rows::take_row;
 use register::records::grow_list;
-use tables::access::of16;
 use text::lines::put_line2;
 use text::lines::put_line4;
 use text::lines::put_line5;
 use text::writing::put_text;
 ghost use mathlib.Core.Path.{_≡_};
-ghost use mathlib.Core.List.{[], _∷_};
 ghost use Prim.Native.Nat.{_+_, _*_, _≤_};
 ghost use lib.ListN.{length, replicate, take};
 ghost use Rattle.model.specs.Basics.{maxEdges};
-ghost use Rattle.model.specs.Printing.{lines, printed, stopLine};
+ghost use Rattle.model.specs.Printing.{line, lines, printed, stopLine};
 ghost use Rattle.counters.specs.Answers.{countsIn, stopIn};
-ghost use Rattle.queries.specs.Chains.{namesIn, rowsIn};
+ghost use Rattle.queries.specs.Answers.{rowOf};
+ghost use Rattle.queries.specs.Chains.{sheetIn};
 ghost use Rattle.io.specs.Counts.{Counts as Counted};
 ghost use Rattle.text.specs.Pages.{page, write};
 ghost use Rattle.print.specs.Listing.{listingIn, headBytes, rowBytes, stopBytes, roomBytes};
@@ -31,22 +32,10 @@ pub const MAX_LIST: usize = 65536;
 // Room for any listing.
 pub const ROOM: usize = 262144;
 
-// The line of the chain named edge.
-fn put_chain(
-    out: &mut [u8],
-    at: usize,
-    degrees: &[u16],
-    sides: &[u16],
-    ends: &[u16],
-    lengths: &[u32],
-    edge: u16,
-    edges: u16,
-) -> usize
-    ensures { λ r. ⌜ (page (now (out .exit)) r
-        ≡ write (lines (rowsIn (now (degrees .entry)) (now (sides .entry)) (now (ends .entry)) (now (lengths .entry)) edges (edge ∷ [])))
-        (page (now (out .entry)) at)) × (r ≤ at + rowBytes) ⌝ }
+// The line of a row.
+fn put_row(out: &mut [u8], at: usize, row: Row) -> usize
+    ensures { λ r. ⌜ (page (now (out .exit)) r ≡ write (line (rowOf row)) (page (now (out .entry)) at)) × (r ≤ at + rowBytes) ⌝ }
 {
-    let row = row_at(degrees, sides, ends, lengths, edge, edges);
     let name = row.name;
     let lower = row.lower;
     let other = row.other;
@@ -63,7 +52,7 @@ fn put_chain(
     )
 }
 
-// The sheet, one chain a line: the first chains of a table of names.
+// The sheet, one chain a line.
 fn put_sheet(
     out: &mut [u8],
     at: usize,
@@ -71,32 +60,19 @@ fn put_sheet(
     sides: &[u16],
     ends: &[u16],
     lengths: &[u32],
+    marks: &mut [u16],
     edges: u16,
-    names: &[u16],
-    count: u16,
 ) -> usize
     ensures { λ r. ⌜ (page (now (out .exit)) r
-        ≡ write (lines (rowsIn (now (degrees .entry)) (now (sides .entry)) (now (ends .entry)) (now (lengths .entry)) edges
-        (take count (now (names .entry)))))
-        (page (now (out .entry)) at)) × (r ≤ at + rowBytes * count) ⌝ }
+        ≡ write (lines (sheetIn (now (degrees .entry)) (now (sides .entry)) (now (ends .entry)) (now (lengths .entry)) edges (now (marks .entry))))
+        (page (now (out .entry)) at)) × (r ≤ at + rowBytes * edges) ⌝ }
 {
     let mut next = at;
-    let mut i: u16 = 0;
-    while i < count {
-        if names.len() <= (i as usize) {
-            break;
-        }
-        next = put_chain(
-            out,
-            next,
-            degrees,
-            sides,
-            ends,
-            lengths,
-            of16(names, i),
-            edges,
-        );
-        i += 1;
+    let mut edge = next_unmarked(marks, 0, edges);
+    while edge < edges {
+        let row = take_row(degrees, sides, ends, lengths, marks, edge, edges);
+        next = put_row(out, next, row);
+        edge = next_unmarked(marks, edge + 1, edges);
     }
     next
 }
@@ -115,7 +91,7 @@ fn put_stop(out: &mut [u8], at: usize, stop: Stop) -> usize
     }
 }
 
-// The four numbers, the sheet, and the stop.
+// The four numbers, the sheet, and the stop. The number of chains comes first, so they are counted, over marks of their own.
 fn put_listing(
     out: &mut [u8],
     degrees: &[u16],
@@ -125,18 +101,17 @@ fn put_listing(
     counts: Counts,
     stop: Stop,
 ) -> usize
-    ensures { λ r. ⌜ (counts .edges ≤ maxEdges → page (now (out .exit)) r
+    ensures { λ r. ⌜ (page (now (out .exit)) r
         ≡ write (listingIn (countsIn counts)
-        (rowsIn (now (degrees .entry)) (now (sides .entry)) (now (ends .entry)) (now (lengths .entry)) (counts .edges)
-        (namesIn (now (degrees .entry)) (now (sides .entry)) (now (ends .entry)) (counts .edges) (replicate maxEdges 0))) (stopIn stop))
-        (page (now (out .entry)) 0)) × (r ≤ headBytes + rowBytes * counts .edges + stopBytes) ⌝ }
+        (sheetIn (now (degrees .entry)) (now (sides .entry)) (now (ends .entry)) (now (lengths .entry)) (counts .edges) (replicate maxEdges 0))
+        (stopIn stop)) (page (now (out .entry)) 0)) × (r ≤ headBytes + rowBytes * counts .edges + stopBytes) ⌝ }
 {
+    let mut counting = [0u16; EDGES];
     let mut marks = [0u16; EDGES];
-    let mut names = [0u16; EDGES];
     let vertices = counts.vertices;
     let edges = counts.edges;
     let relabellings = counts.relabellings;
-    let chains = collect_names(degrees, sides, ends, &mut marks, &mut names, edges);
+    let chains = count_chains(degrees, sides, ends, &mut counting, edges);
     let sheet = put_line4(
         out,
         0,
@@ -145,17 +120,7 @@ fn put_listing(
         chains as u64,
         relabellings as u64,
     );
-    let next = put_sheet(
-        out,
-        sheet,
-        degrees,
-        sides,
-        ends,
-        lengths,
-        edges,
-        &names,
-        chains,
-    );
+    let next = put_sheet(out, sheet, degrees, sides, ends, lengths, &mut marks, edges);
     put_stop(out, next, stop)
 }
 

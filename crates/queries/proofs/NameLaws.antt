@@ -1,17 +1,17 @@
--- Marks along a walk and on a chain, and the names that a pass over the edges keeps.
+-- Marks along a walk and on a chain, and the names that a pass over the edges finds.
 use mathlib.Core.Path.{_≡_, refl, sym, ap, _∙_}
 use mathlib.Core.Bool.{Bool, true, false}
-use mathlib.Core.List.{List, [], _∷_}
+use mathlib.Core.List.{List, [], _∷_, _++_, append-nil}
 use Prim.Native.Nat.{ℕ, zero, suc, _+_, _*_, _-_, _<_, _≤_}
 use native.Mathlib.Nat.{not-suc-le-zero}
 use native.Mathlib.Numerals.{add-one, sub-one}
 use native.Mathlib.Omega.{arith}
-use borrow.Author.Tests.{eq-eqb, ne-eqb}
-use lib.ListN.{length, getD, set}
-use lib.Seq.{sets, sets-eq, take-append-le, take-length}
-use lib.Dec.{eqb}
-use Rattle.tables.specs.Steps.{farIn, turnIn, more16}
-use Rattle.queries.specs.Chains.{goesOnIn, keptIn, Marked, marked, markIn, markChainIn, sweepIn, namesIn, Took, took, takeIn}
+use borrow.Author.Tests.{eq-eqb, ne-eqb, eqb-true, le-leb}
+use lib.ListN.{length, getD, set, length-append}
+use lib.Seq.{append-snoc}
+use lib.Dec.{eqb, leb}
+use Rattle.tables.specs.Steps.{farIn, turnIn}
+use Rattle.queries.specs.Chains.{goesOnIn, marked, markIn, markChainIn, namesIn, sweepIn, unmarkedFrom}
 
 module _ (ds ss es : List ℕ) (home : ℕ) where
   pub mark-none : (n : ℕ) (ms : List ℕ) (d v : ℕ) → n ≤ 0 → marked ms v ≡ markIn ds ss es home n ms d v
@@ -44,75 +44,107 @@ module _ (ds ss es : List ℕ) (n : ℕ) where
     unfolding markChainIn
     chain-both i os u j = rw (← f, ← s, ← h, ne-eqb _ _ i, ← j)
 
-  pub take-not : (ms names : List ℕ) (e k : ℕ) → (getD ms e 0 ≡ 0 → ⊥) → took ms names k ≡ takeIn ds ss es n ms names e k
-  unfolding takeIn
-  take-not ms names e k h = rw (ne-eqb _ _ h)
+-- ---- the next edge without a mark
 
-  pub take-name : (ms names ms′ names′ : List ℕ) (e k k′ : ℕ) → getD ms e 0 ≡ 0 → ms′ ≡ markChainIn ds ss es n ms e → names′ ≡ set names k e → k′ ≡ more16 k
-      → took ms′ names′ k′ ≡ takeIn ds ss es n ms names e k
-  unfolding takeIn
-  take-name ms names ms′ names′ e k k′ h a b c = rw (eq-eqb _ _ h, a, b, c)
+module _ (ms : List ℕ) (n : ℕ) where
+  pub unmarked-end : (e : ℕ) → n ≤ e → e ≡ unmarkedFrom (n - e) ms e
+  unfolding unmarkedFrom
+  unmarked-end e h =
+      let z : n - e ≡ 0 = omega arith in
+      rw z
 
--- A pass over all edges. At edge e, with some left, k names stand in the table, and those that are still to be found end it as all do.
-pub record Sweeps (ds ss es : List ℕ) (n : ℕ) (ms₀ names₀ : List ℕ) (e left : ℕ) (ms names : List ℕ) (k : ℕ) : Type 0 where
-  pub counted : e + left ≡ n
-  pub few : k ≤ e
-  pub as-long : length names ≡ length names₀
-  pub marks-long : length ms ≡ length ms₀
-  pub total : k + length (sweepIn ds ss es n left ms e) ≡ length (namesIn ds ss es n ms₀)
-  pub ends : sets names k (sweepIn ds ss es n left ms e) ≡ sets names₀ 0 (namesIn ds ss es n ms₀)
-
-module _ (ds ss es : List ℕ) (n : ℕ) (ms₀ names₀ : List ℕ) where
-  pub sweep-start : Sweeps ds ss es n ms₀ names₀ 0 n ms₀ names₀ 0
-  unfolding namesIn
-  sweep-start = record { counted = omega arith; few = omega arith; as-long = refl; marks-long = refl; total = omega arith; ends = refl }
-
-  turn-name : (e left : ℕ) (ms names ms′ names′ : List ℕ) (k k′ : ℕ) → n ≤ 65535 → Sweeps ds ss es n ms₀ names₀ e (suc left) ms names k
-      → length names′ ≡ length names → length ms′ ≡ length ms → took ms′ names′ k′ ≡ takeIn ds ss es n ms names e k
-      → Sweeps ds ss es n ms₀ names₀ (suc e) left ms′ names′ k′
-  unfolding sweepIn takeIn more16
-  turn-name e left ms names ms′ names′ k k′ h s l m t = go (eqb (getD ms e 0) 0) refl
+  pub unmarked-here : (e : ℕ) → getD ms e 0 ≡ 0 → e ≡ unmarkedFrom (n - e) ms e
+  unfolding unmarkedFrom
+  unmarked-here e h = go (n - e)
     where
-      go : (b : Bool) → eqb (getD ms e 0) 0 ≡ b → Sweeps ds ss es n ms₀ names₀ (suc e) left ms′ names′ k′
-      go true q =
-          let a : ms′ ≡ markChainIn ds ss es n ms e = ap (λ (x : Took). x .marks) (rw q at t) in
-          let b : names′ ≡ set names k e = ap (λ (x : Took). x .names) (rw q at t) in
-          let c : k′ ≡ more16 k = ap (λ (x : Took). x .count) (rw q at t) in
-          let d : k′ ≡ suc k = omega (arith, c, s .counted, s .few) in
-          let u : k + suc (length (sweepIn ds ss es n left (markChainIn ds ss es n ms e) (suc e))) ≡ length (namesIn ds ss es n ms₀) = rw (q, sweepIn) at (s .total) in
-          let v : sets (set names k e) (suc k) (sweepIn ds ss es n left (markChainIn ds ss es n ms e) (suc e)) ≡ sets names₀ 0 (namesIn ds ss es n ms₀) = rw (q, sweepIn) at (s .ends) in
-          record {
-            counted = omega (arith, s .counted);
-            few = omega (arith, d, s .few);
-            as-long = l ∙ s .as-long;
-            marks-long = m ∙ s .marks-long;
-            total = rw (a, d) (omega (arith, u));
-            ends = rw (a, b, d) v;
-          }
-      go false q =
-          let a : ms′ ≡ ms = ap (λ (x : Took). x .marks) (rw q at t) in
-          let b : names′ ≡ names = ap (λ (x : Took). x .names) (rw q at t) in
-          let c : k′ ≡ k = ap (λ (x : Took). x .count) (rw q at t) in
-          record {
-            counted = omega (arith, s .counted);
-            few = omega (arith, c, s .few);
-            as-long = l ∙ s .as-long;
-            marks-long = m ∙ s .marks-long;
-            total = rw (a, c) (rw (q, sweepIn) at (s .total));
-            ends = rw (a, b, c) (rw (q, sweepIn) at (s .ends));
-          }
+      go : (k : ℕ) → e ≡ unmarkedFrom k ms e
+      go zero = refl
+      go (suc k) = rw (eq-eqb _ _ h, unmarkedFrom)
 
-  pub sweep-on : (e left : ℕ) (ms names ms′ names′ : List ℕ) (k k′ : ℕ) → 0 < left → n ≤ 65535 → Sweeps ds ss es n ms₀ names₀ e left ms names k
-      → length names′ ≡ length names → length ms′ ≡ length ms → took ms′ names′ k′ ≡ takeIn ds ss es n ms names e k
-      → Sweeps ds ss es n ms₀ names₀ (e + 1) (left - 1) ms′ names′ k′
-  sweep-on e zero ms names ms′ names′ k k′ z h s l m t = absurd (not-suc-le-zero z)
-  sweep-on e (suc left) ms names ms′ names′ k k′ z h s l m t = rw (add-one, sub-one) (turn-name e left ms names ms′ names′ k k′ h s l m t)
+  pub unmarked-on : (e : ℕ) → e < n → (getD ms e 0 ≡ 0 → ⊥) → unmarkedFrom (n - e) ms e ≡ unmarkedFrom (n - (e + 1)) ms (e + 1)
+  unfolding unmarkedFrom
+  unmarked-on e h g =
+      let z : n - e ≡ suc (n - (e + 1)) = omega arith in
+      rw (z, ne-eqb _ _ g, unmarkedFrom, add-one)
 
-  pub sweep-end : (e left : ℕ) (ms names : List ℕ) (k : ℕ) → left ≤ 0 → Sweeps ds ss es n ms₀ names₀ e left ms names k
-      → (k ≡ length (namesIn ds ss es n ms₀)) × (names ≡ sets names₀ 0 (namesIn ds ss es n ms₀))
+unmarked-from : (ms : List ℕ) (k d : ℕ) → d ≤ unmarkedFrom k ms d
+unfolding unmarkedFrom
+unmarked-from ms zero d = omega arith
+unmarked-from ms (suc k) d = go (eqb (getD ms d 0) 0) refl (unmarked-from ms k (suc d))
+  where
+    go : (b : Bool) → eqb (getD ms d 0) 0 ≡ b → suc d ≤ unmarkedFrom k ms (suc d) → d ≤ unmarkedFrom (suc k) ms d
+    go true e ih = rw (e, unmarkedFrom) (omega arith)
+    go false e ih = rw (e, unmarkedFrom) (omega (arith, ih))
+
+-- fewer edges are left with each turn
+pub unmarked-less : (ms : List ℕ) (n e e′ : ℕ) → e < n → e′ ≡ unmarkedFrom (n - (e + 1)) ms (e + 1) → n - e′ < n - e
+unmarked-less ms n e e′ h q = omega (arith, q, unmarked-from ms (n - (e + 1)) (e + 1))
+
+-- ---- a pass over all edges
+
+-- The edges with a mark from d on are passed over: u is the next without one.
+pub record Skips (ds ss es : List ℕ) (n : ℕ) (ms : List ℕ) (k d u : ℕ) : Type 0 where
+  pub within : u ≤ n
+  pub unmarked : u < n → getD ms u 0 ≡ 0
+  pub same : sweepIn ds ss es n k ms d ≡ sweepIn ds ss es n (n - u) ms u
+
+module _ (ds ss es : List ℕ) (n : ℕ) where
+  skips : (ms : List ℕ) (k d : ℕ) → d + k ≡ n → Skips ds ss es n ms k d (unmarkedFrom k ms d)
+  unfolding unmarkedFrom sweepIn
+  skips ms zero d h =
+      let z : n - d ≡ 0 = omega arith in
+      record { within = omega arith; unmarked = λ l. absurd (omega arith); same = rw z }
+  skips ms (suc k) d h = go (eqb (getD ms d 0) 0) refl (skips ms k (suc d) (omega arith))
+    where
+      go : (b : Bool) → eqb (getD ms d 0) 0 ≡ b → Skips ds ss es n ms k (suc d) (unmarkedFrom k ms (suc d))
+          → Skips ds ss es n ms (suc k) d (unmarkedFrom (suc k) ms d)
+      go true e ih =
+          let z : n - d ≡ suc k = omega arith in
+          rw (e, unmarkedFrom) (record { within = omega arith; unmarked = λ l. eqb-true _ _ e; same = rw z })
+      go false e ih =
+          rw (e, unmarkedFrom)
+          (record { within = ih .within; unmarked = ih .unmarked; same = rw (e, sweepIn) (ih .same) })
+
+-- At edge e, which has no mark: the names before it, and all names are those and what is still to be found.
+pub record Sweeps (ds ss es : List ℕ) (n : ℕ) (ms₀ : List ℕ) (e : ℕ) (ms found : List ℕ) : Type 0 where
+  pub few : length found ≤ e
+  pub within : e ≤ n
+  pub unmarked : e < n → getD ms e 0 ≡ 0
+  pub as-long : length ms ≡ length ms₀
+  pub whole : found ++ sweepIn ds ss es n (n - e) ms e ≡ namesIn ds ss es n ms₀
+
+module _ (ds ss es : List ℕ) (n : ℕ) (ms₀ : List ℕ) where
+  pub sweep-start : (e : ℕ) → e ≡ unmarkedFrom (n - 0) ms₀ 0 → Sweeps ds ss es n ms₀ e ms₀ []
+  unfolding namesIn
+  sweep-start e q =
+      let z : n - 0 ≡ n = omega arith in
+      let u : e ≡ unmarkedFrom n ms₀ 0 = rw (← z) q in
+      let s : Skips ds ss es n ms₀ n 0 e = rw u (skips ds ss es n ms₀ n 0 (omega arith)) in
+      record { few = omega arith; within = s .within; unmarked = s .unmarked; as-long = refl; whole = sym (s .same) }
+
+  pub sweep-on : (e e′ : ℕ) (ms ms′ found : List ℕ) → e < n → Sweeps ds ss es n ms₀ e ms found → ms′ ≡ markChainIn ds ss es n ms e
+      → length ms′ ≡ length ms → e′ ≡ unmarkedFrom (n - (e + 1)) ms′ (e + 1) → Sweeps ds ss es n ms₀ e′ ms′ (found ++ (e ∷ []))
   unfolding sweepIn
-  sweep-end e zero ms names k z s = (omega (arith, s .total), s .ends)
-  sweep-end e (suc left) ms names k z s = absurd (not-suc-le-zero z)
+  sweep-on e e′ ms ms′ found h s m l q =
+      let k : ℕ = n - (e + 1) in
+      let z : n - e ≡ suc k = omega arith in
+      let one : e + 1 ≡ suc e = omega arith in
+      let u : e′ ≡ unmarkedFrom k ms′ (suc e) = q ∙ ap (unmarkedFrom k ms′) one in
+      let t : Skips ds ss es n ms′ k (suc e) e′ = rw u (skips ds ss es n ms′ k (suc e) (omega arith)) in
+      let w : found ++ (e ∷ sweepIn ds ss es n k (markChainIn ds ss es n ms e) (suc e)) ≡ namesIn ds ss es n ms₀ = rw (z, eq-eqb _ _ (s .unmarked h), sweepIn) at (s .whole) in
+      record {
+        few = omega (arith, length-append found (e ∷ []), s .few, u, unmarked-from ms′ k (suc e));
+        within = t .within;
+        unmarked = t .unmarked;
+        as-long = l ∙ s .as-long;
+        whole = append-snoc found e _ ∙ ap (λ (xs : List ℕ). found ++ (e ∷ xs)) (sym (t .same) ∙ ap (λ (xs : List ℕ). sweepIn ds ss es n k xs (suc e)) m) ∙ w;
+      }
+
+  pub sweep-end : (e : ℕ) (ms found : List ℕ) → n ≤ e → Sweeps ds ss es n ms₀ e ms found → found ≡ namesIn ds ss es n ms₀
+  unfolding sweepIn
+  sweep-end e ms found h s =
+      let z : n - e ≡ 0 = omega arith in
+      sym (append-nil found) ∙ rw z at (s .whole)
 
 -- at most one name an edge
 pub sweep-few : (ds ss es : List ℕ) (n k : ℕ) (ms : List ℕ) (d : ℕ) → length (sweepIn ds ss es n k ms d) ≤ k
@@ -130,10 +162,6 @@ pub names-few : (ds ss es : List ℕ) (n : ℕ) (ms : List ℕ) → length (name
 unfolding namesIn
 names-few ds ss es n ms = sweep-few ds ss es n n ms 0
 
--- names that fit are kept
-pub kept-whole : (table xs : List ℕ) → length xs ≤ length table → keptIn table xs ≡ xs
-kept-whole table xs h = rw (sets-eq xs table 0 (omega arith)) (take-append-le (length xs) xs _ (omega arith) ∙ take-length xs)
-
-pub kept-names : (ds ss es : List ℕ) (n : ℕ) (ms table : List ℕ) → n ≤ length table
-    → keptIn table (namesIn ds ss es n ms) ≡ namesIn ds ss es n ms
-kept-names ds ss es n ms table h = kept-whole table (namesIn ds ss es n ms) (omega (arith, names-few ds ss es n ms))
+-- so there is room for all where there is room for so many
+pub names-fit : (ds ss es : List ℕ) (n : ℕ) (ms : List ℕ) (rows : ℕ) → n ≤ rows → true ≡ leb (length (namesIn ds ss es n ms)) rows
+names-fit ds ss es n ms rows h = sym (le-leb (length (namesIn ds ss es n ms)) rows (omega (arith, names-few ds ss es n ms)))

@@ -1,18 +1,17 @@
 -- One row; and rows written one behind the other, in any encoding that does so.
-use mathlib.Core.Path.{_≡_, refl}
+use mathlib.Core.Path.{_≡_, refl, sym}
 use mathlib.Core.Bool.{Bool, true, false}
-use mathlib.Core.List.{List, [], _∷_, _++_, map, append-nil}
-use Prim.Native.Nat.{ℕ, _+_, _*_, _≤_, _<_, min, max}
+use mathlib.Core.List.{List, [], _∷_, _++_, map, append-assoc, append-nil}
+use Prim.Native.Nat.{ℕ, _+_, _*_, min, max}
 use native.Mathlib.Omega.{arith}
 use borrow.Author.Tests.{eq-eqb, ne-eqb}
-use lib.ListN.{length, getD, take, drop, length-map, length-take, length-append}
+use lib.ListN.{length, getD, length-map, length-append}
 use lib.Dec.{eqb}
-use lib.Seq.{getD-take}
 use Rattle.model.specs.Queries.{concat}
 use Rattle.tables.specs.Steps.{sum32}
 use Rattle.text.specs.Pages.{Page, write}
-use Rattle.text.proofs.Pieces.{Pieces, elements-on, elements-end}
-use Rattle.queries.specs.Chains.{WalkEnd, walkEnd, walkIn, rowIn, rowsIn}
+use Rattle.text.proofs.PageLaws.{write-two}
+use Rattle.queries.specs.Chains.{WalkEnd, namesIn, walkEnd, walkIn, rowIn, rowsIn, sheetIn}
 
 module _ (ds ss es ls : List ℕ) (n e a b v k l x own : ℕ) (f : a ≡ getD es (2 * e) 0) (s : b ≡ getD es (2 * e + 1) 0)
     (h : walkEnd v k l x ≡ walkIn ds ss es ls a n e b) (o : own ≡ getD ls e 0) where
@@ -37,32 +36,30 @@ numbers = record { none = refl; first = λ row rows. refl }
 
 module _ (ds ss es ls : List ℕ) (n : ℕ) where
   module _ (one : List ℕ → List ℕ) (all : List (List ℕ) → List ℕ) (by-row : RowByRow one all) where
-    pub rows-pieces : Pieces (λ cs. all (rowsIn ds ss es ls n cs))
+    rows-snoc : (cs : List ℕ) (c : ℕ) → all (rowsIn ds ss es ls n (cs ++ (c ∷ []))) ≡ all (rowsIn ds ss es ls n cs) ++ one (rowIn ds ss es ls n c)
     unfolding rowsIn
-    rows-pieces = record {
-      none = by-row .none;
-      first = λ c cs. rw (by-row .first (rowIn ds ss es ls n c) (map (rowIn ds ss es ls n) cs), by-row .first (rowIn ds ss es ls n c) [], by-row .none, append-nil);
-    }
+    rows-snoc [] c = rw (by-row .first (rowIn ds ss es ls n c) [], by-row .none, append-nil)
+    rows-snoc (x ∷ cs) c =
+        let f : ℕ → List ℕ = rowIn ds ss es ls n in
+        rw (by-row .first (f x) (map f (cs ++ (c ∷ []))), by-row .first (f x) (map f cs), rows-snoc cs c) (sym (append-assoc (one (f x)) (all (map f cs)) (one (f c))))
 
-    pub piece-row : (c : ℕ) (row : List ℕ) (p q : Page) → row ≡ rowIn ds ss es ls n c → q ≡ write (one row) p
-        → q ≡ write (all (rowsIn ds ss es ls n (c ∷ []))) p
-    unfolding rowsIn
-    piece-row c row p q r w = rw (← r, by-row .first row [], by-row .none, append-nil) w
+    -- no row, and one row more
+    pub put-none : (p : Page) → p ≡ write (all (rowsIn ds ss es ls n [])) p
+    unfolding rowsIn write
+    put-none p = rw (by-row .none)
 
-    -- the first of a table of names: a turn, and the two ends
-    pub table-on : (names : List ℕ) (count i c : ℕ) (p q : Page) → i < count → i < length names → c ≡ getD names i 0
-        → q ≡ write (all (rowsIn ds ss es ls n (c ∷ []))) p
-        → write (all (rowsIn ds ss es ls n (drop i (take count names)))) p ≡ write (all (rowsIn ds ss es ls n (drop (i + 1) (take count names)))) q
-    table-on names count i c p q h g e w =
-        let m : i < length (take count names) = rw length-take (omega arith) in
-        elements-on _ rows-pieces (take count names) i c p q m (rw (getD-take count names i 0 h) e) w
+    pub put-on : (cs row : List ℕ) (c : ℕ) (p₀ p q : Page) → p ≡ write (all (rowsIn ds ss es ls n cs)) p₀ → row ≡ rowIn ds ss es ls n c
+        → q ≡ write (one row) p → q ≡ write (all (rowsIn ds ss es ls n (cs ++ (c ∷ [])))) p₀
+    put-on cs row c p₀ p q a r w = rw (rows-snoc cs c) (write-two _ _ p₀ p q a (rw (← r) w))
 
-    pub table-end : (names : List ℕ) (count i : ℕ) (p : Page) → min count (length names) ≤ i
-        → p ≡ write (all (rowsIn ds ss es ls n (drop i (take count names)))) p
-    table-end names count i p h = elements-end _ rows-pieces (take count names) i p (rw length-take h)
+    -- all rows
+    pub put-all : (cs ms : List ℕ) (p₀ p : Page) → cs ≡ namesIn ds ss es n ms → p ≡ write (all (rowsIn ds ss es ls n cs)) p₀
+        → p ≡ write (all (sheetIn ds ss es ls n ms)) p₀
+    unfolding sheetIn
+    put-all cs ms p₀ p e a = rw (← e) a
 
   -- a row a name, of five numbers
-  pub rows-count : (cs : List ℕ) → length (rowsIn ds ss es ls n cs) ≡ length cs
+  rows-count : (cs : List ℕ) → length (rowsIn ds ss es ls n cs) ≡ length cs
   unfolding rowsIn
   rows-count cs = length-map cs (rowIn ds ss es ls n)
 
@@ -77,7 +74,15 @@ module _ (ds ss es ls : List ℕ) (n : ℕ) where
           by true q = rw (e, q)
           by false q = rw (e, q)
 
-  pub rows-fives : (cs : List ℕ) → length (concat (rowsIn ds ss es ls n cs)) ≡ 5 * length cs
+  rows-fives : (cs : List ℕ) → length (concat (rowsIn ds ss es ls n cs)) ≡ 5 * length cs
   unfolding rowsIn concat
   rows-fives [] = refl
   rows-fives (x ∷ xs) = omega (arith, row-five x, length-append (rowIn ds ss es ls n x) (concat (map (rowIn ds ss es ls n) xs)), rows-fives xs)
+
+  pub sheet-count : (ms : List ℕ) → length (sheetIn ds ss es ls n ms) ≡ length (namesIn ds ss es n ms)
+  unfolding sheetIn
+  sheet-count ms = rows-count (namesIn ds ss es n ms)
+
+  pub sheet-fives : (ms : List ℕ) → length (concat (sheetIn ds ss es ls n ms)) ≡ 5 * length (namesIn ds ss es n ms)
+  unfolding sheetIn
+  sheet-fives ms = rows-fives (namesIn ds ss es n ms)

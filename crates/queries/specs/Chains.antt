@@ -4,12 +4,10 @@ use Prim.Native.Nat.{ℕ, zero, suc, _+_, _*_, min, max}
 use mathlib.Core.Bool.{Bool, true, false, not, _&&_}
 use mathlib.Core.List.{List, [], _∷_, map}
 use mathlib.Core.Option.{Option, none, some}
-use lib.ListN.{length, getD, set, take}
-use lib.Seq.{sets}
+use lib.ListN.{getD, set}
 use lib.Dec.{eqb}
 use Rattle.model.specs.Basics.{if_then_else_}
-use Rattle.model.specs.Tables.{Tables, Counts}
-use Rattle.tables.specs.Steps.{farIn, turnIn, more16, sum32}
+use Rattle.tables.specs.Steps.{farIn, turnIn, sum32}
 
 -- Whether a walker goes on at vertex v: it is regular, and not the walker's home, where a walk round a ring ends.
 unfoldable pub goesOnIn : List ℕ → ℕ → ℕ → Bool
@@ -74,19 +72,10 @@ sweepIn degrees sides ends n (suc k) marks d =
       | false ↦ sweepIn degrees sides ends n k marks (suc d)
     ]
 
--- marks, a table of names, and how many stand there
-pub record Took : Type 0 where
-  pub marks : List ℕ
-  pub names : List ℕ
-  pub count : ℕ
-
-abbrev pub took : List ℕ → List ℕ → ℕ → Took
-took marks names k = record { marks = marks; names = names; count = k }
-
--- one turn of it: edge e, if it has no mark, is put behind k names
-unfoldable pub takeIn : List ℕ → List ℕ → List ℕ → ℕ → List ℕ → List ℕ → ℕ → ℕ → Took
-takeIn degrees sides ends n marks names e k =
-    if eqb (getD marks e 0) 0 then took (markChainIn degrees sides ends n marks e) (set names k e) (more16 k) else took marks names k
+-- the first of k edges from d on that has no mark, or the one behind them
+unfoldable pub unmarkedFrom : ℕ → List ℕ → ℕ → ℕ
+unmarkedFrom zero marks d = d
+unmarkedFrom (suc k) marks d = elim (eqb (getD marks d 0) 0) [ true ↦ d | false ↦ unmarkedFrom k marks (suc d) ]
 
 -- the names among the first n edges, over marks that are lent
 unfoldable pub namesIn : List ℕ → List ℕ → List ℕ → ℕ → List ℕ → List ℕ
@@ -107,15 +96,9 @@ rowIn degrees sides ends lengths n e =
 unfoldable pub rowsIn : List ℕ → List ℕ → List ℕ → List ℕ → ℕ → List ℕ → List (List ℕ)
 rowsIn degrees sides ends lengths n names = map (rowIn degrees sides ends lengths n) names
 
--- the first numbers of a table, where some names were put in front
-abbrev pub keptIn : List ℕ → List ℕ → List ℕ
-keptIn table names = take (length names) (sets table 0 names)
-
--- over marks and a table for the names, both lent
-unfoldable pub sheetIn : Tables → Counts → List ℕ → List ℕ → List (List ℕ)
-sheetIn t c marks table =
-    rowsIn (t .degrees) (t .sides) (t .ends) (t .lengths) (c .edges)
-    (keptIn table (namesIn (t .degrees) (t .sides) (t .ends) (c .edges) marks))
+-- the rows of all chains among the first n edges, over marks that are lent
+unfoldable pub sheetIn : List ℕ → List ℕ → List ℕ → List ℕ → ℕ → List ℕ → List (List ℕ)
+sheetIn degrees sides ends lengths n marks = rowsIn degrees sides ends lengths n (namesIn degrees sides ends n marks)
 
 -- ---- one label, one name
 

@@ -1,5 +1,6 @@
 // Chains found by walking over the lent tables: names, rows of the sheet, and the vertex that has a label.
 pub mod lookup;
+pub mod marks;
 pub mod names;
 pub mod numbers;
 pub mod rows;

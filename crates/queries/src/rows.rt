@@ -1,9 +1,10 @@
-// Rows of the sheet: of one chain, and of all.
+// Rows of the sheet: of one chain, and of all. A chain is walked once, for its row and its marks.
+use crate::marks::WalkEnd;
+use crate::marks::next_unmarked;
+use crate::marks::walk_marking;
 use crate::numbers::greater;
 use crate::numbers::lesser;
 use crate::numbers::wide;
-use crate::walks::WalkEnd;
-use crate::walks::walk_chain;
 use tables::access::add32;
 use tables::access::at16;
 use tables::access::of16;
@@ -12,11 +13,11 @@ use text::writing::put_u32;
 ghost use mathlib.Core.Path.{_≡_};
 ghost use mathlib.Core.List.{[], _∷_};
 ghost use Prim.Native.Nat.{_+_, min, max};
-ghost use lib.ListN.{take};
+ghost use lib.ListN.{length};
 ghost use Rattle.tables.specs.Steps.{sum32};
 ghost use Rattle.model.specs.Queries.{concat};
 ghost use Rattle.text.specs.Pages.{page, write};
-ghost use Rattle.queries.specs.Chains.{rowIn, rowsIn};
+ghost use Rattle.queries.specs.Chains.{markChainIn, namesIn, rowIn, sheetIn};
 ghost use Rattle.queries.specs.Answers.{rowOf};
 
 // A chain's name, its end with the lower number, its other end, its regular vertices, its length.
@@ -55,26 +56,31 @@ fn open_row(edge: u16, own: u32, back: WalkEnd, on: WalkEnd) -> Row
     }
 }
 
-// The row of the chain that has this name.
-pub fn row_at(
+// The row of the chain that has this name; all its other edges get marks.
+pub fn take_row(
     degrees: &[u16],
     sides: &[u16],
     ends: &[u16],
     lengths: &[u32],
+    marks: &mut [u16],
     edge: u16,
     fuel: u16,
 ) -> Row
-    ensures { λ r. ⌜ rowOf r ≡ rowIn (now (degrees .entry)) (now (sides .entry)) (now (ends .entry)) (now (lengths .entry)) fuel edge ⌝ }
+    ensures { λ r. ⌜ (rowOf r ≡ rowIn (now (degrees .entry)) (now (sides .entry)) (now (ends .entry)) (now (lengths .entry)) fuel edge)
+        × (now (marks .exit)
+        ≡ markChainIn (now (degrees .entry)) (now (sides .entry)) (now (ends .entry)) fuel (now (marks .entry)) edge) ⌝ }
 {
     let i = 2 * (edge as usize);
     let first = at16(ends, i);
-    let on = walk_chain(
+    let second = at16(ends, i + 1);
+    let on = walk_marking(
         degrees,
         sides,
         ends,
         lengths,
+        marks,
         edge,
-        at16(ends, i + 1),
+        second,
         first,
         fuel,
     );
@@ -82,7 +88,17 @@ pub fn row_at(
     if of16(degrees, on.at) == 2 {
         return ring_row(edge, own, on);
     }
-    let back = walk_chain(degrees, sides, ends, lengths, edge, first, on.at, fuel);
+    let back = walk_marking(
+        degrees,
+        sides,
+        ends,
+        lengths,
+        marks,
+        edge,
+        first,
+        on.at,
+        fuel,
+    );
     open_row(edge, own, back, on)
 }
 
@@ -97,58 +113,29 @@ fn put_row(out: &mut [u32], at: usize, row: Row) -> usize
     put_u32(out, fifth, row.length)
 }
 
-// The row of the chain named edge.
-fn put_chain(
-    out: &mut [u32],
-    at: usize,
-    degrees: &[u16],
-    sides: &[u16],
-    ends: &[u16],
-    lengths: &[u32],
-    edge: u16,
-    edges: u16,
-) -> usize
-    ensures { λ r. ⌜ page (now (out .exit)) r
-        ≡ write (concat (rowsIn (now (degrees .entry)) (now (sides .entry)) (now (ends .entry)) (now (lengths .entry)) edges (edge ∷ [])))
-        (page (now (out .entry)) at) ⌝ }
-{
-    let row = row_at(degrees, sides, ends, lengths, edge, edges);
-    put_row(out, at, row)
-}
-
-// The rows of the first chains of a table of names, five numbers each, from the front of the slice on.
+// The rows of all chains by rising name, five numbers each, from the front of the slice on; the answer is how many there are.
 pub fn put_rows(
     out: &mut [u32],
     degrees: &[u16],
     sides: &[u16],
     ends: &[u16],
     lengths: &[u32],
+    marks: &mut [u16],
     edges: u16,
-    names: &[u16],
-    count: u16,
-) -> usize
-    ensures { λ r. ⌜ page (now (out .exit)) r
-        ≡ write (concat (rowsIn (now (degrees .entry)) (now (sides .entry)) (now (ends .entry)) (now (lengths .entry)) edges
-        (take count (now (names .entry)))))
-        (page (now (out .entry)) 0) ⌝ }
+) -> u16
+    ensures { λ r. ⌜ (r ≡ length (namesIn (now (degrees .entry)) (now (sides .entry)) (now (ends .entry)) edges (now (marks .entry))))
+        × (now (out .exit)
+        ≡ (write (concat (sheetIn (now (degrees .entry)) (now (sides .entry)) (now (ends .entry)) (now (lengths .entry)) edges (now (marks .entry))))
+        (page (now (out .entry)) 0)) .slice) ⌝ }
 {
     let mut next: usize = 0;
-    let mut i: u16 = 0;
-    while i < count {
-        if names.len() <= (i as usize) {
-            break;
-        }
-        next = put_chain(
-            out,
-            next,
-            degrees,
-            sides,
-            ends,
-            lengths,
-            of16(names, i),
-            edges,
-        );
-        i += 1;
+    let mut count: u16 = 0;
+    let mut edge = next_unmarked(marks, 0, edges);
+    while edge < edges {
+        let row = take_row(degrees, sides, ends, lengths, marks, edge, edges);
+        next = put_row(out, next, row);
+        count += 1;
+        edge = next_unmarked(marks, edge + 1, edges);
     }
-    next
+    count
 }

@@ -1,14 +1,14 @@
 -- Numbers byte by byte, and the parts of a list.
 use mathlib.Core.Path.{_≡_, refl, sym}
-use Prim.Native.Nat.{ℕ, zero, suc, _-_, _/_, _%_, _≤_, _<_}
+use Prim.Native.Nat.{ℕ, zero, suc, _+_, _-_, _/_, _%_, _≤_, _<_}
 use native.Mathlib.Nat.{not-suc-le-zero}
 use native.Mathlib.Numerals.{sub-one}
 use mathlib.Core.List.{List, [], _∷_, _++_}
-use lib.ListN.{replicate}
+use lib.ListN.{length, set, replicate}
 use Rattle.model.specs.Basics.{bytes2, bytes4}
 use Rattle.model.specs.Format.{edgeBytes, header}
-use Rattle.text.specs.Pages.{Page, write}
-use Rattle.text.proofs.PageLaws.{write-append, write-two}
+use Rattle.text.specs.Pages.{Page, page, write}
+use Rattle.text.proofs.PageLaws.{write-append, write-in, write-two}
 
 pub two-law : (n a b : ℕ) (p q r : Page) → a ≡ n % 256 → q ≡ write (a ∷ []) p → b ≡ n / 256 % 256 → r ≡ write (b ∷ []) q
     → r ≡ write (bytes2 n) p
@@ -19,6 +19,11 @@ pub word-law : (n a b c d : ℕ) (p q r s t : Page) → a ≡ n % 256 → q ≡ 
     → c ≡ n / 65536 % 256 → s ≡ write (c ∷ []) r → d ≡ n / 16777216 % 256 → t ≡ write (d ∷ []) s → t ≡ write (bytes4 n) p
 unfolding bytes4 write
 word-law n a b c d p q r s t e₁ f₁ e₂ f₂ e₃ f₃ e₄ f₄ = rw (← e₁, ← e₂, ← e₃, ← e₄, ← f₁, ← f₂, ← f₃) f₄
+
+-- a byte within the page
+pub byte-in : (b at : ℕ) (bs : List ℕ) → at < length bs → page (set bs at b) (at + 1) ≡ write (b ∷ []) (page bs at)
+unfolding write
+byte-in b at bs h = sym (write-in b [] bs at h)
 
 -- ---- a list
 

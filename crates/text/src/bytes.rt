@@ -19,11 +19,33 @@ pub fn put_u16(out: &mut [u8], at: usize, n: u16) -> usize
     put_byte(out, second, byte_of(wide / 256))
 }
 
-pub fn put_word(out: &mut [u8], at: usize, n: u32) -> usize
+// As far as there is room.
+fn put_bytes(out: &mut [u8], at: usize, n: u32) -> usize
     ensures { λ r. ⌜ page (now (out .exit)) r ≡ write (bytes4 n) (page (now (out .entry)) at) ⌝ }
 {
     let second = put_byte(out, at, byte_of(n));
     let third = put_byte(out, second, byte_of(n / 256));
     let fourth = put_byte(out, third, byte_of(n / 65536));
     put_byte(out, fourth, byte_of(n / 16777216))
+}
+
+// The same. Where all four bytes have room no byte is tested by itself, and the compiler makes one store of them.
+pub fn put_word(out: &mut [u8], at: usize, n: u32) -> usize
+    ensures { λ r. ⌜ page (now (out .exit)) r ≡ write (bytes4 n) (page (now (out .entry)) at) ⌝ }
+{
+    let size = out.len();
+    if size < 4 {
+        return put_bytes(out, at, n);
+    }
+    if size - 4 < at {
+        return put_bytes(out, at, n);
+    }
+    out[at] = byte_of(n);
+    let second = at + 1;
+    out[second] = byte_of(n / 256);
+    let third = second + 1;
+    out[third] = byte_of(n / 65536);
+    let fourth = third + 1;
+    out[fourth] = byte_of(n / 16777216);
+    fourth + 1
 }

@@ -27,7 +27,7 @@ add32-requires c κs = search needs
 
 -- src/reach.rt:37:1
 returns : tie.Need-returns
-returns c = way-law _ _ _ _ _ _ _ _ _ _ _ _ _ _ (c .before .before .before .far-end .ensures) (c .before .before .walk-chain .ensures) (c .before .of32 .ensures) (c .add32 .ensures)
+returns c = way-law _ _ _ _ _ _ _ _ _ _ _ _ (c .before .before .before .far-end .ensures) (c .before .before .walk-chain .ensures) (c .before .of32 .ensures) (c .add32 .ensures)
 
 pub go-along-spec : {M : Type 1} → statement M
 go-along-spec =

@@ -7,7 +7,7 @@ use Rattle.pnl.proofs.query.answer_query.Tie as tie
 returns : tie.Need-returns
 returns c =
     let at-enum-told = c .before .before .before .before in
-    λ register h. rw (at-enum-told .enum-told .given .1) (sheet-query _ _ _ _ _ _ register h _ _ (λ few. handed (c .before .before .answer-sheet .ok) (c .before .before .answer-sheet .ensures few)))
+    λ register h. rw (at-enum-told .enum-told .given .1) (sheet-query _ _ _ _ _ _ register h _ _ (handed (c .before .before .answer-sheet .ok) (c .before .before .answer-sheet .ensures)))
 
 returns-2 : tie.Need-returns-2
 returns-2 c =

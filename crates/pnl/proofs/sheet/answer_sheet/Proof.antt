@@ -1,38 +1,78 @@
-use Rattle.pnl.proofs.Rows.{rows-size, rows-put}
-use mathlib.Core.Path.{_∙_}
-use native.Mathlib.Omega.{arith}
+use Rattle.pnl.proofs.Rows.{sheet-short, sheet-whole}
 use Rattle.pnl.proofs.Returns.{value-kept}
-use Rattle.pnl.proofs.Bytes.{numbers-short, numbers-fit}
+use borrow.Author.Tests.{not-true, not-false}
+use native.Mathlib.Omega.{arith}
+use mathlib.Core.Path.{_∙_}
 use borrow.Author.Needs.{needs}
 use Rattle.pnl.proofs.sheet.answer_sheet.Statement.{statement}
 use Rattle.pnl.proofs.sheet.answer_sheet.Tie as tie
+use Rattle.pnl.proofs.sheet.answer_sheet.Reads as reads
+use Rattle.pnl.proofs.sheet.answer_sheet.Lts as lts
+use Rattle.pnl.proofs.answers.counted.Reads as counted-reads
+use Rattle.pnl.proofs.answers.refused.Reads as refused-reads
+use Rattle.pnl.proofs.sheet.put_sheet.Reads as put-sheet-reads
+use Rattle.queries.proofs.names.has_room.Reads as has-room-reads
 
+-- src/sheet.rt:74:40
+slice-aggregate-has-room : tie.Need-slice-aggregate-has-room
+slice-aggregate-has-room c = search needs
+
+-- src/sheet.rt:74:9
+has-room-requires : tie.Need-has-room-requires
+has-room-requires c κs = search needs
+
+-- src/sheet.rt:75:9
+refused-requires : tie.Need-refused-requires
+refused-requires c κs = search needs
+
+-- src/sheet.rt:75:9
 returns : tie.Need-returns
-returns c few =
-    let at-names = c .before .before .before .before in
-    numbers-short _ _ _ (rows-size _ _ _ _ _ _ _ (at-names .collect-names .ensures .0)) _ (c .before .if1 .taken) (value-kept (c .refused .ok) ∙ c .refused .ensures)
+returns c = sheet-short _ _ _ _ _ _ _ _ (c .before .before .before .has-room .ensures) _ (not-true _ (c .before .if1 .taken)) (value-kept (c .refused .ok) ∙ c .refused .ensures)
 
+-- src/sheet.rt:77:66
+slice-aggregate-put-sheet : tie.Need-slice-aggregate-put-sheet
+slice-aggregate-put-sheet c = search needs
+
+-- src/sheet.rt:77:9
+put-sheet-requires : tie.Need-put-sheet-requires
+put-sheet-requires c κs = search needs
+
+-- src/sheet.rt:78:26
+cast-counted : tie.Need-cast-counted
+cast-counted c = search needs
+
+-- src/sheet.rt:78:13
+mul-counted : tie.Need-mul-counted
+mul-counted c = search needs
+
+-- src/sheet.rt:78:5
+counted-requires : tie.Need-counted-requires
+counted-requires c κs = search needs
+
+-- src/sheet.rt:59:1
+same-length : tie.Need-same-length
+same-length c = search needs
+
+-- src/sheet.rt:59:1
 returns-2 : tie.Need-returns-2
-returns-2 c few =
-    let at-put-sheet = c .before .before .before in
+returns-2 c =
+    let at-put-sheet = c .before .before .before .before in
     let at-if1 = at-put-sheet .before .before .before in
-    let names = at-if1 .before .before .before .collect-names .ensures in
-    numbers-fit _ _ _ (rows-size _ _ _ _ _ _ _ (names .0)) _ _ _ (omega (arith, at-if1 .if1 .left)) (rows-put _ _ _ _ _ _ _ _ _ _ few (names .0) (names .1) (at-put-sheet .put-sheet .ensures)) (value-kept (c .counted .ok) ∙ c .counted .ensures)
+    let at-has-room = at-if1 .before .before in
+    sheet-whole _ _ _ _ _ _ _ _ (at-has-room .has-room .ensures) _ _ _ (not-false _ (at-if1 .if1 .left)) (at-put-sheet .put-sheet .ensures .0) (at-put-sheet .put-sheet .ensures .1) (value-kept (c .counted .ok) ∙ c .counted .ensures)
 
--- the needs in the order of the code
 pub answer-sheet-spec : {M : Type 1} → statement M
 answer-sheet-spec =
     tie.close
     (tie.spec
-    (λ c. search needs)
-    (λ c. search needs)
-    (λ c κs. search needs)
-    (λ c. search needs)
-    (λ c. search needs)
-    (λ c κs. search needs)
+    slice-aggregate-has-room
+    has-room-requires
+    refused-requires
     returns
-    (λ c. search needs)
-    (λ c κs. search needs)
-    (λ c κs. search needs)
-    (λ c. search needs)
+    slice-aggregate-put-sheet
+    put-sheet-requires
+    cast-counted
+    mul-counted
+    counted-requires
+    same-length
     returns-2)

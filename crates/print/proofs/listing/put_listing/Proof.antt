@@ -1,38 +1,84 @@
-use Rattle.print.proofs.Whole.{count-few, lines-put, listing-parts}
-use Rattle.print.proofs.Lines.{line-at}
-use native.Mathlib.Omega.{arith}
 use mathlib.Core.Path.{sym, _∙_}
-use Rattle.queries.proofs.SheetLaws.{rows-count}
+use native.Mathlib.Omega.{arith}
+use Rattle.queries.proofs.SheetLaws.{sheet-count}
+use Rattle.print.proofs.Lines.{line-at}
+use Rattle.print.proofs.Whole.{listing-parts}
 use borrow.Author.Needs.{needs}
 use Rattle.print.proofs.listing.put_listing.Statement.{statement}
 use Rattle.print.proofs.listing.put_listing.Tie as tie
+use Rattle.print.proofs.listing.put_listing.Reads as reads
+use Rattle.print.proofs.listing.put_listing.Lts as lts
+use Rattle.print.proofs.listing.put_sheet.Reads as put-sheet-reads
+use Rattle.print.proofs.listing.put_stop.Reads as put-stop-reads
+use Rattle.queries.proofs.names.count_chains.Reads as count-chains-reads
+use Rattle.text.proofs.lines.put_line4.Reads as put-line4-reads
 
+-- src/listing.rt:114:53
+slice-aggregate-count-chains : tie.Need-slice-aggregate-count-chains
+slice-aggregate-count-chains c = search needs
+
+-- src/listing.rt:114:9
+count-chains-requires : tie.Need-count-chains-requires
+count-chains-requires c κs = search needs
+
+-- src/listing.rt:118:9
+cast-put-line4 : tie.Need-cast-put-line4
+cast-put-line4 c = search needs
+
+-- src/listing.rt:119:9
+cast-put-line4-2 : tie.Need-cast-put-line4-2
+cast-put-line4-2 c = search needs
+
+-- src/listing.rt:120:9
+cast-put-line4-3 : tie.Need-cast-put-line4-3
+cast-put-line4-3 c = search needs
+
+-- src/listing.rt:121:9
+cast-put-line4-4 : tie.Need-cast-put-line4-4
+cast-put-line4-4 c = search needs
+
+-- src/listing.rt:115:9
+put-line4-requires : tie.Need-put-line4-requires
+put-line4-requires c κs = search needs
+
+-- src/listing.rt:123:69
+slice-aggregate-put-sheet : tie.Need-slice-aggregate-put-sheet
+slice-aggregate-put-sheet c = search needs
+
+-- src/listing.rt:123:9
+put-sheet-requires : tie.Need-put-sheet-requires
+put-sheet-requires c κs = search needs
+
+-- src/listing.rt:124:5
+put-stop-requires : tie.Need-put-stop-requires
+put-stop-requires c κs = search needs
+
+-- src/listing.rt:95:1
+same-length : tie.Need-same-length
+same-length c = search needs
+
+-- src/listing.rt:95:1
 returns : tie.Need-returns
 returns c =
-    let at-put-sheet = c .before .before .before .before .before .before in
+    let at-put-sheet = c .before .before .before .before .before .before .before in
     let at-put-line4 = at-put-sheet .before .before .before .before .before in
-    let at-names = at-put-line4 .before .before .before .before in
-    let at-good = at-names .before .before .before .before .before .before .before .before in
-    let names = at-names .collect-names .ensures in (
-      λ few. listing-parts _ _ _ _ _ _ _ _ (names .0 ∙ sym (rows-count _ _ _ _ _ _)) (at-put-line4 .put-line4 .ensures) (lines-put _ _ _ _ _ _ _ _ _ _ few (names .0) (names .1) (at-put-sheet .put-sheet .ensures .0)) (c .before .before .put-stop .ensures .0),
-      omega (arith, c .before .before .put-stop .ensures .1, at-put-sheet .put-sheet .ensures .1, count-few _ _ _ _ _ _ (names .0), line-at _ _ _ _ (omega (arith, at-good .good), (omega (arith, at-good .good), (omega (arith, at-names .collect-names .ok), (omega (arith, at-good .good), tt)))) (at-put-line4 .put-line4 .ensures)),
-    )
+    let at-count-chains = at-put-line4 .before .before .before in
+    let at-good = at-count-chains .before .before .before .before .before .before .before in
+    (listing-parts _ _ _ _ _ _ _ _ (at-count-chains .count-chains .ensures ∙ sym (sheet-count _ _ _ _ _ _)) (at-put-line4 .put-line4 .ensures) (at-put-sheet .put-sheet .ensures .0) (c .before .before .put-stop .ensures .0), omega (arith, c .before .before .put-stop .ensures .1, at-put-sheet .put-sheet .ensures .1, line-at _ _ _ _ (omega (arith, at-good .good), (omega (arith, at-good .good), (omega (arith, at-count-chains .count-chains .ok), (omega (arith, at-good .good), tt)))) (at-put-line4 .put-line4 .ensures)))
 
--- the needs in the order of the code
 pub put-listing-spec : {M : Type 1} → statement M
 put-listing-spec =
     tie.close
     (tie.spec
-    (λ c. search needs)
-    (λ c. search needs)
-    (λ c κs. search needs)
-    (λ c. search needs)
-    (λ c. search needs)
-    (λ c. search needs)
-    (λ c. search needs)
-    (λ c κs. search needs)
-    (λ c. search needs)
-    (λ c κs. search needs)
-    (λ c κs. search needs)
-    (λ c. search needs)
+    slice-aggregate-count-chains
+    count-chains-requires
+    cast-put-line4
+    cast-put-line4-2
+    cast-put-line4-3
+    cast-put-line4-4
+    put-line4-requires
+    slice-aggregate-put-sheet
+    put-sheet-requires
+    put-stop-requires
+    same-length
     returns)

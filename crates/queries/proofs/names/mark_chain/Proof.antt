@@ -5,7 +5,7 @@ use Rattle.queries.proofs.names.mark_chain.Statement.{statement}
 use Rattle.queries.proofs.names.mark_chain.Tie as tie
 use Rattle.queries.proofs.names.mark_chain.Reads as reads
 use Rattle.queries.proofs.names.mark_chain.Lts as lts
-use Rattle.queries.proofs.names.mark_onwards.Reads as mark-onwards-reads
+use Rattle.queries.proofs.marks.mark_onwards.Reads as mark-onwards-reads
 use Rattle.tables.proofs.access.at16.Reads as at16-reads
 use Rattle.tables.proofs.access.of16.Reads as of16-reads
 

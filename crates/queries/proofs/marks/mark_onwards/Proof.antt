@@ -5,11 +5,11 @@ use native.Mathlib.Omega.{arith}
 use lib.ListN.{length}
 use Rattle.queries.specs.Chains.{markIn}
 use Rattle.queries.proofs.NameLaws.{mark-none, mark-stop, mark-step}
-use Rattle.queries.proofs.names.mark_onwards.Statement.{statement}
-use Rattle.queries.proofs.names.mark_onwards.Tie as tie
-use Rattle.queries.proofs.names.mark_onwards.Reads as reads
-use Rattle.queries.proofs.names.mark_onwards.Lts as lts
-use Rattle.queries.proofs.names.put_mark.Reads as put-mark-reads
+use Rattle.queries.proofs.marks.mark_onwards.Statement.{statement}
+use Rattle.queries.proofs.marks.mark_onwards.Tie as tie
+use Rattle.queries.proofs.marks.mark_onwards.Reads as reads
+use Rattle.queries.proofs.marks.mark_onwards.Lts as lts
+use Rattle.queries.proofs.marks.put_mark.Reads as put-mark-reads
 use Rattle.queries.proofs.walks.goes_on.Reads as goes-on-reads
 use Rattle.tables.proofs.walks.step_over.Reads as step-over-reads
 
