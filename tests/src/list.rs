@@ -102,7 +102,7 @@ fn pipe_record(body: [u8; PIPE_BODY]) -> Record {
     }
 }
 
-/// Refusal 22 for a fitting, or 5, 6, 7, 23 and 24 for a pipe.
+/// Refusal 22 for a fitting, or 5, 6, 7 and 23 for a pipe.
 pub fn land_record(house: &mut House, record: Record) -> Result<(), Refusal> {
     match record {
         Record::Fitting => house.land_fitting(),

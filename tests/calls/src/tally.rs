@@ -56,7 +56,7 @@ impl Tally {
     /// The refusals that no call returned, and whether no two fittings were found not joined, and no
     /// stack was measured.
     pub fn missing(&self) -> Vec<String> {
-        let refusals = (1..=9).chain(22..=24);
+        let refusals = (1..=9).chain([22, 23]);
         let unseen = refusals.filter(|refusal| !self.returned.contains_key(refusal));
         let mut missing: Vec<String> = unseen.map(|refusal| format!("refusal {refusal}")).collect();
         if self.not_joined == 0 {
