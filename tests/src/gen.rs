@@ -7,6 +7,7 @@ pub mod full;
 pub mod layout;
 pub mod random;
 pub mod records;
+pub mod series;
 pub mod shapes;
 pub mod stops;
 

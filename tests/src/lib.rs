@@ -16,6 +16,7 @@ pub mod cases;
 pub mod child;
 pub mod gen;
 pub mod house;
+pub mod lent;
 pub mod list;
 pub mod print;
 pub mod queries;
