@@ -1,7 +1,7 @@
 //! `lent DIR [COUNT] [SEED]`: writes so many random series of calls over lent tables to DIR/0.stdin and
 //! so on, and what their calls are to answer to DIR/0.stdout and so on (tests/lent).
 
-use std::collections::BTreeMap;
+use std::collections::{BTreeMap, BTreeSet};
 use std::env;
 use std::fs;
 use std::path::Path;
@@ -18,17 +18,19 @@ const DEFAULT_COUNT: usize = 6;
 /// time that a program has for one run.
 const TURNS: usize = 500;
 
-/// Calls by their kind and refusal, and the cases of the pipes landed.
+/// Calls by their kind and refusal, those that leave a ring of two or of more pipes standing, and the
+/// cases of the pipes landed.
 #[derive(Default)]
 struct Tally {
     calls: BTreeMap<(&'static str, u32), usize>,
+    rings: BTreeMap<bool, usize>,
     cases: Cases,
 }
 
 /// The refusals of each call, 0 for an answer.
 const OUTCOMES: [(&str, &[u32]); 6] = [
-    ("grow", &[0, 1, 2, 3, 4, 5, 6, 7, 23, 25]),
-    ("land", &[0, 1, 3, 4, 5, 6, 7, 21, 22, 23, 25]),
+    ("grow", &[0, 3, 4, 5, 7, 23, 25]),
+    ("land", &[0, 1, 2, 3, 4, 5, 6, 7, 21, 22, 23, 25]),
     ("find", &[0, 8, 21, 25]),
     ("reach", &[0, 5, 8, 21, 25]),
     ("distance", &[0, 5, 21, 25]),
@@ -36,8 +38,13 @@ const OUTCOMES: [(&str, &[u32]); 6] = [
 ];
 
 impl Tally {
-    fn count_call(&mut self, call: &Call, refusal: u32) {
+    fn count_call(&mut self, call: &Call, refusal: u32, lent: &mut Lent) {
         *self.calls.entry((name(call), refusal)).or_default() += 1;
+        let house = lent.house().unwrap_or_default();
+        let of_two = house.rings().iter().map(|ring| ring.pipes().len() == 2);
+        for of_two in of_two.collect::<BTreeSet<bool>>() {
+            *self.rings.entry(of_two).or_default() += 1;
+        }
     }
 
     /// Before the register is cleared, the cases of its pipes.
@@ -53,6 +60,9 @@ impl Tally {
         let unseen = all.filter(|outcome| !self.calls.contains_key(outcome));
         let mut missing: Vec<String> = unseen.map(|(name, r)| format!("{name} {r}")).collect();
         missing.extend(self.cases.missing());
+        if self.rings.len() < 2 {
+            missing.push("a standing ring of two, or of more".to_string());
+        }
         missing
     }
 }
@@ -104,7 +114,9 @@ fn main() -> ExitCode {
             _ => print!(", {refusal}: {count}"),
         }
     }
-    println!();
+    let [two, more] =
+        [true, false].map(|of_two| tally.rings.get(&of_two).copied().unwrap_or_default());
+    println!(", with a ring of two standing {two}, of more {more}");
     verdict(count >= DEFAULT_COUNT, &tally.missing())
 }
 
@@ -124,7 +136,7 @@ fn series(mut source: Source, tally: &mut Tally) -> (Vec<u8>, String) {
                     }
                     let answer = lent.call(&call);
                     expected += &format!("{answer}\n");
-                    tally.count_call(&call, answer.refusal);
+                    tally.count_call(&call, answer.refusal, &mut lent);
                 }
             }
         }

@@ -2,7 +2,8 @@
 //! wrong sizes and short slices included.
 
 use super::random::Random;
-use super::{full, list, records};
+use super::shapes::{self, Shape};
+use super::{full, list, records, whole_of};
 use crate::house::{House, Standing};
 use crate::lent::{Call, Command, Lent, SIZES, SLICE};
 use crate::list::{self as lists, Record};
@@ -14,6 +15,15 @@ const LONGEST_LIST: usize = 65_536;
 /// series take full rings and lists that stop by turns.
 const FULL_SIZE_TURN: usize = 20;
 const FIRST_FULL_SIZE: usize = 10;
+
+/// Shapes that leave rings standing.
+const WITH_RINGS: &[Shape] = &[
+    shapes::rings,
+    shapes::rings,
+    shapes::ring_around,
+    shapes::line_grown_and_closed,
+    shapes::tapped_rings,
+];
 
 /// What a series is drawn from.
 pub struct Source {
@@ -33,17 +43,24 @@ pub fn next(source: &mut Source, turn: usize, lent: &mut Lent) -> Vec<Command> {
     }
     let house = lent.house();
     match random.below(40) {
-        0 | 1 => vec![grow(source.lists, turn)],
-        2 | 3 => with_wrong_size(random, house.as_ref()),
+        0..=2 => vec![grow(source, turn)],
+        3 => with_wrong_size(random, house.as_ref()),
         4..=7 => with_damage(random, lent, house.as_ref()),
         8..=21 => vec![Command::Call(land(random, house.as_ref()))],
         _ => vec![Command::Call(question(random, house.as_ref()))],
     }
 }
 
-/// A list of some kind.
-fn grow(seed: u64, turn: usize) -> Command {
-    let mut list = list(seed, turn);
+/// A list of some kind, or of a house with rings.
+fn grow(source: &mut Source, turn: usize) -> Command {
+    let random = &mut source.random;
+    let mut list = if random.one_in(2) {
+        list(source.lists, turn)
+    } else {
+        let shape = random.pick(WITH_RINGS);
+        let size = random.between(2, 24);
+        lists::write(&whole_of(random, shape, size))
+    };
     list.truncate(LONGEST_LIST);
     Command::Call(Call::Grow(list))
 }
@@ -63,6 +80,7 @@ fn land(random: &mut Random, house: Option<&House>) -> Call {
     match random.below(20) {
         0 => list.truncate(random.below(list.len() + 1)),
         1 => list.push(random.byte()),
+        2 if random.one_in(4) => list[3] = 2,
         _ => {}
     }
     Call::Land(list)
@@ -75,7 +93,9 @@ fn record(random: &mut Random, house: &House) -> Record {
     }
     let first = fitting_of_some_place(random, house);
     let mut second = match house.run_from(first) {
-        Some(run) if random.one_in(4) => run.low().max(run.high()),
+        // It closes a ring, if that end is free too.
+        Some(run) if random.one_in(3) && run.low() == first => run.high(),
+        Some(run) if random.one_in(3) => run.low(),
         _ => fitting_of_some_place(random, house),
     };
     if first == second && !random.one_in(30) {
