@@ -93,7 +93,7 @@ pub enum Call {
 pub enum Command {
     Call(Call),
     /// Number `place` of a table of the register, or of the head (5), becomes this.
-    Write(usize, usize, u32),
+    Set(usize, usize, u32),
     /// A table is lent with this size from now on; 5 and up are the scratch.
     Lend(usize, usize),
 }
@@ -102,9 +102,7 @@ impl Command {
     /// As tests/lent/main.rattle reads it.
     pub fn bytes(&self) -> Vec<u8> {
         let (kind, numbers, list) = match self {
-            Command::Write(table, place, number) => {
-                (b'X', [*table, *place, *number as usize], None)
-            }
+            Command::Set(table, place, number) => (b'X', [*table, *place, *number as usize], None),
             Command::Lend(table, size) => (b'Z', [*table, *size, 0], None),
             Command::Call(call) => match call {
                 Call::Grow(list) => (b'G', [list.len(), 0, 0], Some(list)),
@@ -185,7 +183,7 @@ impl Lent {
         }
     }
 
-    pub fn write(&mut self, table: usize, place: usize, number: u32) {
+    pub fn set(&mut self, table: usize, place: usize, number: u32) {
         match self.tables.get_mut(table) {
             Some(table) => table[place] = number,
             None => self.head[place] = number,

@@ -128,7 +128,7 @@ fn series(mut source: Source, tally: &mut Tally) -> (Vec<u8>, String) {
         for command in series::next(&mut source, turn, &mut lent) {
             asked.extend(command.bytes());
             match command {
-                Command::Write(table, place, number) => lent.write(table, place, number),
+                Command::Set(table, place, number) => lent.set(table, place, number),
                 Command::Lend(table, size) => lent.lend(table, size),
                 Command::Call(call) => {
                     if matches!(call, Call::Grow(_)) {

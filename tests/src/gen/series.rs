@@ -219,7 +219,7 @@ fn with_damage(random: &mut Random, lent: &Lent, house: Option<&House>) -> Vec<C
     // The first three tables and the first three counts have 16 bits.
     let wide = [3, 4].contains(&table) || (table == 5 && place == 3);
     let new = if wide { new } else { new & 0xFFFF };
-    let mut commands = vec![Command::Write(table, place, new)];
+    let mut commands = vec![Command::Set(table, place, new)];
     for _ in 0..random.between(1, 2) {
         commands.push(Command::Call(match random.below(3) {
             0 => land(random, house),
@@ -229,7 +229,7 @@ fn with_damage(random: &mut Random, lent: &Lent, house: Option<&House>) -> Vec<C
     commands.push(if random.one_in(10) {
         Command::Call(Call::Grow(lists::write(&[Record::Fitting; 3])))
     } else {
-        Command::Write(table, place, old)
+        Command::Set(table, place, old)
     });
     commands
 }
