@@ -5,6 +5,7 @@
 //! - [`list`]: the list of records, read and written;
 //! - [`queries`]: find, reach, distance and sheet;
 //! - [`calls`]: the same as calls from C answer them;
+//! - [`lent`]: the same over lent tables, and what the tables hold;
 //! - [`print`]: what the printing program prints;
 //! - [`gen`]: lists of every kind, drawn from a seed;
 //! - [`arguments`], [`child`], [`tally`] and [`workers`]: reading a command line, asking a binary,
