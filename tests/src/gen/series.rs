@@ -43,10 +43,14 @@ pub fn next(source: &mut Source, turn: usize, lent: &mut Lent) -> Vec<Command> {
     }
     let house = lent.house();
     match random.below(40) {
-        0..=2 => vec![grow(source, turn)],
+        0..=2 => vec![grow(source, turn), Command::Call(Call::Sheet(SLICE))],
         3 => with_wrong_size(random, house.as_ref()),
         4..=7 => with_damage(random, lent, house.as_ref()),
-        8..=21 => vec![Command::Call(land(random, house.as_ref()))],
+        8..=12 => {
+            let landed = Command::Call(land(random, house.as_ref()));
+            vec![landed, Command::Call(Call::Sheet(SLICE))]
+        }
+        13..=21 => vec![Command::Call(land(random, house.as_ref()))],
         _ => vec![Command::Call(question(random, house.as_ref()))],
     }
 }
