@@ -14,10 +14,10 @@ const WHOLE: &[Shape] = &[
     shapes::line_grown_downwards,
     shapes::all_cases,
     shapes::line_in_any_order,
-    closed_line,
-    shapes::rings_of_two_tapped,
-    shapes::ring_around,
     shapes::tapped_rings,
+    shapes::rings_of_two_tapped,
+    closed_line,
+    shapes::ring_around,
     shapes::rings_joined,
 ];
 

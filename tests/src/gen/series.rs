@@ -11,10 +11,10 @@ use crate::queries;
 
 /// No longer list has room in the program that is asked.
 const LONGEST_LIST: usize = 65_536;
-/// A list of full size is grown then, of a kind that goes by the number of the series; the first
-/// series take full rings and lists that stop by turns.
+/// A list of full size is grown then, of a kind that goes by the number of the series. The first six
+/// series have three kinds of full rings, and lists that stop with 22 and 23.
 const FULL_SIZE_TURN: usize = 20;
-const FIRST_FULL_SIZE: usize = 10;
+const FIRST_FULL_SIZE: usize = 12;
 
 /// Shapes that leave rings standing.
 const WITH_RINGS: &[Shape] = &[
