@@ -21,10 +21,10 @@ pub const SIZES: [usize; 5] = [
 ];
 /// The numbers of the slice that a sheet is lent a part of.
 pub const SLICE: usize = 20_490;
-/// What the scratch and the slice hold before a call.
-const SCRATCH_BEFORE: usize = 7;
+/// What the slice holds before a call.
 const SLICE_BEFORE: u32 = 77;
-/// What the tables hold at first.
+/// What the tables hold at first, and always the number behind each, which is lent only where the table
+/// is lent too large.
 const TABLES_BEFORE: u32 = 9;
 
 const NOT_GROWN: u32 = 21;
@@ -156,8 +156,6 @@ pub struct Lent {
     head: Head,
     /// The lent sizes, of the register and then of the scratch.
     sizes: [usize; 10],
-    /// The number behind each table, which is lent only where the table is lent too large.
-    behind: [u32; 5],
     /// The last tables and head that were grown, and the house.
     grown: Option<(Tables, Head, Option<House>)>,
 }
@@ -169,7 +167,6 @@ impl Default for Lent {
             tables: SIZES.map(|size| vec![TABLES_BEFORE; size]),
             head: [0; 4],
             sizes: [a, b, c, d, e, a, b, c, d, e],
-            behind: [TABLES_BEFORE; 5],
             grown: None,
         }
     }
@@ -281,29 +278,27 @@ impl Lent {
         self.answer(call, result.map(|()| (0, 0)).map_err(stopped), &[])
     }
 
-    /// The answer to a call, with the state after it. 25 writes nothing; otherwise the scratch ends all
-    /// zero. The slice begins with these numbers, and its rest is untouched.
+    /// The answer to a call, with the state after it. 25 writes nothing, and no number of the scratch is
+    /// 0 before; otherwise the scratch ends all zero. The slice begins with these numbers, and its rest is untouched.
     fn answer(&self, call: &Call, result: Result<(u32, u32), (u32, u32)>, slice: &[u32]) -> Answer {
         let (first, second, refusal) = match result {
             Ok((first, second)) => (first, second, 0),
             Err((first, refusal)) => (first, 0, refusal),
         };
         let all: usize = SIZES.iter().sum();
-        let untouched = refusal == WRONG_SIZE && SCRATCH_BEFORE != 0;
         let mut numbers = vec![SLICE_BEFORE; SLICE];
         numbers[..slice.len()].copy_from_slice(slice);
         let has_slice = matches!(call, Call::Sheet(_));
-        let mut behind = self.behind.iter();
         Answer {
             first,
             second,
             refusal,
-            scratch: if untouched { all } else { 0 },
+            scratch: if refusal == WRONG_SIZE { all } else { 0 },
             head: self.head,
             tables: self
                 .tables
                 .each_ref()
-                .map(|table| hash(table.iter().chain(behind.next()))),
+                .map(|table| hash(table.iter().chain(&[TABLES_BEFORE]))),
             slice: if has_slice { hash(&numbers) } else { 0 },
         }
     }
