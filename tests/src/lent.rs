@@ -279,7 +279,8 @@ impl Lent {
     }
 
     /// The answer to a call, with the state after it. 25 writes nothing, and no number of the scratch is
-    /// 0 before; otherwise the scratch ends all zero. The slice begins with these numbers, and its rest is untouched.
+    /// 0 before; otherwise the scratch ends all zero. The slice begins with these numbers, and its rest
+    /// is untouched.
     fn answer(&self, call: &Call, result: Result<(u32, u32), (u32, u32)>, slice: &[u32]) -> Answer {
         let (first, second, refusal) = match result {
             Ok((first, second)) => (first, second, 0),
