@@ -19,8 +19,10 @@ pub const SIZES: [usize; 5] = [
     MOST_PIPES,
     MOST_FITTINGS,
 ];
-/// The numbers of the slice that a sheet is lent a part of.
+/// The numbers of the slice that a sheet is lent a part of, and the bytes of the one that a list is
+/// written to.
 pub const SLICE: usize = 20_490;
+pub const BYTES: usize = 40_970;
 /// What the slice holds before a call.
 const SLICE_BEFORE: u32 = 77;
 /// What the tables hold at first, and always the number behind each, which is lent only where the table
@@ -73,7 +75,7 @@ fn sides(house: &House, fitting: Fitting) -> [PipeNumber; 2] {
 }
 
 fn number_of(count: usize) -> u32 {
-    u32::try_from(count).expect("at most 8,192")
+    u32::try_from(count).expect("at most 40,965")
 }
 
 /// A call by its arguments.
@@ -86,6 +88,8 @@ pub enum Call {
     Distance(u16, u16),
     /// Into so many numbers.
     Sheet(usize),
+    /// Into so many bytes.
+    Write(usize),
 }
 
 /// What is done to the tables.
@@ -111,6 +115,7 @@ impl Command {
                 Call::Reach(fitting) => (b'R', [usize::from(*fitting), 0, 0], None),
                 Call::Distance(from, to) => (b'D', [*from, *to, 0].map(usize::from), None),
                 Call::Sheet(size) => (b'S', [*size, 0, 0], None),
+                Call::Write(size) => (b'W', [*size, 0, 0], None),
             },
         };
         let mut bytes = vec![kind, 0, 0, 0];
@@ -252,14 +257,14 @@ impl Lent {
                 .map(|length| length.map_or((0, 0), |length| (1, length))),
             Call::Sheet(size) => {
                 let rows = queries::sheet(&house);
-                let count = number_of(rows.len());
                 numbers = rows.concat();
-                if numbers.len() > size {
-                    numbers.clear();
-                    Err(Refusal::TooShort)
-                } else {
-                    Ok((count, 0))
-                }
+                fits(&mut numbers, size).map(|()| (number_of(rows.len()), 0))
+            }
+            Call::Write(size) => {
+                let bytes = list::written(&house);
+                let count = number_of(bytes.len());
+                numbers = bytes.into_iter().map(u32::from).collect();
+                fits(&mut numbers, size).map(|()| (count, 0))
             }
         };
         self.answer(call, answered.map_err(refused), &numbers)
@@ -287,9 +292,13 @@ impl Lent {
             Err((first, refusal)) => (first, 0, refusal),
         };
         let all: usize = SIZES.iter().sum();
-        let mut numbers = vec![SLICE_BEFORE; SLICE];
+        let room = match call {
+            Call::Sheet(_) => SLICE,
+            Call::Write(_) => BYTES,
+            _ => 0,
+        };
+        let mut numbers = vec![SLICE_BEFORE; room];
         numbers[..slice.len()].copy_from_slice(slice);
-        let has_slice = matches!(call, Call::Sheet(_));
         Answer {
             first,
             second,
@@ -300,9 +309,18 @@ impl Lent {
                 .tables
                 .each_ref()
                 .map(|table| hash(table.iter().chain(&[TABLES_BEFORE]))),
-            slice: if has_slice { hash(&numbers) } else { 0 },
+            slice: hash(&numbers),
         }
     }
+}
+
+/// Whether an answer has room in a slice of this size; if not, nothing of it is written.
+fn fits(numbers: &mut Vec<u32>, size: usize) -> Result<(), Refusal> {
+    if numbers.len() <= size {
+        return Ok(());
+    }
+    numbers.clear();
+    Err(Refusal::TooShort)
 }
 
 /// As tests/lent/main.rattle computes it.

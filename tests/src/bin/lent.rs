@@ -28,13 +28,14 @@ struct Tally {
 }
 
 /// The refusals of each call, 0 for an answer.
-const OUTCOMES: [(&str, &[u32]); 6] = [
+const OUTCOMES: [(&str, &[u32]); 7] = [
     ("grow", &[0, 3, 4, 5, 7, 22, 23, 25]),
     ("land", &[0, 1, 2, 3, 4, 5, 6, 7, 21, 25]),
     ("find", &[0, 8, 21, 25]),
     ("reach", &[0, 5, 8, 21, 25]),
     ("distance", &[0, 5, 21, 25]),
     ("sheet", &[0, 9, 21, 25]),
+    ("write", &[0, 9, 21, 25]),
 ];
 
 impl Tally {
@@ -75,6 +76,7 @@ fn name(call: &Call) -> &'static str {
         Call::Reach(_) => "reach",
         Call::Distance(..) => "distance",
         Call::Sheet(_) => "sheet",
+        Call::Write(_) => "write",
     }
 }
 

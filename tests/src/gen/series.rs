@@ -5,7 +5,7 @@ use super::random::Random;
 use super::shapes::{self, Shape};
 use super::{full, list, records, whole_of};
 use crate::house::{House, Standing};
-use crate::lent::{Call, Command, Lent, SIZES, SLICE};
+use crate::lent::{Call, Command, Lent, BYTES, SIZES, SLICE};
 use crate::list::{self as lists, Record};
 use crate::queries;
 
@@ -46,11 +46,12 @@ pub fn next(source: &mut Source, turn: usize, lent: &mut Lent) -> Vec<Command> {
         0..=2 => vec![grow(source, turn), Command::Call(Call::Sheet(SLICE))],
         3 => with_wrong_size(random, house.as_ref()),
         4..=7 => with_damage(random, lent, house.as_ref()),
-        8..=12 => {
+        8 => written_back(random, house.as_ref()),
+        9..=13 => {
             let landed = Command::Call(land(random, house.as_ref()));
             vec![landed, Command::Call(Call::Sheet(SLICE))]
         }
-        13..=21 => vec![Command::Call(land(random, house.as_ref()))],
+        14..=21 => vec![Command::Call(land(random, house.as_ref()))],
         _ => vec![Command::Call(question(random, house.as_ref()))],
     }
 }
@@ -136,11 +137,18 @@ fn fitting_of_some_standing(random: &mut Random, house: &House) -> usize {
 /// Every question, also about numbers that are no fitting and tags that are not worn.
 fn question(random: &mut Random, house: Option<&House>) -> Call {
     let fittings = house.map_or(0, House::fittings);
-    match random.below(8) {
+    match random.below(9) {
         0 | 1 => Call::Find(tag(random, house)),
         2 | 3 => Call::Reach(coupling(random, house)),
         4 | 5 => Call::Distance(fitting(random, fittings), fitting(random, fittings)),
-        _ => Call::Sheet(room(random, house)),
+        6 | 7 => {
+            let needs = house.map_or(5, |house| 5 * queries::sheet(house).len());
+            Call::Sheet(room(random, needs, SLICE))
+        }
+        _ => {
+            let needs = house.map_or(5, |house| lists::written(house).len());
+            Call::Write(room(random, needs, BYTES))
+        }
     }
 }
 
@@ -175,20 +183,24 @@ fn fitting(random: &mut Random, fittings: usize) -> u16 {
     u16::try_from(number).expect("16 bits")
 }
 
-/// As many numbers as the sheet needs, or fewer, or more.
-fn room(random: &mut Random, house: Option<&House>) -> usize {
-    let needs = house.map_or(5, |house| 5 * queries::sheet(house).len());
-    let fewer = random.below(needs + 1);
-    let more = random.between(needs, SLICE);
-    random.pick(&[
-        needs,
-        needs,
-        needs.saturating_sub(1),
-        needs + 1,
-        fewer,
-        more,
-        SLICE,
-    ])
+/// As much as an answer needs, or less, or more.
+fn room(random: &mut Random, needs: usize, most: usize) -> usize {
+    let less = random.below(needs + 1);
+    let more = random.between(needs, most);
+    let near = [needs.saturating_sub(1), needs, needs, needs + 1];
+    random.pick(&[near[0], near[1], near[2], near[3], less, more, most])
+}
+
+/// The list is written and grown, in tables that something else was written to, and written again.
+fn written_back(random: &mut Random, house: Option<&House>) -> Vec<Command> {
+    let written = lists::written(house.unwrap_or(&House::default()));
+    let (table, place) = place(random, house);
+    vec![
+        Command::Call(Call::Write(BYTES)),
+        Command::Set(table, place, 1),
+        Command::Call(Call::Grow(written)),
+        Command::Call(Call::Write(BYTES)),
+    ]
 }
 
 /// One call of any kind.
