@@ -1,6 +1,6 @@
 //! Every call from C on full lists, against the plain register, and the stack that each uses.
 
-use crate::edges::{comb, line, tree, Edges, Random};
+use crate::edges::{comb, line, ring, tapped_rings, tree, Edges, Random};
 use crate::plain::Register;
 use crate::{compare, list, several, shuffled, stack};
 use std::hint::black_box;
@@ -116,6 +116,8 @@ fn full_lists(random: &mut Random) -> Vec<(&'static str, Vec<Vec<u8>>)> {
         ("random tree", 4096, several(|| tree(4096, random))),
         ("comb", 4096, vec![comb(4096)]),
         ("grid", 45 * 45, vec![grid(45)]),
+        ("ring", 4096, vec![ring(4096)]),
+        ("rings of two, tapped", 4095, vec![tapped_rings(4095)]),
     ];
     let mut lists = |n, houses: Vec<Vec<_>>| houses.iter().map(|edges| with_lengths(list(n, edges), n, random)).collect();
     houses.into_iter().map(|(name, n, houses)| (name, lists(n, houses))).collect()

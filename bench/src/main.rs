@@ -10,7 +10,7 @@ mod plain;
 mod stack;
 
 use calls::{all_alike, times, Call};
-use edges::{comb, line, tree, Edges, Random};
+use edges::{comb, line, ring, tapped_rings, tree, Edges, Random};
 use std::hint::black_box;
 use std::time::Instant;
 
@@ -44,6 +44,13 @@ fn balanced(n: usize) -> Edges {
         piece *= 2;
     }
     edges
+}
+
+/// A ring of two, closed first, and a comb whose teeth come in random order: a ring stands at each split of its line.
+fn comb_beside_ring(n: usize, random: &mut Random) -> Edges {
+    let mut comb: Edges = comb(n - 2).into_iter().map(|(a, b)| (a + 2, b + 2)).collect();
+    random.shuffle(&mut comb[n / 2 - 2..]);
+    [ring(2), comb].concat()
 }
 
 /// A line whose pipes are numbered from its middle outwards, left and right in turn.
@@ -98,7 +105,7 @@ fn put_rows(call: Call, n: usize, shapes: &[(&str, Vec<Edges>)]) {
         lists.iter().for_each(|list| all_alike(list, name));
         let asked: Vec<_> = lists.iter().map(|list| (call, &list[..])).collect();
         let (proved, plain) = times(&asked, name);
-        println!("{name:<28} {:>6} {proved:>9.1} {plain:>9.1} {:>6.2}", n - 1, proved / plain);
+        println!("{name:<28} {:>6} {proved:>9.1} {plain:>9.1} {:>6.2}", houses[0].len(), proved / plain);
     }
 }
 
@@ -111,6 +118,9 @@ fn grow_table(random: &mut Random) {
             ("balanced merges", vec![balanced(n)]),
             ("random tree", several(|| tree(n, random))),
             ("comb", vec![comb(n)]),
+            ("comb beside a ring", several(|| comb_beside_ring(n, random))),
+            ("ring", vec![ring(n)]),
+            ("rings of two, tapped", vec![tapped_rings(n)]),
         ];
         put_rows(GROW, n, &shapes);
     }
@@ -126,6 +136,7 @@ fn sheet_table(random: &mut Random) {
             ("falling", vec![falling]),
             ("at random", several(|| shuffled(rising.clone(), random))),
             ("inside out", vec![inside_out(n)]),
+            ("rising, and closed", vec![ring(n)]),
         ];
         put_rows(Call::Sheet, n, &shapes);
     }

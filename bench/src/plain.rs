@@ -16,6 +16,8 @@ pub struct Register {
     edges: usize,
     blocks: u32,
     pub relabellings: u32,
+    /// A ring may stand: one was closed.
+    rings: bool,
 }
 
 /// A walker stands at a vertex that it reached by an edge.
@@ -23,6 +25,14 @@ pub struct Register {
 struct Walker {
     edge: u16,
     at: u16,
+}
+
+/// Where a walk ends, its regular vertices, the lengths of the edges behind them, and the least of them and of its home.
+struct WalkEnd {
+    at: u16,
+    inner: u32,
+    length: u32,
+    lowest: u16,
 }
 
 impl Register {
@@ -37,6 +47,7 @@ impl Register {
             edges: 0,
             blocks: 0,
             relabellings: 0,
+            rings: false,
         }
     }
 
@@ -47,7 +58,7 @@ impl Register {
         (register, refusal)
     }
 
-    /// The sheet's numbers, five a run, by rising name: each run is walked once, from its first pipe in rising order.
+    /// The sheet's numbers, five a run or ring, by rising name: each is walked once, from its first pipe in rising order.
     pub fn sheet(&self) -> Vec<[u32; 5]> {
         let mut seen = vec![false; self.edges];
         let mut rows = Vec::new();
@@ -61,20 +72,29 @@ impl Register {
 
     fn row(&self, name: u16, seen: &mut [bool]) -> [u32; 5] {
         let [first, second] = self.ends[usize::from(name)];
+        let length = self.lengths[usize::from(name)];
         seen[usize::from(name)] = true;
-        let mut inner = 0;
-        let mut length = self.lengths[usize::from(name)];
-        let ends = [first, second].map(|v| {
-            let mut w = Walker { edge: name, at: v };
-            while self.is_regular(w.at) {
-                w = self.step(w);
-                seen[usize::from(w.edge)] = true;
-                inner += 1;
-                length += self.lengths[usize::from(w.edge)];
-            }
-            u32::from(w.at)
-        });
-        [u32::from(name), ends[0].min(ends[1]), ends[0].max(ends[1]), inner, length]
+        let on = self.walk_marking(Walker { edge: name, at: second }, first, seen);
+        if self.is_regular(on.at) {
+            let lowest = u32::from(on.lowest);
+            return [u32::from(name), lowest, lowest, 1 + on.inner, length + on.length];
+        }
+        let back = self.walk_marking(Walker { edge: name, at: first }, on.at, seen);
+        let (lower, other) = (back.at.min(on.at), back.at.max(on.at));
+        [u32::from(name), u32::from(lower), u32::from(other), back.inner + on.inner, back.length + length + on.length]
+    }
+
+    /// A walk to the end of a chain, or round a ring to its home.
+    fn walk_marking(&self, mut w: Walker, home: u16, seen: &mut [bool]) -> WalkEnd {
+        let (mut inner, mut length, mut lowest) = (0, 0, home);
+        while self.is_regular(w.at) && w.at != home {
+            lowest = lowest.min(w.at);
+            w = self.step(w);
+            seen[usize::from(w.edge)] = true;
+            inner += 1;
+            length += self.lengths[usize::from(w.edge)];
+        }
+        WalkEnd { at: w.at, inner, length, lowest }
     }
 
     fn land(&mut self, list: &[u8]) -> u32 {
@@ -128,11 +148,12 @@ impl Register {
         let e = self.edges as u16;
         let (da, db) = (self.degrees[usize::from(a)], self.degrees[usize::from(b)]);
         if da == 1 && db == 1 {
-            if !self.merge(a, b, e) {
-                return 24;
-            }
+            self.merge(a, b, e);
             self.raise(a, b);
         } else {
+            if self.rings {
+                self.tap_both(a, b);
+            }
             self.open(a, e);
             self.open(b, e);
             self.raise(a, b);
@@ -191,13 +212,74 @@ impl Register {
         let d = self.sides[usize::from(x)][0];
         let u = self.far(d, x);
         if self.is_regular(u) {
-            let up = self.sides[usize::from(u)][0] != d;
-            let label = next(self.labels[usize::from(u)], up);
-            self.put_label(x, label, d, e, up);
+            self.label_beyond(x, u, d, e);
         } else {
             self.blocks += 1;
             self.put_label(x, 8192 * self.blocks, d, e, true);
         }
+    }
+
+    /// The leaf x gets the next label beyond its neighbour u, which is regular.
+    fn label_beyond(&mut self, x: u16, u: u16, d: u16, e: u16) {
+        let up = self.sides[usize::from(u)][0] != d;
+        let label = next(self.labels[usize::from(u)], up);
+        self.put_label(x, label, d, e, up);
+    }
+
+    /// The rings of a and b, if they are regular and lie on rings, become loops; one that they share is a's.
+    fn tap_both(&mut self, a: u16, b: u16) {
+        let first = self.ring_at(a, b);
+        let second = self.ring_at(b, a);
+        if let Some((others, shared)) = first {
+            if shared {
+                // It wears no label after the edge, so it is not relabelled on the way.
+                self.labels[usize::from(b)] = 0;
+            }
+            self.tap(a, others);
+        }
+        if let Some((others, false)) = second {
+            self.tap(b, others);
+        }
+    }
+
+    /// How many other vertices lie on the ring of v, if v is regular and lies on one, and whether w is among them: two walkers
+    /// leave v, one each way, and take turns until one stands at a chain's end or the first is back.
+    fn ring_at(&self, v: u16, w: u16) -> Option<(u16, bool)> {
+        if !self.is_regular(v) {
+            return None;
+        }
+        let mut x = self.leave_lower(v);
+        let mut y = self.step(Walker { edge: x.edge, at: v });
+        let (mut others, mut met) = (0, false);
+        while self.is_regular(x.at) && self.is_regular(y.at) {
+            if x.at == v {
+                return Some((others, met));
+            }
+            met |= x.at == w;
+            x = self.step(x);
+            y = self.step(y);
+            others += 1;
+        }
+        None
+    }
+
+    /// Labels rise round the ring of v from its neighbour along the lower-numbered of its two edges.
+    fn tap(&mut self, v: u16, others: u16) {
+        self.blocks += 1;
+        let mut label = 8192 * self.blocks;
+        let mut w = self.leave_lower(v);
+        for _ in 0..others {
+            let on = self.turn(w.edge, w.at);
+            self.put_label(w.at, label, w.edge, on, true);
+            label += 1;
+            w = Walker { edge: on, at: self.far(on, w.at) };
+        }
+    }
+
+    fn leave_lower(&self, v: u16) -> Walker {
+        let [low, high] = self.sides[usize::from(v)];
+        let edge = low.min(high);
+        Walker { edge, at: self.far(edge, v) }
     }
 
     fn leave(&self, leaf: u16) -> Walker {
@@ -210,8 +292,8 @@ impl Register {
         Walker { edge, at: self.far(edge, w.at) }
     }
 
-    /// Whether the two chains were merged: not so where they are one.
-    fn merge(&mut self, a: u16, b: u16, e: u16) -> bool {
+    /// The chains of the leaves a and b become one, or, if they are one, a ring.
+    fn merge(&mut self, a: u16, b: u16, e: u16) {
         let (mut wa, mut wb) = (self.leave(a), self.leave(b));
         let mut steps = 0;
         while self.is_regular(wa.at) && self.is_regular(wb.at) {
@@ -220,19 +302,34 @@ impl Register {
             steps += 1;
         }
         if wa.at == b {
-            return false;
-        }
-        if self.is_regular(wb.at) {
+            self.close(a, b, e);
+        } else if self.is_regular(wb.at) {
             self.join(b, a, e);
         } else if steps > 0 || self.is_regular(wa.at) {
             self.join(a, b, e);
         } else {
-            self.blocks += 1;
             let (da, db) = (self.sides[usize::from(a)][0], self.sides[usize::from(b)][0]);
-            self.put_label(a, 8192 * self.blocks, da, e, true);
-            self.put_label(b, 8192 * self.blocks + 1, e, db, true);
+            self.begin(a, da, b, db, e);
         }
-        true
+    }
+
+    /// The neighbours a and b are the first regular vertices of their chain or ring.
+    fn begin(&mut self, a: u16, before: u16, b: u16, after: u16, between: u16) {
+        self.blocks += 1;
+        self.put_label(a, 8192 * self.blocks, before, between, true);
+        self.put_label(b, 8192 * self.blocks + 1, between, after, true);
+    }
+
+    /// The chain of the leaves a and b becomes a ring.
+    fn close(&mut self, a: u16, b: u16, e: u16) {
+        self.rings = true;
+        let (first, second) = (self.leave(a), self.leave(b));
+        if first.at == b {
+            self.begin(a, e, b, e, first.edge);
+        } else {
+            self.label_beyond(a, first.at, first.edge, e);
+            self.label_beyond(b, second.at, second.edge, e);
+        }
     }
 
     fn join(&mut self, x: u16, y: u16, e: u16) {

@@ -18,35 +18,47 @@ impl Register {
         Some((last as u32, self.labels[last]))
     }
 
-    /// The name of the chain of the vertex that wears a label.
+    /// The name of the chain or ring of the vertex that wears a label.
     pub fn find(&self, label: u32) -> Result<u32, u32> {
         if label == 0 {
             return Err(8);
         }
-        let wearer = self.labels.iter().position(|&worn| worn == label).ok_or(8u32)?;
-        let edges = self.sides[wearer].map(|edge| self.walk(wearer as u16, edge).1);
-        Ok(u32::from(edges[0].min(edges[1])))
+        let wearer = self.labels.iter().position(|&worn| worn == label).ok_or(8u32)? as u16;
+        let [low, high] = self.sides[usize::from(wearer)];
+        let (at, _, below) = self.walk(wearer, low);
+        if at == wearer {
+            return Ok(u32::from(below));
+        }
+        let (_, _, above) = self.walk(wearer, high);
+        Ok(u32::from(below.min(above)))
     }
 
-    /// The lengths from a regular vertex to the low and to the high end of its chain.
+    /// The lengths from a regular vertex to the low and to the high end of its chain; in a ring 0 and its length.
     pub fn reach(&self, vertex: u32) -> Result<[u32; 2], u32> {
         let v = self.landed(vertex)?;
         if !self.is_regular(v) {
             return Err(8);
         }
-        Ok(self.sides[usize::from(v)].map(|edge| self.walk(v, edge).0))
+        let [low, high] = self.sides[usize::from(v)];
+        let (at, below, _) = self.walk(v, low);
+        if at == v {
+            return Ok([0, below]);
+        }
+        let (_, above, _) = self.walk(v, high);
+        Ok([below, above])
     }
 
-    /// The length from a vertex along one of its edges to the end of that chain, and the lowest edge number on the way.
-    fn walk(&self, v: u16, edge: u16) -> (u32, u16) {
+    /// From a vertex along one of its edges to the end of that chain, or round a ring and back: where that is, the length of the
+    /// way, and the lowest edge number on it.
+    fn walk(&self, v: u16, edge: u16) -> (u16, u32, u16) {
         let mut w = Walker { edge, at: self.far(edge, v) };
         let (mut length, mut lowest) = (self.lengths[usize::from(edge)], edge);
-        while self.is_regular(w.at) {
+        while self.is_regular(w.at) && w.at != v {
             w = self.step(w);
             length += self.lengths[usize::from(w.edge)];
             lowest = lowest.min(w.edge);
         }
-        (length, lowest)
+        (w.at, length, lowest)
     }
 
     fn landed(&self, vertex: u32) -> Result<u16, u32> {

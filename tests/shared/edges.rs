@@ -30,6 +30,18 @@ pub fn comb(n: usize) -> Edges {
     edges
 }
 
+/// A line whose ends are joined: a ring main.
+pub fn ring(n: usize) -> Edges {
+    let mut edges = line(n);
+    edges.push((n - 1, 0));
+    edges
+}
+
+/// Rings of two edges, each closed and then tapped by a third vertex.
+pub fn tapped_rings(n: usize) -> Edges {
+    (0..n / 3).flat_map(|i| [(3 * i, 3 * i + 1), (3 * i + 1, 3 * i), (3 * i, 3 * i + 2)]).collect()
+}
+
 pub fn tree(n: usize, random: &mut Random) -> Edges {
     (1..n).map(|v| (random.below(v), v)).collect()
 }

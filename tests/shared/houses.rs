@@ -1,7 +1,6 @@
-//! Houses of full size, of every shape that is easy or hard for a search. In each the pipes come in an order that closes no ring of
-//! couplings.
+//! Houses of full size, of every shape that is easy or hard for a search.
 
-use crate::edges::{comb, line, tree, Edges, Random};
+use crate::edges::{comb, line, ring, tapped_rings, tree, Edges, Random};
 
 const FULL: usize = 4096;
 const LONGEST: usize = 100_000;
@@ -71,6 +70,8 @@ pub fn houses(random: &mut Random) -> Vec<House> {
     let shapes = [
         ("line", FULL, line(FULL)),
         ("line, shuffled", FULL, shuffled_line(FULL, random)),
+        ("ring", FULL, ring(FULL)),
+        ("rings of two, tapped", FULL, tapped_rings(FULL)),
         ("comb", FULL, comb(FULL)),
         ("star", FULL, star(FULL)),
         ("random tree", FULL, tree(FULL, random)),

@@ -7,6 +7,7 @@ pub mod full;
 pub mod layout;
 pub mod random;
 pub mod records;
+pub mod series;
 pub mod shapes;
 pub mod stops;
 
@@ -60,11 +61,8 @@ fn small_size(random: &mut Random) -> usize {
 #[cfg(test)]
 mod tests {
     use super::*;
-    use crate::house::{House, Standing};
     use crate::list::grow;
-    use crate::run::Run;
-    use std::cmp::Ordering;
-    use std::collections::BTreeMap;
+    use crate::tally::Cases;
 
     #[test]
     fn a_list_depends_on_seed_and_index_only() {
@@ -83,50 +81,11 @@ mod tests {
 
     #[test]
     fn every_case_of_landing_comes_up_often() {
-        let mut cases = BTreeMap::new();
+        let mut cases = Cases::default();
         for index in 0..500 {
-            let mut house = House::default();
-            for record in whole(&mut Random::of_list(13, index)) {
-                if let Record::Pipe { first, second, .. } = record {
-                    let case = case(&house, [first.into(), second.into()]);
-                    *cases.entry(case).or_insert(0) += 1;
-                }
-                list::land_record(&mut house, record).expect("a whole list");
-            }
+            let records = whole(&mut Random::of_list(13, index));
+            cases.count(&grow(&list::write(&records)).0);
         }
-        // Nine pairs of standings. Two free ends merge in four ways; a coupling is of one run with
-        // a free end, on either side, or with another coupling, or not.
-        assert_eq!(cases.len(), 15, "{cases:#?}");
-        assert!(cases.values().all(|&count| count > 20), "{cases:#?}");
-    }
-
-    /// What the two fittings of a pipe are before it, and how their runs lie to each other.
-    fn case(house: &House, fittings: [usize; 2]) -> String {
-        let standings = fittings.map(|fitting| house.standing(fitting));
-        let runs = match fittings.map(|fitting| run_of(house, fitting)) {
-            [Some(one), Some(other)] if one == other => "of one run",
-            [Some(one), Some(other)] if standings == [Standing::Free; 2] => merge(one, other),
-            _ => "",
-        };
-        format!("{standings:?} {runs}")
-    }
-
-    /// The run that a free end ends or that a coupling lies on.
-    fn run_of(house: &House, fitting: usize) -> Option<&Run> {
-        match house.standing(fitting) {
-            Standing::Free => house.runs().iter().find(|run| run.ends_at(fitting)),
-            Standing::Coupling => house.run_through(fitting),
-            Standing::Settled => None,
-        }
-    }
-
-    fn merge(first: &Run, second: &Run) -> &'static str {
-        let couplings = [first, second].map(|run| run.couplings().len());
-        match couplings[0].cmp(&couplings[1]) {
-            Ordering::Less => "the second longer",
-            Ordering::Greater => "the first longer",
-            Ordering::Equal if couplings[0] == 0 => "without couplings",
-            Ordering::Equal => "a tie",
-        }
+        assert_eq!(cases.fewer_than(20), [""; 0]);
     }
 }

@@ -1,9 +1,14 @@
-//! The register of document 01, kept as explicit runs.
+//! The register of documents 01 and 02, kept as explicit runs and rings.
 //!
 //! Degrees, names and lengths are worked out from the landed pipes whenever they are asked for.
-//! Beside the pipes stand the runs as ordered lists, low end first, and the tags hung along them.
+//! Beside the pipes stand the runs as ordered lists, low end first, the rings as ordered lists,
+//! lowest tag first, and the tags hung along them.
 
+use std::collections::BTreeMap;
+
+use crate::cases::Case;
 use crate::refusal::Refusal;
+use crate::ring::Ring;
 use crate::run::{self, Run};
 
 /// A fitting's number, from 0 in order of landing.
@@ -62,10 +67,13 @@ enum Side {
 pub struct House {
     pipes: Vec<Pipe>,
     runs: Vec<Run>,
+    rings: Vec<Ring>,
     /// One for each landed fitting.
     tags: Vec<Tag>,
     births: u32,
     re_hung: u32,
+    /// How many pipes were landed under each case, and with so many births.
+    cases: BTreeMap<(Case, u32), usize>,
 }
 
 /// What the register holds.
@@ -83,8 +91,13 @@ impl House {
         &self.runs
     }
 
-    /// The runs by rising name, without sides, from the pipes alone.
-    pub fn runs_afresh(&self) -> Vec<Run> {
+    /// The rings, in no order.
+    pub fn rings(&self) -> &[Ring] {
+        &self.rings
+    }
+
+    /// The runs and the rings by rising name, without sides, from the pipes alone.
+    pub fn afresh(&self) -> (Vec<Run>, Vec<Ring>) {
         run::afresh(self.fittings(), &self.pipes)
     }
 
@@ -98,6 +111,11 @@ impl House {
 
     pub fn re_hung(&self) -> u32 {
         self.re_hung
+    }
+
+    /// How many pipes were landed under each case, and with so many births.
+    pub fn cases(&self) -> &BTreeMap<(Case, u32), usize> {
+        &self.cases
     }
 
     /// The number of pipe ends at a fitting.
@@ -119,6 +137,17 @@ impl House {
         let mut runs = self.runs.iter();
         runs.find(|run| run.couplings().contains(&coupling))
     }
+
+    /// The run that a free fitting ends.
+    pub fn run_from(&self, free: Fitting) -> Option<&Run> {
+        self.runs.iter().find(|run| run.ends_at(free))
+    }
+
+    /// The ring that a coupling lies on.
+    pub fn ring_through(&self, coupling: Fitting) -> Option<&Ring> {
+        let mut rings = self.rings.iter();
+        rings.find(|ring| ring.fittings().contains(&coupling))
+    }
 }
 
 /// Landing ("Landing a pipe" and "Tags").
@@ -134,14 +163,17 @@ impl House {
     /// Lands a pipe; a refused one changes nothing.
     pub fn land_pipe(&mut self, pipe: Pipe) -> Result<(), Refusal> {
         self.check(&pipe)?;
-        let before = self.tags.clone();
-        self.land_by_case(&pipe)?;
+        let case = Case::of(self, &pipe);
+        let (tags, births) = (self.tags.clone(), self.births);
+        self.land_by_case(&pipe);
         self.pipes.push(pipe);
-        self.re_hung += re_hangings(&before, &self.tags);
+        self.re_hung += re_hangings(&tags, &self.tags);
+        let of_case = self.cases.entry((case, self.births - births));
+        *of_case.or_default() += 1;
         Ok(())
     }
 
-    /// Refusals 5, 6, 7 and 23, in this order; 24 comes after them, out of the case itself.
+    /// Refusals 5, 6, 7 and 23, in this order.
     fn check(&self, pipe: &Pipe) -> Result<(), Refusal> {
         if pipe.first >= self.fittings() || pipe.second >= self.fittings() {
             return Err(Refusal::NotLanded);
@@ -158,24 +190,23 @@ impl House {
         Ok(())
     }
 
-    /// The cases, by the two degrees before the pipe: the runs of couplings are split, that of the
-    /// first named first; then a free end's run goes on, or a new one starts.
-    fn land_by_case(&mut self, pipe: &Pipe) -> Result<(), Refusal> {
+    /// The cases, by the two degrees before the pipe: the runs of couplings are split and their rings
+    /// tapped, that of the first named first; then a free end's run goes on, or a new one starts.
+    fn land_by_case(&mut self, pipe: &Pipe) {
         use Standing::{Coupling, Free};
         let (first, second) = (pipe.first, pipe.second);
         let standings = [first, second].map(|fitting| self.standing(fitting));
         for (fitting, standing) in [first, second].into_iter().zip(standings) {
             if standing == Coupling {
-                self.split(fitting);
+                self.split_or_tap(fitting);
             }
         }
         match standings {
-            [Free, Free] => return self.merge(first, second),
+            [Free, Free] => self.merge_or_close(first, second),
             [Free, _] => self.extend(first, second),
             [_, Free] => self.extend(second, first),
             _ => self.start_run(first, second),
         }
-        Ok(())
     }
 
     /// The number of the pipe that is being landed.
@@ -202,19 +233,37 @@ impl House {
         self.keep(path, side);
     }
 
-    /// The runs of two free fittings become one, unless it is the same run.
-    fn merge(&mut self, first: Fitting, second: Fitting) -> Result<(), Refusal> {
-        if self.run_ending_at(first) == self.run_ending_at(second) {
-            return Err(Refusal::Ring);
-        }
+    /// The runs of two free fittings become one; if they are one, it becomes a ring.
+    fn merge_or_close(&mut self, first: Fitting, second: Fitting) {
         let one = self.take_run_ending_at(first);
+        if one.ends_at(second) {
+            return self.close(one, first, second);
+        }
         let two = self.take_run_ending_at(second);
         if two.couplings().len() > one.couplings().len() {
             self.merge_onto(two, second, one, first);
         } else {
             self.merge_onto(one, first, two, second);
         }
-        Ok(())
+    }
+
+    /// A run between two free fittings becomes a ring. With couplings, its high end gets the highest
+    /// tag plus 1 and its low end the lowest minus 1; without, it is a birth: the first named gets
+    /// the base, the second base + 1.
+    fn close(&mut self, run: Run, first: Fitting, second: Fitting) {
+        let run = if run.couplings().is_empty() {
+            let base = self.birth();
+            self.hang(Side::High, base, &[first, second]);
+            run.leading_to(second)
+        } else {
+            for end in [run.high(), run.low()] {
+                let (side, next) = self.next_tag(&run, end);
+                self.hang(side, next, &[end]);
+            }
+            run
+        };
+        let ring = Ring::closed(run, self.next_pipe());
+        self.rings.push(ring);
     }
 
     /// Merges two runs; the first given keeps its tags. Where neither has couplings, it is the run
@@ -232,6 +281,26 @@ impl House {
         self.keep(keeper.leading_to(joint).joined(pipe, onward), side);
     }
 
+    /// Splits a coupling's run there; or, where it lies on a ring, taps that.
+    fn split_or_tap(&mut self, coupling: Fitting) {
+        let mut rings = self.rings.iter();
+        let ring = rings.position(|ring| ring.fittings().contains(&coupling));
+        match ring {
+            Some(place) => self.tap(place, coupling),
+            None => self.split(coupling),
+        }
+        self.tags[coupling] = 0;
+    }
+
+    /// The ring at this place of the list becomes a loop run at one of its fittings: a birth, whose
+    /// base goes to the neighbour along the lower-numbered of its two ring pipes, rising round.
+    fn tap(&mut self, place: usize, at: Fitting) {
+        let run = self.rings.swap_remove(place).opened_at(at);
+        let base = self.birth();
+        self.hang(Side::High, base, run.couplings());
+        self.runs.push(run);
+    }
+
     /// Splits a coupling's run there; the pieces keep their tags and sides.
     fn split(&mut self, coupling: Fitting) {
         let mut runs = self.runs.iter();
@@ -239,7 +308,6 @@ impl House {
         let place = place.expect("a coupling lies on a run");
         let pieces = self.runs.swap_remove(place).split_at(coupling);
         let (low, high) = pieces.expect("the run was found by this coupling");
-        self.tags[coupling] = 0;
         self.runs.extend([low, high]);
     }
 
@@ -277,14 +345,10 @@ impl House {
         });
     }
 
-    fn run_ending_at(&self, free: Fitting) -> usize {
-        let place = self.runs.iter().position(|run| run.ends_at(free));
-        place.expect("a free fitting ends a run")
-    }
-
     fn take_run_ending_at(&mut self, free: Fitting) -> Run {
-        let place = self.run_ending_at(free);
-        self.runs.swap_remove(place)
+        let place = self.runs.iter().position(|run| run.ends_at(free));
+        self.runs
+            .swap_remove(place.expect("a free fitting ends a run"))
     }
 }
 

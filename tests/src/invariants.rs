@@ -1,13 +1,15 @@
-//! What demand 3 and document 01 say of every house, on random ones.
+//! What demand 3 and documents 01 and 02 say of every house, on random ones.
 
 use std::collections::BTreeSet;
 
 use crate::gen::random::Random;
-use crate::gen::{self, layout::Layout, records, shapes};
+use crate::gen::{self, full, layout::Layout, records, shapes};
 use crate::house::{House, Tag};
 use crate::list::{self, Record};
 use crate::queries;
 use crate::refusal::Refusal;
+use crate::ring::Ring;
+use crate::run::Run;
 
 /// A house that is landed record by record, and its re-hangings as counted from outside.
 #[derive(Default)]
@@ -55,7 +57,8 @@ fn check_re_hung_bound(house: &House) {
     assert!(house.re_hung() as usize <= bound);
 }
 
-/// A coupling wears a tag and a junction none; tags are worn once and rise by 1 from low to high.
+/// A coupling wears a tag and a junction none; tags are worn once, rise by 1 from low to high, and
+/// round a ring from one of its fittings on.
 fn check_tags(house: &House) {
     for (fitting, &tag) in house.tags().iter().enumerate() {
         assert_eq!(tag != 0, house.degree(fitting) == 2, "tag of {fitting}");
@@ -67,29 +70,41 @@ fn check_tags(house: &House) {
         .filter(|&tag| tag != 0)
         .collect();
     assert_eq!(worn.iter().collect::<BTreeSet<_>>().len(), worn.len());
-    for run in house.runs() {
-        for pair in run.couplings().windows(2) {
+    for couplings in couplings_in_order(house) {
+        for pair in couplings.windows(2) {
             assert_eq!(house.tags()[pair[0]] + 1, house.tags()[pair[1]]);
         }
     }
 }
 
-/// The run lengths add up to the lengths of the pipes, and every pipe lies on exactly one run.
+/// The couplings of each run from low to high, and of each ring from its lowest tag to its highest.
+fn couplings_in_order(house: &House) -> impl Iterator<Item = &[usize]> {
+    let of_runs = house.runs().iter().map(Run::couplings);
+    of_runs.chain(house.rings().iter().map(Ring::fittings))
+}
+
+/// The lengths of runs and rings add up to those of the pipes, and every pipe lies on exactly one of
+/// them.
 fn check_lengths(house: &House) {
     let on_sheet: u32 = queries::sheet(house).iter().map(|line| line[4]).sum();
     let of_pipes: u32 = house.pipes().iter().map(|pipe| pipe.length).sum();
     assert_eq!(on_sheet, of_pipes);
-    let mut on_runs: Vec<usize> = house
-        .runs()
-        .iter()
-        .flat_map(|run| run.pipes().to_vec())
-        .collect();
-    on_runs.sort_unstable();
-    assert_eq!(on_runs, (0..house.pipes().len()).collect::<Vec<_>>());
+    let of_runs = house.runs().iter().map(Run::pipes);
+    let of_rings = house.rings().iter().map(Ring::pipes);
+    let mut all = of_runs.chain(of_rings).collect::<Vec<_>>().concat();
+    all.sort_unstable();
+    assert_eq!(all, (0..house.pipes().len()).collect::<Vec<_>>());
 }
 
-/// The two reaches of a coupling add up to the length of its run, and rise along it.
+/// The two reaches of a coupling add up to the length of its run, and rise along it; in a ring they
+/// are 0 and its length.
 fn check_reaches(house: &House) {
+    for ring in house.rings() {
+        for &coupling in ring.fittings() {
+            let whole = (0, ring.length(house.pipes()));
+            assert_eq!(queries::reach(house, coupling), Ok(whole));
+        }
+    }
     for run in house.runs() {
         let mut below = 0;
         for &coupling in run.couplings() {
@@ -109,12 +124,14 @@ fn check_reaches(house: &House) {
     );
 }
 
-/// Each tag in use finds its own run, and a tag beside it finds a run exactly if it is in use.
+/// Each tag in use finds its own run or ring, and a tag beside it finds one exactly if it is in use.
 fn check_finds(house: &House) {
-    for run in house.runs() {
-        for &coupling in run.couplings() {
+    let of_runs = house.runs().iter().map(Run::name);
+    let names = of_runs.chain(house.rings().iter().map(Ring::name));
+    for (couplings, name) in couplings_in_order(house).zip(names) {
+        for &coupling in couplings {
             let tag = house.tags()[coupling];
-            assert_eq!(queries::find(house, tag), Ok(run.name()));
+            assert_eq!(queries::find(house, tag), Ok(name));
             for beside in [tag - 1, tag + 1] {
                 let worn = house.tags().contains(&beside);
                 assert_eq!(queries::find(house, beside).is_ok(), worn);
@@ -212,7 +229,7 @@ fn land_until_refused(random: &mut Random, watched: &mut Watched) -> Result<(), 
         let record = if fittings < 3 || random.one_in(4) {
             Record::Fitting
         } else {
-            let not_landed = usize::from(random.one_in(40));
+            let not_landed = usize::from(random.one_in(12));
             let (first, second) = random.pair_below(fittings + not_landed);
             records::pipe(first, second, 1 + random.u32() % 500)
         };
@@ -221,21 +238,52 @@ fn land_until_refused(random: &mut Random, watched: &mut Watched) -> Result<(), 
     Ok(())
 }
 
-/// Refusal 24 comes exactly where the pipe would leave a ring of couplings only.
+/// Every pipe between two fittings lands, and one more ring stands exactly where it leaves one of
+/// couplings only.
 #[test]
-fn rings_are_refused_and_nothing_else_is() {
+fn rings_are_closed_and_nothing_is_refused() {
     let mut rings = 0;
     for index in 0..3_000 {
         let random = &mut Random::of_list(505, index);
         let mut house = list::grow(&list::write(&small_house(random, 12))).0;
         let (first, second) = random.pair_below(house.fittings());
         let closes = closes_a_ring(&house, first, second);
+        let tapped: BTreeSet<usize> = [first, second]
+            .iter()
+            .filter_map(|&fitting| house.ring_through(fitting).map(Ring::name))
+            .collect();
+        let before = house.rings().len();
         let landed = list::land_record(&mut house, records::pipe(first, second, 1));
-        assert_eq!(landed == Err(Refusal::Ring), closes);
-        assert_eq!(landed.is_ok(), !closes);
+        assert_eq!(landed, Ok(()));
+        let after = before - tapped.len() + usize::from(closes);
+        assert_eq!(house.rings().len(), after);
         rings += usize::from(closes);
     }
     assert!(rings > 50, "{rings}");
+}
+
+/// Of a ring's S fittings S - 1 are re-hung by a pipe to one of them, and S - 2 by a pipe to two.
+#[test]
+fn taps_re_hang_all_others() {
+    for size in 2..40 {
+        let random = &mut Random::new(size as u64);
+        let layout = full::closed_line(random, size);
+        let ring = list::grow(&list::write(&records::of(random, &layout))).0;
+        let (one, other) = random.pair_below(size);
+        let landed = |joins: &[Record]| {
+            let mut house = ring.clone();
+            list::land(&mut house, &list::write(joins)).expect("accepted");
+            (
+                house.re_hung() - ring.re_hung(),
+                house.births() - ring.births(),
+            )
+        };
+        let size = u32::try_from(size).expect("small");
+        let outside = usize::try_from(size).expect("small");
+        let tap = [Record::Fitting, records::pipe(outside, one, 1)];
+        assert_eq!(landed(&tap), (size - 1, 1));
+        assert_eq!(landed(&[records::pipe(one, other, 1)]), (size - 2, 1));
+    }
 }
 
 /// Whether all fittings joined with these two would have degree 2, if a pipe joined them.
@@ -279,7 +327,15 @@ fn a_full_line_of_merges_keeps_the_bound() {
 #[test]
 fn distances_of_full_houses() {
     let mut joined = 0;
-    for shape in [shapes::grid, shapes::all_cases, shapes::comb, shapes::loops] {
+    let shapes = [
+        shapes::grid,
+        shapes::all_cases,
+        shapes::comb,
+        shapes::loops,
+        shapes::ring_around,
+        shapes::rings_joined,
+    ];
+    for shape in shapes {
         let random = &mut Random::new(6);
         let house = grown_in_order(&shape(random, 4_096).landable());
         for _ in 0..10 {
@@ -312,6 +368,30 @@ fn a_full_line_grown_downwards_keeps_its_tags_apart() {
     assert_eq!(lowest, Some(&(8_192 - 4_093)));
     assert_eq!(house.re_hung(), 0);
     check_tags(&house);
+}
+
+/// 1,365 rings of two pipes, each tapped: 2,730 births, and one tag of each ring is re-hung.
+#[test]
+fn a_full_house_of_tapped_rings() {
+    let house = grown_in_order(&shapes::rings_of_two_tapped(&mut Random::new(8), 4_096));
+    assert_eq!((house.births(), house.re_hung()), (2_730, 1_365));
+    check_tags(&house);
+    check_lengths(&house);
+    check_reaches(&house);
+}
+
+/// A ring of thousands of pipes: the distance is the shorter way round.
+#[test]
+fn a_full_ring() {
+    let layout = full::closed_line(&mut Random::new(9), 4_096);
+    let house = grown_in_order(&layout);
+    check_re_hung_bound(&house);
+    check_tags(&house);
+    for to in [1, 2_047, 2_048, 2_049, 4_095] {
+        let steps = u32::try_from(to.min(4_096 - to)).expect("small");
+        let length = Ok(Some(100_000 * steps));
+        assert_eq!(queries::distance(&house, 0, to), length);
+    }
 }
 
 fn grown_in_order(layout: &Layout) -> House {

@@ -1,9 +1,11 @@
-//! A second implementation of document 01, for comparison.
+//! A second implementation of documents 01 and 02, for comparison.
 //!
-//! - [`house`] and [`run`]: fittings, pipes, runs and tags;
+//! - [`house`], [`run`] and [`ring`]: fittings, pipes, runs, rings and tags;
+//! - [`cases`]: what landing a pipe comes to, for counting;
 //! - [`list`]: the list of records, read and written;
 //! - [`queries`]: find, reach, distance and sheet;
 //! - [`calls`]: the same as calls from C answer them;
+//! - [`lent`]: the same over lent tables, and what the tables hold;
 //! - [`print`]: what the printing program prints;
 //! - [`gen`]: lists of every kind, drawn from a seed;
 //! - [`arguments`], [`child`], [`tally`] and [`workers`]: reading a command line, asking a binary,
@@ -11,13 +13,16 @@
 
 pub mod arguments;
 pub mod calls;
+pub mod cases;
 pub mod child;
 pub mod gen;
 pub mod house;
+pub mod lent;
 pub mod list;
 pub mod print;
 pub mod queries;
 pub mod refusal;
+pub mod ring;
 pub mod run;
 pub mod tally;
 pub mod workers;

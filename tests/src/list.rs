@@ -102,7 +102,7 @@ fn pipe_record(body: [u8; PIPE_BODY]) -> Record {
     }
 }
 
-/// Refusal 22 for a fitting, or 5, 6, 7, 23 and 24 for a pipe.
+/// Refusal 22 for a fitting, or 5, 6, 7 and 23 for a pipe.
 pub fn land_record(house: &mut House, record: Record) -> Result<(), Refusal> {
     match record {
         Record::Fitting => house.land_fitting(),
@@ -130,6 +130,17 @@ pub fn write(records: &[Record]) -> Vec<u8> {
     list
 }
 
+/// The list of a register: all fittings, then the pipes by number (document 02, S-1).
+pub fn written(house: &House) -> Vec<u8> {
+    let mut records = vec![Record::Fitting; house.fittings()];
+    records.extend(house.pipes().iter().map(|pipe| Record::Pipe {
+        first: u16::try_from(pipe.first).expect("below 4,096"),
+        second: u16::try_from(pipe.second).expect("below 4,096"),
+        length: pipe.length,
+    }));
+    write(&records)
+}
+
 pub fn record_bytes(record: &Record) -> Vec<u8> {
     match record {
         Record::Fitting => vec![FITTING_KIND],
@@ -150,6 +161,7 @@ pub fn record_bytes(record: &Record) -> Vec<u8> {
 #[cfg(test)]
 mod tests {
     use super::*;
+    use crate::gen;
 
     fn stop_of(list: &[u8]) -> Result<(), Stop> {
         grow(list).1
@@ -199,6 +211,14 @@ mod tests {
                 Err(Stop::Record(record, refusal)),
                 "{tail:?}"
             );
+        }
+    }
+
+    #[test]
+    fn growing_from_the_written_list_leaves_the_same_register() {
+        for index in 0..300 {
+            let house = grow(&gen::list(606, index)).0;
+            assert_eq!(grow(&written(&house)), (house, Ok(())));
         }
     }
 

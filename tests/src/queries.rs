@@ -1,38 +1,41 @@
-//! Find, reach, distance and sheet (document 01, "What may be called").
+//! Find, reach, distance and sheet (document 01, "What may be called"; document 02, S-2).
 
 use std::cmp::Reverse;
 use std::collections::{BTreeMap, BinaryHeap};
 
 use crate::house::{Fitting, House, Millimetres, PipeNumber, Tag};
 use crate::refusal::Refusal;
+use crate::ring::Ring;
 use crate::run::{self, Run};
 
 /// Name, end with the lower number, other end, couplings, length.
 pub type Line = [u32; 5];
 
-/// The name of the run whose couplings include the tag.
+/// The name of the run or ring whose couplings include the tag.
 pub fn find(house: &House, tag: Tag) -> Result<PipeNumber, Refusal> {
     let name = names_by_tag(house).get(&tag).copied();
     name.ok_or(Refusal::NoCoupling)
 }
 
-/// For each tag in use, the name of the run whose couplings include it.
+/// For each tag in use, the name of the run or ring whose couplings include it.
 pub fn names_by_tag(house: &House) -> BTreeMap<Tag, PipeNumber> {
+    let (runs, rings) = house.afresh();
+    let of_runs = runs.iter().map(|run| (run.name(), run.couplings()));
+    let of_rings = rings.iter().map(|ring| (ring.name(), ring.fittings()));
     let mut names = BTreeMap::new();
-    for run in house.runs_afresh() {
-        let name = run.name();
-        let tags = run
-            .couplings()
-            .iter()
-            .map(|&coupling| house.tags()[coupling]);
+    for (name, couplings) in of_runs.chain(of_rings) {
+        let tags = couplings.iter().map(|&coupling| house.tags()[coupling]);
         names.extend(tags.map(|tag| (tag, name)));
     }
     names
 }
 
-/// The lengths from a coupling to its run's low and high end.
+/// The lengths from a coupling to its run's low and high end; in a ring, 0 and the ring's length.
 pub fn reach(house: &House, fitting: Fitting) -> Result<(Millimetres, Millimetres), Refusal> {
     landed(house, fitting)?;
+    if let Some(ring) = house.ring_through(fitting) {
+        return Ok((0, ring.length(house.pipes())));
+    }
     let run = house.run_through(fitting);
     run.and_then(|run| run.reach(fitting, house.pipes()))
         .ok_or(Refusal::NoCoupling)
@@ -73,7 +76,7 @@ impl<'a> Distances<'a> {
     }
 
     /// The least length of a way that uses whole runs, a coupling's two reaches, and the stretch
-    /// between two couplings of one run.
+    /// between two couplings of one run; inside a ring its stretches alone, either way round.
     fn to_over_runs(&self, to: Fitting) -> Option<Millimetres> {
         if self.from == to {
             return Some(0);
@@ -81,15 +84,20 @@ impl<'a> Distances<'a> {
         let arrivals = doors(self.house, to)
             .into_iter()
             .filter_map(|(junction, reach)| Some(self.over_runs[junction]? + reach));
-        arrivals.chain(stretch(self.house, self.from, to)).min()
+        arrivals.chain(stretches(self.house, self.from, to)).min()
     }
 }
 
-/// The runs by rising name. The runs kept with their sides must be the runs that the pipes make.
+/// The runs and rings by rising name. Those kept with their sides must be those that the pipes make.
 pub fn sheet(house: &House) -> Vec<Line> {
-    let runs = house.runs_afresh();
-    assert_eq!(sorted(house.runs().to_vec()), sorted(runs.clone()), "runs");
-    runs.iter().map(|run| line(house, run)).collect()
+    let (runs, rings) = house.afresh();
+    assert_eq!(sorted_runs(house.runs()), sorted_runs(&runs), "runs");
+    assert_eq!(sorted_rings(house.rings()), sorted_rings(&rings), "rings");
+    let of_runs = runs.iter().map(|run| line(house, run));
+    let of_rings = rings.iter().map(|ring| ring_line(house, ring));
+    let mut lines: Vec<Line> = of_runs.chain(of_rings).collect();
+    lines.sort_unstable();
+    lines
 }
 
 fn landed(house: &House, fitting: Fitting) -> Result<(), Refusal> {
@@ -110,14 +118,33 @@ fn line(house: &House, run: &Run) -> Line {
     ]
 }
 
+/// A ring's lowest fitting stands as both ends, and all its fittings are couplings.
+fn ring_line(house: &House, ring: &Ring) -> Line {
+    [
+        number(ring.name()),
+        number(ring.lowest_fitting()),
+        number(ring.lowest_fitting()),
+        number(ring.fittings().len()),
+        ring.length(house.pipes()),
+    ]
+}
+
 fn number(count: usize) -> u32 {
     u32::try_from(count).expect("at most 4,096")
 }
 
-fn sorted(runs: Vec<Run>) -> Vec<Run> {
-    let mut runs: Vec<Run> = runs.into_iter().map(Run::without_sides).collect();
+fn sorted_runs(runs: &[Run]) -> Vec<Run> {
+    let runs = runs.iter().cloned();
+    let mut runs: Vec<Run> = runs.map(Run::without_sides).collect();
     runs.sort();
     runs
+}
+
+fn sorted_rings(rings: &[Ring]) -> Vec<Ring> {
+    let rings = rings.iter().cloned();
+    let mut rings: Vec<Ring> = rings.map(Ring::without_sides).collect();
+    rings.sort();
+    rings
 }
 
 /// The least lengths over pipes from one fitting to every fitting, nearest first (Dijkstra).
@@ -136,8 +163,11 @@ fn least_over_pipes(house: &House, from: Fitting) -> Vec<Option<Millimetres>> {
 }
 
 /// The junctions at which a way over the runs begins or ends, with the lengths to them: a
-/// coupling's two reaches, or the junction itself.
+/// coupling's two reaches, or the junction itself. From a ring none is reached.
 fn doors(house: &House, fitting: Fitting) -> Vec<(Fitting, Millimetres)> {
+    if house.ring_through(fitting).is_some() {
+        return vec![];
+    }
     let on_run = house.run_through(fitting);
     on_run.map_or(vec![(fitting, 0)], |run| {
         let reach = run.reach(fitting, house.pipes());
@@ -146,12 +176,16 @@ fn doors(house: &House, fitting: Fitting) -> Vec<(Fitting, Millimetres)> {
     })
 }
 
-/// The length between two couplings along one run, if it is one run.
-fn stretch(house: &House, from: Fitting, to: Fitting) -> Option<Millimetres> {
-    let run = house.run_through(from)?;
-    let (one, _) = run.reach(from, house.pipes())?;
-    let (other, _) = run.reach(to, house.pipes())?;
-    Some(one.abs_diff(other))
+/// The lengths between two couplings along one run, or along one ring either way round.
+fn stretches(house: &House, from: Fitting, to: Fitting) -> Vec<Millimetres> {
+    let on_ring = house.ring_through(from);
+    let ways = on_ring.and_then(|ring| ring.ways(from, to, house.pipes()));
+    let on_run = house.run_through(from).and_then(|run| {
+        let (one, _) = run.reach(from, house.pipes())?;
+        let (other, _) = run.reach(to, house.pipes())?;
+        Some(one.abs_diff(other))
+    });
+    ways.into_iter().flatten().chain(on_run).collect()
 }
 
 /// The least lengths over whole runs from any of the doors to every junction, by going over all

@@ -16,7 +16,6 @@ pub enum Refusal {
     TooShort = 9,
     FullFittings = 22,
     FullPipes = 23,
-    Ring = 24,
 }
 
 impl Refusal {

@@ -1,6 +1,7 @@
 //! A run as an ordered path (document 01, "Fittings, pipes, runs").
 
 use crate::house::{Fitting, Millimetres, Pipe, PipeNumber};
+use crate::ring::Ring;
 
 /// A path of pipes from junction to junction: pipe `i` joins fittings `i` and `i + 1` of the path.
 /// Where it has couplings, its first fitting is the low end and its last the high end.
@@ -17,6 +18,11 @@ impl Run {
             pipes: vec![pipe],
             fittings: vec![from, to],
         }
+    }
+
+    /// The fittings are one more than the pipes.
+    pub fn of_path(pipes: Vec<PipeNumber>, fittings: Vec<Fitting>) -> Self {
+        Run { pipes, fittings }
     }
 
     pub fn low(&self) -> Fitting {
@@ -56,6 +62,12 @@ impl Run {
         let place = self.place_of(coupling)?;
         let (below, above) = self.pipes.split_at(place);
         Some((sum(below, pipes), sum(above, pipes)))
+    }
+
+    /// The pipes on the low and on the high side of a coupling of this run.
+    pub fn sides(&self, coupling: Fitting) -> Option<[PipeNumber; 2]> {
+        let place = self.place_of(coupling)?;
+        Some([self.pipes[place - 1], self.pipes[place]])
     }
 
     /// The same path walked the other way.
@@ -118,27 +130,33 @@ impl Run {
     }
 }
 
-fn sum(numbers: &[PipeNumber], pipes: &[Pipe]) -> Millimetres {
+pub fn sum(numbers: &[PipeNumber], pipes: &[Pipe]) -> Millimetres {
     numbers.iter().map(|&number| pipes[number].length).sum()
 }
 
-/// The runs by rising name, from the pipes alone. The order of each path means nothing here.
-pub fn afresh(fittings: usize, pipes: &[Pipe]) -> Vec<Run> {
+/// The runs and the rings by rising name, from the pipes alone. The order of each path, and where a
+/// ring starts, mean nothing here.
+pub fn afresh(fittings: usize, pipes: &[Pipe]) -> (Vec<Run>, Vec<Ring>) {
     let pipes_at = pipes_at(fittings, pipes);
     let mut walked = vec![false; pipes.len()];
-    let mut runs = Vec::new();
+    let (mut runs, mut rings) = (Vec::new(), Vec::new());
     for (number, pipe) in pipes.iter().enumerate() {
-        if !walked[number] {
-            let back = Run::of_one_pipe(number, pipe.second, pipe.first);
-            let there = walked_on(back, &pipes_at, pipes).reversed();
-            let run = walked_on(there, &pipes_at, pipes);
-            for &pipe in &run.pipes {
-                walked[pipe] = true;
-            }
-            runs.push(run);
+        if walked[number] {
+            continue;
+        }
+        let back = Run::of_one_pipe(number, pipe.second, pipe.first);
+        let there = walked_on(back, &pipes_at, pipes).reversed();
+        let path = walked_on(there, &pipes_at, pipes);
+        for &pipe in &path.pipes {
+            walked[pipe] = true;
+        }
+        if pipes_at[path.high()].len() == 2 {
+            rings.push(Ring::of_loop(&path));
+        } else {
+            runs.push(path);
         }
     }
-    runs
+    (runs, rings)
 }
 
 /// For each fitting, the numbers of the pipes that end there.
@@ -151,9 +169,12 @@ pub fn pipes_at(fittings: usize, pipes: &[Pipe]) -> Vec<Vec<PipeNumber>> {
     pipes_at
 }
 
-/// The path led on through couplings to the next junction. There is one, since a ring is refused.
+/// The path led on through couplings to the next junction, or until it is back where it starts.
 fn walked_on(mut run: Run, pipes_at: &[Vec<PipeNumber>], pipes: &[Pipe]) -> Run {
     while let [one, other] = pipes_at[run.high()][..] {
+        if run.high() == run.low() {
+            break;
+        }
         let came_by = run.pipes[run.pipes.len() - 1];
         let next = if one == came_by { other } else { one };
         let to = pipes[next].far_end(run.high());

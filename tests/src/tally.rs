@@ -4,6 +4,8 @@ use std::collections::BTreeMap;
 use std::fmt;
 use std::process::ExitCode;
 
+use crate::cases::Case;
+use crate::house::House;
 use crate::list::Stop;
 use crate::print::Outcome;
 use crate::refusal::Refusal;
@@ -20,6 +22,7 @@ enum Kind {
 #[derive(Debug, Default)]
 pub struct Tally {
     counts: BTreeMap<Kind, usize>,
+    cases: Cases,
     /// Pipes and fittings of the house with the most pipes.
     largest: (usize, usize),
     most_re_hung: u32,
@@ -29,6 +32,7 @@ impl Tally {
     pub fn count(&mut self, outcome: &Outcome) {
         *self.counts.entry(kind(outcome)).or_default() += 1;
         if let Outcome::Grown(house, _) = outcome {
+            self.cases.count(house);
             let size = (house.pipes().len(), house.fittings());
             self.largest = self.largest.max(size);
             self.most_re_hung = self.most_re_hung.max(house.re_hung());
@@ -39,6 +43,7 @@ impl Tally {
         for (kind, count) in other.counts {
             *self.counts.entry(kind).or_default() += count;
         }
+        self.cases.add(&other.cases);
         self.largest = self.largest.max(other.largest);
         self.most_re_hung = self.most_re_hung.max(other.most_re_hung);
     }
@@ -47,11 +52,53 @@ impl Tally {
         self.counts.values().sum()
     }
 
-    /// What no list came to.
+    /// What no list came to, and the cases of landing that no pipe came to.
     pub fn missing(&self) -> Vec<String> {
         let kinds = kinds().into_iter();
         let missing = kinds.filter(|kind| !self.counts.contains_key(kind));
-        missing.map(|kind| kind.to_string()).collect()
+        let mut missing: Vec<String> = missing.map(|kind| kind.to_string()).collect();
+        missing.extend(self.cases.missing());
+        missing
+    }
+}
+
+/// Pipes by the cases under which they were landed.
+#[derive(Debug, Default)]
+pub struct Cases {
+    counts: BTreeMap<(Case, u32), usize>,
+}
+
+impl Cases {
+    /// All pipes of a house.
+    pub fn count(&mut self, house: &House) {
+        self.add_counts(house.cases());
+    }
+
+    pub fn add(&mut self, other: &Cases) {
+        self.add_counts(&other.counts);
+    }
+
+    fn add_counts(&mut self, counts: &BTreeMap<(Case, u32), usize>) {
+        for (&case, count) in counts {
+            *self.counts.entry(case).or_default() += count;
+        }
+    }
+
+    /// The cases that fewer pipes than this came to.
+    pub fn fewer_than(&self, least: usize) -> Vec<String> {
+        let all = Case::all().into_iter();
+        let few = all.filter(|case| self.counts.get(case).is_none_or(|&count| count < least));
+        few.map(|(case, births)| format!("{case}, births {births}"))
+            .collect()
+    }
+
+    pub fn missing(&self) -> Vec<String> {
+        self.fewer_than(1)
+    }
+
+    /// How many of all cases came up.
+    fn seen(&self) -> usize {
+        Case::all().len() - self.missing().len()
     }
 }
 
@@ -67,8 +114,8 @@ pub fn verdict(enough: bool, missing: &[String]) -> ExitCode {
 /// What a list can come to.
 fn kinds() -> Vec<Kind> {
     use Refusal::{Cut, NoMark, UnknownKind, Version};
-    use Refusal::{FullFittings, FullPipes, Length, NotLanded, Ring, SameFitting};
-    let of_pipe = [NotLanded, SameFitting, Length, FullPipes, Ring];
+    use Refusal::{FullFittings, FullPipes, Length, NotLanded, SameFitting};
+    let of_pipe = [NotLanded, SameFitting, Length, FullPipes];
     let mut kinds = vec![Kind::Whole, Kind::TooLong];
     kinds.extend([NoMark, Version, Cut].map(Kind::InHeader));
     kinds.extend([UnknownKind, Cut, FullFittings].map(Kind::InRecord));
@@ -102,6 +149,7 @@ impl fmt::Display for Tally {
         for (kind, count) in &self.counts {
             write!(f, "{kind}: {count}, ")?;
         }
+        write!(f, "cases of landing: {}, ", self.cases.seen())?;
         let (pipes, fittings) = self.largest;
         write!(f, "largest house: {fittings} fittings {pipes} pipes, ")?;
         write!(f, "most re-hung: {}", self.most_re_hung)
@@ -115,13 +163,18 @@ mod tests {
     #[test]
     fn what_was_counted_is_not_missing() {
         let mut tally = Tally::default();
-        assert_eq!(tally.missing().len(), 13);
-        for list in [&b"PNL\x01\x00"[..], b"PN", b"PNL\x01\x00P"] {
+        let (kinds, cases) = (12, 35);
+        assert_eq!(tally.missing().len(), kinds + cases);
+        let pipe = b"P\x00\x00\x01\x00\x05\x00\x00\x00";
+        let joined = [&b"PNL\x01\x00FF"[..], pipe].concat();
+        for list in [&b"PNL\x01\x00"[..], b"PN", b"PNL\x01\x00P", &joined] {
             tally.count(&Outcome::of(list));
         }
         let missing = tally.missing();
         assert_eq!(missing[..3], ["too long", "header 2", "header 3"]);
-        assert_eq!(missing.len(), 10);
+        assert_eq!(missing.len(), kinds - 3 + cases - 1);
         assert!(!missing.contains(&"record 3".to_string()));
+        assert!(!missing.contains(&"Junction to Junction Apart, births 0".to_string()));
+        assert!(missing.contains(&"Ring to Ring Same, births 1".to_string()));
     }
 }

@@ -1,4 +1,4 @@
-//! Document 01's "Values to hold", and the faults that it names as near at hand.
+//! Document 01's "Values to hold" and the faults that it names as near at hand; document 02's rings.
 
 use crate::gen::records;
 use crate::house::{House, MOST_FITTINGS, MOST_PIPES};
@@ -75,7 +75,107 @@ fn header_alone() {
 #[test]
 fn two_pipes_on_two_fittings() {
     let list = pipes(2, &[(0, 1, 10), (1, 0, 20)]);
-    assert_eq!(printed(&list), "2 1 1 0\n0 0 1 0 10\nstopped 3 24\n");
+    assert_eq!(printed(&list), "2 2 1 0\n0 0 0 2 30\n");
+    let house = grown(&list);
+    assert_eq!(house.tags(), [8193, 8192]);
+    assert_eq!(queries::reach(&house, 0), Ok((0, 30)));
+}
+
+#[test]
+fn closing_a_run_with_couplings() {
+    // Its high end gets the highest tag plus 1, its low end the lowest minus 1, whoever is named first.
+    for closing in [(0, 2), (2, 0)] {
+        let house = joined(3, &[(0, 1), (1, 2), closing]);
+        assert_eq!(house.tags(), [8191, 8192, 8193]);
+        assert_eq!((house.births(), house.re_hung()), (1, 0));
+        assert_eq!(queries::sheet(&house), [[0, 0, 0, 3, 3]]);
+    }
+    // Tags that ran downwards: 3 is the high end, 6 the low one.
+    let mut joins = vec![(1, 2), (2, 3), (1, 4), (4, 5), (5, 6), (3, 6)];
+    let house = joined(7, &joins);
+    assert_eq!(house.tags(), [0, 8191, 8192, 8193, 8190, 8189, 8188]);
+    // Tapped at 6, between pipes 4 (to 5) and 5 (to 3): up from 5, round to 3.
+    joins.push((0, 6));
+    let tags = [16_386, 16_387, 16_388, 16_385, 16_384];
+    assert_eq!(joined(7, &joins).tags()[1..6], tags);
+}
+
+#[test]
+fn the_shorter_way_round() {
+    let house = grown(&pipes(3, &[(0, 1, 5), (1, 2, 5), (2, 0, 1)]));
+    let distances = [(0, 2), (0, 1), (2, 1), (1, 1)].map(|(a, b)| queries::distance(&house, a, b));
+    assert_eq!(distances, [1, 5, 5, 0].map(|length| Ok(Some(length))));
+    let house = grown(&pipes(4, &[(0, 1, 2), (1, 2, 3), (2, 0, 9)]));
+    assert_eq!(queries::distance(&house, 0, 2), Ok(Some(5)));
+    assert_eq!(queries::distance(&house, 0, 3), Ok(None));
+}
+
+#[test]
+fn a_tapped_ring_of_two() {
+    // Pipes 0 and 1; the loop rises from pipe 0, whichever fitting is tapped.
+    let house = joined(3, &[(0, 1), (1, 0), (0, 2)]);
+    assert_eq!(house.tags(), [0, 16_384, 0]);
+    assert_eq!((house.births(), house.re_hung()), (2, 1));
+    assert_eq!(queries::sheet(&house), [[0, 0, 0, 1, 2], [2, 0, 2, 0, 1]]);
+    let lengths = [(0, 1, 10), (1, 0, 200), (2, 1, 1)];
+    let house = grown(&pipes(3, &lengths));
+    assert_eq!(house.tags(), [16_384, 0, 0]);
+    assert_eq!(queries::reach(&house, 0), Ok((10, 200)));
+}
+
+#[test]
+fn a_tap_rises_from_the_lower_numbered_pipe() {
+    let ring = [(0, 1), (1, 2), (2, 0)];
+    let tags = |tapped| {
+        joined(4, &[&ring[..], &[(tapped, 3)]].concat())
+            .tags()
+            .to_vec()
+    };
+    // Fitting 0 has pipes 0 and 2: up along pipe 0. Fitting 1 has 0 and 1, fitting 2 has 1 and 2.
+    assert_eq!(tags(0), [0, 16_384, 16_385, 0]);
+    assert_eq!(tags(1), [16_384, 0, 16_385, 0]);
+    assert_eq!(tags(2), [16_385, 16_384, 0, 0]);
+}
+
+#[test]
+fn two_fittings_of_one_ring() {
+    // A tap at the first named, one birth, and a split of the loop at the second: of five tags, three
+    // are re-hung.
+    let ring = [(0, 1), (1, 2), (2, 3), (3, 4), (4, 0)];
+    let house = joined(5, &[&ring[..], &[(1, 3)]].concat());
+    assert_eq!(house.tags(), [16_384, 0, 16_387, 0, 16_385]);
+    assert_eq!((house.births(), house.re_hung()), (2, 3));
+    let house = joined(5, &[&ring[..], &[(3, 1)]].concat());
+    assert_eq!(house.tags(), [16_386, 0, 16_384, 0, 16_387]);
+    assert_eq!((house.births(), house.re_hung()), (2, 3));
+    let lines = [[0, 1, 3, 2, 3], [1, 1, 3, 1, 2], [5, 1, 3, 0, 1]];
+    assert_eq!(queries::sheet(&house), lines);
+    // A third pipe of a ring of two: nothing is left to wear a tag.
+    let house = joined(2, &[(0, 1), (1, 0), (0, 1)]);
+    assert_eq!(house.tags(), [0, 0]);
+    assert_eq!((house.births(), house.re_hung()), (2, 0));
+}
+
+#[test]
+fn two_rings_joined() {
+    let rings = [(0, 1), (1, 0), (2, 3), (3, 2)];
+    let house = joined(4, &[&rings[..], &[(3, 0)]].concat());
+    assert_eq!(house.tags(), [0, 32_768, 24_576, 0]);
+    assert_eq!((house.births(), house.re_hung()), (4, 2));
+}
+
+#[test]
+fn a_split_birth_precedes_an_extension_birth() {
+    let ring = [(0, 1), (1, 0), (2, 3)];
+    // The free end is named first, and its run has no couplings: two births, the tap's before.
+    let house = joined(4, &[&ring[..], &[(2, 1)]].concat());
+    assert_eq!(house.tags(), [16_384, 0, 24_576, 0]);
+    // With a coupling, the run goes on with its own tags.
+    let house = joined(5, &[(0, 1), (1, 0), (2, 3), (3, 4), (4, 1)]);
+    assert_eq!(house.tags(), [24_576, 0, 0, 16_384, 16_385]);
+    // The births of a ring and of its tap, and then that of a line.
+    let house = joined(5, &[(0, 1), (1, 0), (0, 1), (2, 3), (3, 4)]);
+    assert_eq!((house.tags()[3], house.births()), (24_576, 3));
 }
 
 #[test]
@@ -118,7 +218,7 @@ fn full_and_ring_together() {
 
     let mut not_full = records.clone();
     not_full.push(ring);
-    assert_eq!(stop_of(&list::write(&not_full)), Some(Refusal::Ring));
+    assert_eq!(grown(&list::write(&not_full)).rings().len(), 1);
 
     let mut full = records;
     full.push(records::pipe(hub, 5, 1));

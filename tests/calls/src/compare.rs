@@ -71,9 +71,9 @@ pub fn drawn(seed: u64, index: usize, tally: &mut Tally) -> Result<(), Differenc
 /// All questions on one list.
 fn one(list: &[u8], random: &mut Random, tally: &mut Tally) -> Result<(), Difference> {
     let grown = Grown::of(list);
-    let fittings = grown.house().map_or(0, |house| house.fittings());
-    tally.count_list(fittings);
-    if fittings == MOST_FITTINGS {
+    let house = grown.house().ok();
+    tally.count_list(house);
+    if house.is_some_and(|house| house.fittings() == MOST_FITTINGS) {
         tally.count_stack(measure_stack(list)?);
     }
     for question in questions::of(&grown, random) {

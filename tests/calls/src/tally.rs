@@ -4,6 +4,8 @@ use std::collections::BTreeMap;
 use std::fmt;
 
 use reference::calls::{Answer, NOT_JOINED};
+use reference::house::House;
+use reference::tally::Cases;
 
 use crate::archive::Call;
 
@@ -14,15 +16,20 @@ pub struct Tally {
     /// By refusal number, 0 for an answer.
     returned: BTreeMap<i32, usize>,
     not_joined: usize,
+    cases: Cases,
     /// The number of fittings of the largest house.
     largest: usize,
     most_stack: usize,
 }
 
 impl Tally {
-    pub fn count_list(&mut self, fittings: usize) {
+    /// A list, with the house that it makes unless it stops.
+    pub fn count_list(&mut self, house: Option<&House>) {
         self.lists += 1;
-        self.largest = self.largest.max(fittings);
+        if let Some(house) = house {
+            self.cases.count(house);
+            self.largest = self.largest.max(house.fittings());
+        }
     }
 
     pub fn count_call(&mut self, call: Call, answer: &Answer, returned: i32) {
@@ -49,16 +56,18 @@ impl Tally {
         add_counts(&mut self.calls, other.calls);
         add_counts(&mut self.returned, other.returned);
         self.not_joined += other.not_joined;
+        self.cases.add(&other.cases);
         self.largest = self.largest.max(other.largest);
         self.count_stack(other.most_stack);
     }
 
-    /// The refusals that no call returned, and whether no two fittings were found not joined, and no
-    /// stack was measured.
+    /// The refusals that no call returned, the cases of landing that no pipe came to, and whether no two
+    /// fittings were found not joined, and no stack was measured.
     pub fn missing(&self) -> Vec<String> {
-        let refusals = (1..=9).chain(22..=24);
+        let refusals = (1..=9).chain([22, 23]);
         let unseen = refusals.filter(|refusal| !self.returned.contains_key(refusal));
         let mut missing: Vec<String> = unseen.map(|refusal| format!("refusal {refusal}")).collect();
+        missing.extend(self.cases.missing());
         if self.not_joined == 0 {
             missing.push("not joined".to_string());
         }

@@ -14,12 +14,16 @@ const WHOLE: &[Shape] = &[
     shapes::line_grown_downwards,
     shapes::all_cases,
     shapes::line_in_any_order,
+    shapes::tapped_rings,
+    shapes::rings_of_two_tapped,
+    closed_line,
+    shapes::ring_around,
+    shapes::rings_joined,
 ];
 
 /// Lists that stop.
 const STOPPING: &[Maker] = &[
     pipe_too_many,
-    closed_line,
     ring_too_many,
     fitting_too_many,
     fault_too_many,
@@ -41,11 +45,11 @@ fn whole(random: &mut Random, shape: Shape) -> Vec<Record> {
     whole_of(random, shape, MOST_FITTINGS)
 }
 
-/// 24: a line of all fittings that closes with the 4,096th pipe.
-pub fn closed_line(random: &mut Random) -> Vec<u8> {
-    let mut layout = shapes::line_in_any_order(random, MOST_FITTINGS);
-    layout.join(0, MOST_FITTINGS - 1);
-    list::write(&records::of(random, &layout))
+/// A line, which its last pipe closes: of all fittings, with the 4,096th.
+pub fn closed_line(random: &mut Random, size: usize) -> Layout {
+    let mut layout = shapes::line_in_any_order(random, size);
+    layout.join(0, size - 1);
+    layout
 }
 
 /// 22: as many pipes and fittings as there may be, and one fitting more.
@@ -64,7 +68,7 @@ pub fn pipe_too_many(random: &mut Random) -> Vec<u8> {
     list::write(&records::of(random, &layout))
 }
 
-/// 23 and not 24: a 4,097th pipe that would close a ring.
+/// 23: a 4,097th pipe that would close a ring.
 pub fn ring_too_many(random: &mut Random) -> Vec<u8> {
     let line = random.between(2, 50);
     let mut layout = full_layout(random, 1_000, line);
@@ -127,6 +131,7 @@ mod tests {
     use super::*;
     use crate::house::MOST_PIPES;
     use crate::list::{grow, Stop};
+    use crate::queries;
     use crate::refusal::Refusal;
 
     fn stop_of(maker: Maker, seed: u64) -> (usize, usize, Option<Refusal>) {
@@ -152,8 +157,6 @@ mod tests {
                 assert!(refusals.contains(&refusal), "{refusal:?}");
             }
         }
-        let line = (MOST_FITTINGS, MOST_PIPES - 1, Some(Refusal::Ring));
-        assert_eq!(stop_of(closed_line, 1), line);
         let full = (MOST_FITTINGS, MOST_PIPES, Some(Refusal::UnknownKind));
         assert_eq!(stop_of(kind_too_many, 1), full);
         let (fittings, _, refusal) = stop_of(fitting_too_many, 1);
@@ -171,5 +174,21 @@ mod tests {
             assert_eq!(result, Ok(()));
             assert!(house.fittings().max(house.pipes().len()) > 3_500);
         }
+    }
+
+    #[test]
+    fn full_rings() {
+        let lines = |shape, seed| {
+            let records = whole(&mut Random::new(seed), shape);
+            let (house, result) = grow(&list::write(&records));
+            assert_eq!(result, Ok(()));
+            (house.births(), queries::sheet(&house))
+        };
+        let (_, ring) = lines(closed_line, 4);
+        assert_eq!(ring.len(), 1);
+        assert_eq!(ring[0][..4], [0, 0, 0, 4_096]);
+        // Each ring of two is a birth, and so is its tap; then a loop and a run are on the sheet.
+        let (births, rings) = lines(shapes::rings_of_two_tapped, 5);
+        assert_eq!((births, rings.len()), (2 * 1_365, 2 * 1_365));
     }
 }

@@ -45,6 +45,13 @@ impl Layout {
         line
     }
 
+    /// A ring of at least two new fittings, joined in order and closed by its last pipe.
+    pub fn ring(&mut self, fittings: usize) -> Vec<usize> {
+        let ring = self.line(fittings);
+        self.join(ring[fittings - 1], ring[0]);
+        ring
+    }
+
     pub fn shuffled(mut self, random: &mut Random) -> Self {
         random.shuffle(&mut self.joins);
         self

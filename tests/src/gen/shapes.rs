@@ -24,6 +24,13 @@ const SHAPES: &[Shape] = &[
     all_cases,
     all_cases,
     side_by_side,
+    rings,
+    tapped_rings,
+    tapped_rings,
+    rings_joined,
+    rings_of_two_tapped,
+    ring_around,
+    line_grown_and_closed,
 ];
 
 pub fn any(random: &mut Random, size: usize) -> Layout {
@@ -239,6 +246,127 @@ pub fn ladder(random: &mut Random, size: usize) -> Layout {
         layout.join(one[random.below(fittings)], other[random.below(fittings)]);
     }
     layout
+}
+
+/// Rings of two to nine pipes, the pipes of all landed in any order.
+pub fn rings(random: &mut Random, size: usize) -> Layout {
+    let mut layout = Layout::default();
+    while layout.fittings < size {
+        let fittings = small_ring(random);
+        layout.ring(fittings);
+    }
+    layout.maybe_shuffled(random)
+}
+
+/// Rings closed by a pipe of theirs drawn at random, each then tapped once or more: by a fitting, by
+/// the end of a line with or without couplings, or by a pipe between two of its own.
+pub fn tapped_rings(random: &mut Random, size: usize) -> Layout {
+    let mut layout = Layout::default();
+    while layout.fittings < size {
+        let ring = shuffled_ring(random, &mut layout);
+        for _ in 0..random.between(1, 3) {
+            tap(random, &mut layout, &ring);
+        }
+    }
+    layout
+}
+
+/// A pipe to some fitting of a ring.
+fn tap(random: &mut Random, layout: &mut Layout, ring: &[usize]) {
+    let at = random.pick(ring);
+    match random.below(4) {
+        0 => {
+            layout.onward(at);
+        }
+        1 => {
+            let (one, other) = random.pair_below(ring.len());
+            layout.join(ring[one], ring[other]);
+        }
+        kind => {
+            let fittings = if kind == 2 { 2 } else { random.between(3, 5) };
+            let end = layout.line(fittings)[0];
+            layout.join(at, end);
+        }
+    }
+}
+
+/// Rings, each joined to one before it, so that one pipe taps two of them, or one and a junction.
+pub fn rings_joined(random: &mut Random, size: usize) -> Layout {
+    let mut layout = Layout::default();
+    let mut before = shuffled_ring(random, &mut layout);
+    while layout.fittings < size {
+        let ring = shuffled_ring(random, &mut layout);
+        layout.join(random.pick(&before), random.pick(&ring));
+        if !random.one_in(3) {
+            before = ring;
+        }
+    }
+    layout
+}
+
+/// Rings of two pipes, each tapped at one of its two fittings.
+pub fn rings_of_two_tapped(random: &mut Random, size: usize) -> Layout {
+    let mut layout = Layout::default();
+    for _ in 0..(size / 3).max(1) {
+        let ring = layout.ring(2);
+        let at = random.pick(&ring);
+        layout.onward(at);
+    }
+    layout
+}
+
+/// One ring of almost all fittings, tapped at the end: at either end of the tag order, or anywhere.
+pub fn ring_around(random: &mut Random, size: usize) -> Layout {
+    let mut layout = Layout::default();
+    let fittings = size.saturating_sub(1).max(2);
+    let ring = layout.line(fittings);
+    if random.one_in(2) {
+        random.shuffle(&mut layout.joins);
+    }
+    layout.join(ring[fittings - 1], ring[0]);
+    match random.below(4) {
+        0 => {}
+        1 => tap(random, &mut layout, &[ring[0], ring[fittings - 1]]),
+        2 => tap(random, &mut layout, &[ring[0], ring[1]]),
+        _ => tap(random, &mut layout, &ring),
+    }
+    layout
+}
+
+/// Lines grown from the middle to both sides, or to one, closed, and some of them tapped.
+pub fn line_grown_and_closed(random: &mut Random, size: usize) -> Layout {
+    let mut layout = Layout::default();
+    while layout.fittings < size {
+        let start = layout.line(3);
+        let mut line = start.clone();
+        let downwards = random.between(0, 4);
+        for _ in 0..random.between(0, 8) {
+            if random.below(4) < downwards {
+                line.insert(0, layout.onward(line[0]));
+            } else {
+                line.push(layout.onward(line[line.len() - 1]));
+            }
+        }
+        layout.join(line[0], line[line.len() - 1]);
+        if random.one_in(2) {
+            let ends = [line[0], line[line.len() - 1], start[1]];
+            tap(random, &mut layout, &ends);
+        }
+    }
+    layout
+}
+
+fn small_ring(random: &mut Random) -> usize {
+    random.between(2, 9).min(random.between(2, 9))
+}
+
+/// The fittings of a new ring in order; its pipes are landed in any order.
+fn shuffled_ring(random: &mut Random, layout: &mut Layout) -> Vec<usize> {
+    let before = layout.joins.len();
+    let fittings = small_ring(random);
+    let ring = layout.ring(fittings);
+    random.shuffle(&mut layout.joins[before..]);
+    ring
 }
 
 /// Pipes whose two ends are drawn by their degrees, which choose the case of landing.

@@ -16,8 +16,7 @@ pub fn any(random: &mut Random) -> Vec<u8> {
         not_landed,
         same_fitting,
         wrong_length,
-        ring,
-        ring,
+        wrong_length_of_ring,
         cut_ring,
         full_fittings,
     ] as &[Maker]);
@@ -112,28 +111,31 @@ pub fn same_fitting(random: &mut Random) -> Vec<u8> {
     with_bad_pipe(random, &records, place, (fitting, fitting, length))
 }
 
-/// A length of 0 or above 100,000, even where the pipe would close a ring.
+/// A length of 0 or above 100,000.
 pub fn wrong_length(random: &mut Random) -> Vec<u8> {
     let records = whole(random);
     let (place, landed) = place(random, &records, 2);
     let (first, second) = random.pair_below(landed);
-    let above = (LONGEST_PIPE + 1).max(random.u32());
-    let with_good_low_half = 0x0002_0001;
-    let length = random.pick(&[0, LONGEST_PIPE + 1, with_good_low_half, u32::MAX, above]);
+    let length = no_length(random);
     with_bad_pipe(random, &records, place, (first, second, length))
 }
 
-/// A pipe that closes a ring, and perhaps more after it.
-pub fn ring(random: &mut Random) -> Vec<u8> {
+fn no_length(random: &mut Random) -> u32 {
+    let above = (LONGEST_PIPE + 1).max(random.u32());
+    let with_good_low_half = 0x0002_0001;
+    random.pick(&[0, LONGEST_PIPE + 1, with_good_low_half, u32::MAX, above])
+}
+
+/// The same of a pipe that would close a ring.
+pub fn wrong_length_of_ring(random: &mut Random) -> Vec<u8> {
     let mut records = closing_a_ring(random);
-    if random.one_in(2) {
-        records.push(Record::Fitting);
-        records.push(records::pipe(0, 1, 1));
+    if let Some(Record::Pipe { length, .. }) = records.last_mut() {
+        *length = no_length(random);
     }
     list::write(&records)
 }
 
-/// 3 and not 24: the pipe that would close a ring is cut.
+/// The pipe that would close a ring is cut.
 pub fn cut_ring(random: &mut Random) -> Vec<u8> {
     let mut list = list::write(&closing_a_ring(random));
     list.truncate(list.len() - random.between(1, list::PIPE_BODY));
@@ -241,7 +243,7 @@ mod tests {
             (not_landed, Refusal::NotLanded),
             (same_fitting, Refusal::SameFitting),
             (wrong_length, Refusal::Length),
-            (ring, Refusal::Ring),
+            (wrong_length_of_ring, Refusal::Length),
             (cut_ring, Refusal::Cut),
             (full_fittings, Refusal::FullFittings),
         ] {

@@ -1,0 +1,270 @@
+//! Random series of calls over lent tables: refused calls, stopped lists, damaged tables, tables of
+//! wrong sizes and short slices included.
+
+use super::random::Random;
+use super::shapes::{self, Shape};
+use super::{full, list, records, whole_of};
+use crate::house::{House, Standing};
+use crate::lent::{Call, Command, Lent, BYTES, SIZES, SLICE};
+use crate::list::{self as lists, Record};
+use crate::queries;
+
+/// No longer list has room in the program that is asked.
+const LONGEST_LIST: usize = 65_536;
+/// A list of full size is grown then, of a kind that goes by the number of the series. The first six
+/// series have three kinds of full rings, and lists that stop with 22 and 23.
+const FULL_SIZE_TURN: usize = 20;
+const FIRST_FULL_SIZE: usize = 12;
+
+/// Shapes that leave rings standing.
+const WITH_RINGS: &[Shape] = &[
+    shapes::rings,
+    shapes::rings,
+    shapes::ring_around,
+    shapes::line_grown_and_closed,
+    shapes::tapped_rings,
+];
+
+/// What a series is drawn from.
+pub struct Source {
+    pub random: Random,
+    /// Its number among the series of a seed.
+    pub number: usize,
+    /// The seed of its lists.
+    pub lists: u64,
+}
+
+/// A few commands that go well with what the tables hold now.
+pub fn next(source: &mut Source, turn: usize, lent: &mut Lent) -> Vec<Command> {
+    let random = &mut source.random;
+    if turn == FULL_SIZE_TURN {
+        let list = full::list(random, FIRST_FULL_SIZE + source.number);
+        return vec![Command::Call(Call::Grow(list))];
+    }
+    let house = lent.house();
+    match random.below(40) {
+        0..=2 => vec![grow(source, turn), Command::Call(Call::Sheet(SLICE))],
+        3 => with_wrong_size(random, house.as_ref()),
+        4..=7 => with_damage(random, lent, house.as_ref()),
+        8 => written_back(random, house.as_ref()),
+        9..=13 => {
+            let landed = Command::Call(land(random, house.as_ref()));
+            vec![landed, Command::Call(Call::Sheet(SLICE))]
+        }
+        14..=21 => vec![Command::Call(land(random, house.as_ref()))],
+        _ => vec![Command::Call(question(random, house.as_ref()))],
+    }
+}
+
+/// A list of some kind, or of a house with rings.
+fn grow(source: &mut Source, turn: usize) -> Command {
+    let random = &mut source.random;
+    let mut list = if random.one_in(2) {
+        list(source.lists, turn)
+    } else {
+        let shape = random.pick(WITH_RINGS);
+        let size = random.between(2, 24);
+        lists::write(&whole_of(random, shape, size))
+    };
+    list.truncate(LONGEST_LIST);
+    Command::Call(Call::Grow(list))
+}
+
+/// A few records drawn from the fittings landed so far, by their degrees, and some that are refused.
+fn land(random: &mut Random, house: Option<&House>) -> Call {
+    let empty = House::default();
+    let mut after = house.unwrap_or(&empty).clone();
+    let mut landed = Vec::new();
+    for _ in 0..random.below(16) {
+        let record = record(random, &after);
+        // A refused record is not the last: nothing after it may be read.
+        let _ = lists::land_record(&mut after, record);
+        landed.push(record);
+    }
+    let mut list = lists::write(&landed);
+    match random.below(20) {
+        0 => list.truncate(random.below(list.len() + 1)),
+        1 => list.push(random.byte()),
+        2 if random.one_in(4) => list[3] = 2,
+        _ => {}
+    }
+    Call::Land(list)
+}
+
+fn record(random: &mut Random, house: &House) -> Record {
+    let fittings = house.fittings();
+    if fittings < 2 || random.one_in(5) {
+        return Record::Fitting;
+    }
+    let first = fitting_of_some_place(random, house);
+    let mut second = match house.run_from(first) {
+        // It closes a ring, if that end is free too.
+        Some(run) if random.one_in(3) && run.low() == first => run.high(),
+        Some(run) if random.one_in(3) => run.low(),
+        _ => fitting_of_some_place(random, house),
+    };
+    if first == second && !random.one_in(30) {
+        second = (first + 1) % fittings;
+    }
+    let missing = usize::from(random.one_in(40)) * fittings;
+    let length = if random.one_in(60) {
+        random.pick(&[0, 100_001])
+    } else {
+        1 + random.u32() % 500
+    };
+    records::pipe(first + missing, second, length)
+}
+
+/// A fitting of a ring, or of some standing.
+fn fitting_of_some_place(random: &mut Random, house: &House) -> usize {
+    if house.rings().is_empty() || !random.one_in(3) {
+        return fitting_of_some_standing(random, house);
+    }
+    let ring = &house.rings()[random.below(house.rings().len())];
+    random.pick(ring.fittings())
+}
+
+/// A look around finds a fitting of the standing wanted, or gives the one where it starts.
+fn fitting_of_some_standing(random: &mut Random, house: &House) -> usize {
+    use Standing::{Coupling, Free, Settled};
+    let wanted = random.pick(&[Coupling, Free, Free, Free, Settled]);
+    let start = random.below(house.fittings());
+    let around = (start..house.fittings()).chain(0..start).take(40);
+    let found = around.into_iter().find(|&at| house.standing(at) == wanted);
+    found.unwrap_or(start)
+}
+
+/// Every question, also about numbers that are no fitting and tags that are not worn.
+fn question(random: &mut Random, house: Option<&House>) -> Call {
+    let fittings = house.map_or(0, House::fittings);
+    match random.below(9) {
+        0 | 1 => Call::Find(tag(random, house)),
+        2 | 3 => Call::Reach(coupling(random, house)),
+        4 | 5 => Call::Distance(fitting(random, fittings), fitting(random, fittings)),
+        6 | 7 => {
+            let needs = house.map_or(5, |house| 5 * queries::sheet(house).len());
+            Call::Sheet(room(random, needs, SLICE))
+        }
+        _ => {
+            let needs = house.map_or(5, |house| lists::written(house).len());
+            Call::Write(room(random, needs, BYTES))
+        }
+    }
+}
+
+/// A worn tag or one beside it, or any.
+fn tag(random: &mut Random, house: Option<&House>) -> u32 {
+    let worn = house.map_or(vec![], |house| house.tags().to_vec());
+    let worn: Vec<u32> = worn.into_iter().filter(|&tag| tag != 0).collect();
+    if worn.is_empty() || random.one_in(10) {
+        return random.pick(&[0, 1, 8_192, u32::MAX]);
+    }
+    let tag = random.pick(&worn);
+    random.pick(&[tag, tag, tag, tag - 1, tag + 1])
+}
+
+/// Mostly a coupling.
+fn coupling(random: &mut Random, house: Option<&House>) -> u16 {
+    let tags = house.map_or(&[][..], House::tags);
+    let worn: Vec<usize> = (0..tags.len()).filter(|&at| tags[at] != 0).collect();
+    if worn.is_empty() || random.one_in(3) {
+        return fitting(random, tags.len());
+    }
+    u16::try_from(random.pick(&worn)).expect("16 bits")
+}
+
+fn fitting(random: &mut Random, fittings: usize) -> u16 {
+    let landed = random.below(fittings + 1);
+    let number = if random.one_in(15) {
+        random.pick(&[fittings, 4_095, 4_096, 65_535])
+    } else {
+        landed
+    };
+    u16::try_from(number).expect("16 bits")
+}
+
+/// As much as an answer needs, or less, or more.
+fn room(random: &mut Random, needs: usize, most: usize) -> usize {
+    let less = random.below(needs + 1);
+    let more = random.between(needs, most);
+    let near = [needs.saturating_sub(1), needs, needs, needs + 1];
+    random.pick(&[near[0], near[1], near[2], near[3], less, more, most])
+}
+
+/// The list is written and grown, in tables that something else was written to, and written again.
+fn written_back(random: &mut Random, house: Option<&House>) -> Vec<Command> {
+    let written = lists::written(house.unwrap_or(&House::default()));
+    let (table, place) = place(random, house);
+    vec![
+        Command::Call(Call::Write(BYTES)),
+        Command::Set(table, place, 1),
+        Command::Call(Call::Grow(written)),
+        Command::Call(Call::Write(BYTES)),
+    ]
+}
+
+/// One call of any kind.
+fn any_call(random: &mut Random, house: Option<&House>) -> Command {
+    Command::Call(match random.below(4) {
+        0 => land(random, house),
+        1 => Call::Grow(lists::header()),
+        _ => question(random, house),
+    })
+}
+
+/// Calls with a table that is too short or too long, and then with the right sizes again.
+fn with_wrong_size(random: &mut Random, house: Option<&House>) -> Vec<Command> {
+    let table = random.below(2 * SIZES.len());
+    let right = SIZES[table % SIZES.len()];
+    let wrong = random.pick(&[0, 1, right / 2, right - 1, right + 1]);
+    let mut commands = vec![Command::Lend(table, wrong)];
+    for _ in 0..random.between(1, 3) {
+        commands.push(any_call(random, house));
+    }
+    commands.push(Command::Lend(table, right));
+    commands.push(Command::Call(question(random, house)));
+    commands
+}
+
+/// Calls with one number changed. Mostly it is put back then; not so before a grow, which clears.
+fn with_damage(random: &mut Random, lent: &Lent, house: Option<&House>) -> Vec<Command> {
+    let (table, place) = place(random, house);
+    let old = lent.number(table, place);
+    let any = random.u32();
+    let new = random.pick(&[old ^ 1, old.wrapping_add(1), 0, 1, any]);
+    // The first three tables and the first three counts have 16 bits.
+    let wide = [3, 4].contains(&table) || (table == 5 && place == 3);
+    let new = if wide { new } else { new & 0xFFFF };
+    let mut commands = vec![Command::Set(table, place, new)];
+    for _ in 0..random.between(1, 2) {
+        commands.push(Command::Call(match random.below(3) {
+            0 => land(random, house),
+            _ => question(random, house),
+        }));
+    }
+    commands.push(if random.one_in(10) {
+        Command::Call(Call::Grow(lists::write(&[Record::Fitting; 3])))
+    } else {
+        Command::Set(table, place, old)
+    });
+    commands
+}
+
+/// A place in a table or in the head, mostly one that is in use or the next one.
+fn place(random: &mut Random, house: Option<&House>) -> (usize, usize) {
+    let table = random.below(6);
+    let Some(&size) = SIZES.get(table) else {
+        return (table, random.below(4));
+    };
+    let counts = house.map_or([0, 0], |house| [house.fittings(), house.pipes().len()]);
+    let used = [
+        counts[0],
+        2 * counts[0],
+        2 * counts[1],
+        counts[1],
+        counts[0],
+    ][table];
+    let near = random.below(used + 1).min(size - 1);
+    let far = random.below(size);
+    (table, random.pick(&[near, near, near, far]))
+}

@@ -1,0 +1,330 @@
+//! Calls over lent tables (document 01, "What may be called"; docs/TABLES.md).
+//!
+//! The tables are numbers in the caller's hands, which anyone may have written to. What they hold is
+//! worked out afresh before each call: refusal 21 is decided by growing their own fittings and pipes
+//! from empty and comparing.
+
+use std::fmt;
+
+use crate::house::{Fitting, House, Pipe, PipeNumber, MOST_FITTINGS, MOST_PIPES};
+use crate::list;
+use crate::queries;
+use crate::refusal::Refusal;
+
+/// Numbers of degrees, sides, ends, lengths and labels.
+pub const SIZES: [usize; 5] = [
+    MOST_FITTINGS,
+    2 * MOST_FITTINGS,
+    2 * MOST_PIPES,
+    MOST_PIPES,
+    MOST_FITTINGS,
+];
+/// The numbers of the slice that a sheet is lent a part of, and the bytes of the one that a list is
+/// written to.
+pub const SLICE: usize = 20_490;
+pub const BYTES: usize = 40_970;
+/// What the slice holds before a call.
+const SLICE_BEFORE: u32 = 77;
+/// What the tables hold at first, and always the number behind each, which is lent only where the table
+/// is lent too large.
+const TABLES_BEFORE: u32 = 9;
+
+const NOT_GROWN: u32 = 21;
+const WRONG_SIZE: u32 = 25;
+
+/// Degrees, sides, ends, lengths and labels, by their right sizes.
+pub type Tables = [Vec<u32>; 5];
+
+/// Fittings, pipes, births and the re-hung total.
+pub type Head = [u32; 4];
+
+/// The tables and the head that a house leaves.
+pub fn tables_of(house: &House) -> (Tables, Head) {
+    let mut tables = SIZES.map(|size| vec![0; size]);
+    for (number, pipe) in house.pipes().iter().enumerate() {
+        tables[2][2 * number] = number_of(pipe.first);
+        tables[2][2 * number + 1] = number_of(pipe.second);
+        tables[3][number] = pipe.length;
+    }
+    for fitting in 0..house.fittings() {
+        tables[0][fitting] = number_of(house.degree(fitting));
+        let [low, high] = sides(house, fitting);
+        tables[1][2 * fitting] = number_of(low);
+        tables[1][2 * fitting + 1] = number_of(high);
+        tables[4][fitting] = house.tags()[fitting];
+    }
+    let counts = [house.fittings(), house.pipes().len()].map(number_of);
+    let head = [counts[0], counts[1], house.births(), house.re_hung()];
+    (tables, head)
+}
+
+/// The pipes on the low and the high side of a coupling; the pipe of a free end, then 0; else 0, 0.
+fn sides(house: &House, fitting: Fitting) -> [PipeNumber; 2] {
+    let on_run = || house.run_through(fitting)?.sides(fitting);
+    let on_ring = || house.ring_through(fitting)?.sides(fitting);
+    let of_end = || {
+        let ends_here = |pipe: &Pipe| [pipe.first, pipe.second].contains(&fitting);
+        Some([house.pipes().iter().position(ends_here)?, 0])
+    };
+    let sides = match house.degree(fitting) {
+        1 => of_end(),
+        2 => on_run().or_else(on_ring),
+        _ => None,
+    };
+    sides.unwrap_or([0, 0])
+}
+
+fn number_of(count: usize) -> u32 {
+    u32::try_from(count).expect("at most 40,965")
+}
+
+/// A call by its arguments.
+#[derive(Clone, Debug)]
+pub enum Call {
+    Grow(Vec<u8>),
+    Land(Vec<u8>),
+    Find(u32),
+    Reach(u16),
+    Distance(u16, u16),
+    /// Into so many numbers.
+    Sheet(usize),
+    /// Into so many bytes.
+    Write(usize),
+}
+
+/// What is done to the tables.
+#[derive(Clone, Debug)]
+pub enum Command {
+    Call(Call),
+    /// Number `place` of a table of the register, or of the head (5), becomes this.
+    Set(usize, usize, u32),
+    /// A table is lent with this size from now on; 5 and up are the scratch.
+    Lend(usize, usize),
+}
+
+impl Command {
+    /// As tests/lent/main.rattle reads it.
+    pub fn bytes(&self) -> Vec<u8> {
+        let (kind, numbers, list) = match self {
+            Command::Set(table, place, number) => (b'X', [*table, *place, *number as usize], None),
+            Command::Lend(table, size) => (b'Z', [*table, *size, 0], None),
+            Command::Call(call) => match call {
+                Call::Grow(list) => (b'G', [list.len(), 0, 0], Some(list)),
+                Call::Land(list) => (b'L', [list.len(), 0, 0], Some(list)),
+                Call::Find(tag) => (b'F', [*tag as usize, 0, 0], None),
+                Call::Reach(fitting) => (b'R', [usize::from(*fitting), 0, 0], None),
+                Call::Distance(from, to) => (b'D', [*from, *to, 0].map(usize::from), None),
+                Call::Sheet(size) => (b'S', [*size, 0, 0], None),
+                Call::Write(size) => (b'W', [*size, 0, 0], None),
+            },
+        };
+        let mut bytes = vec![kind, 0, 0, 0];
+        for number in numbers {
+            let number = u32::try_from(number).expect("32 bits");
+            bytes.extend(number.to_le_bytes());
+        }
+        bytes.extend(list.into_iter().flatten());
+        bytes
+    }
+}
+
+/// What a call answers. Displayed, it is the line that tests/lent/main.rattle prints.
+pub struct Answer {
+    pub first: u32,
+    pub second: u32,
+    /// The refusal's number, or 0.
+    pub refusal: u32,
+    /// Numbers of the scratch that are not 0 after the call.
+    scratch: usize,
+    head: Head,
+    tables: [u64; 5],
+    slice: u64,
+}
+
+impl fmt::Display for Answer {
+    fn fmt(&self, f: &mut fmt::Formatter) -> fmt::Result {
+        write!(f, "{} {} {} ", self.first, self.second, self.refusal)?;
+        write!(f, "{}", self.scratch)?;
+        for number in self.head {
+            write!(f, " {number}")?;
+        }
+        for hash in self.tables {
+            write!(f, " {hash}")?;
+        }
+        write!(f, " {}", self.slice)
+    }
+}
+
+/// The lent tables and what their caller knows.
+pub struct Lent {
+    tables: Tables,
+    head: Head,
+    /// The lent sizes, of the register and then of the scratch.
+    sizes: [usize; 10],
+    /// The last tables and head that were grown, and the house.
+    grown: Option<(Tables, Head, Option<House>)>,
+}
+
+impl Default for Lent {
+    fn default() -> Self {
+        let [a, b, c, d, e] = SIZES;
+        Lent {
+            tables: SIZES.map(|size| vec![TABLES_BEFORE; size]),
+            head: [0; 4],
+            sizes: [a, b, c, d, e, a, b, c, d, e],
+            grown: None,
+        }
+    }
+}
+
+impl Lent {
+    pub fn number(&self, table: usize, place: usize) -> u32 {
+        match self.tables.get(table) {
+            Some(table) => table[place],
+            None => self.head[place],
+        }
+    }
+
+    pub fn set(&mut self, table: usize, place: usize, number: u32) {
+        match self.tables.get_mut(table) {
+            Some(table) => table[place] = number,
+            None => self.head[place] = number,
+        }
+    }
+
+    pub fn lend(&mut self, table: usize, size: usize) {
+        self.sizes[table] = size;
+    }
+
+    pub fn has_right_sizes(&self) -> bool {
+        self.sizes == [SIZES, SIZES].concat()[..]
+    }
+
+    /// The house that the tables hold, if growing their own fittings and pipes from empty leaves them.
+    pub fn house(&mut self) -> Option<House> {
+        if let Some((tables, head, house)) = &self.grown {
+            if (tables, head) == (&self.tables, &self.head) {
+                return house.clone();
+            }
+        }
+        let house = self
+            .grown_afresh()
+            .filter(|house| tables_of(house) == (self.tables.clone(), self.head));
+        self.grown = Some((self.tables.clone(), self.head, house.clone()));
+        house
+    }
+
+    /// The tables' own fittings and pipes, grown from empty, if nothing of them is refused.
+    fn grown_afresh(&self) -> Option<House> {
+        let [fittings, pipes] = [self.head[0], self.head[1]].map(|count| count as usize);
+        if fittings > MOST_FITTINGS || pipes > MOST_PIPES {
+            return None;
+        }
+        let mut house = House::default();
+        for _ in 0..fittings {
+            house.land_fitting().ok()?;
+        }
+        for number in 0..pipes {
+            let pipe = Pipe {
+                first: self.tables[2][2 * number] as usize,
+                second: self.tables[2][2 * number + 1] as usize,
+                length: self.tables[3][number],
+            };
+            house.land_pipe(pipe).ok()?;
+        }
+        Some(house)
+    }
+
+    /// Makes a call: 25, then 21 but not for grow, then its own refusals.
+    pub fn call(&mut self, call: &Call) -> Answer {
+        if !self.has_right_sizes() {
+            return self.answer(call, Err((0, WRONG_SIZE)), &[]);
+        }
+        if let Call::Grow(list) = call {
+            return self.land(call, House::default(), list);
+        }
+        let Some(house) = self.house() else {
+            return self.answer(call, Err((0, NOT_GROWN)), &[]);
+        };
+        let refused = |refusal: Refusal| (0, refusal.number().unsigned_abs());
+        let mut numbers = Vec::new();
+        let answered = match *call {
+            Call::Grow(_) => unreachable!("answered above"),
+            Call::Land(ref list) => return self.land(call, house, list),
+            Call::Find(tag) => queries::find(&house, tag).map(|name| (number_of(name), 0)),
+            Call::Reach(fitting) => queries::reach(&house, fitting.into()),
+            Call::Distance(from, to) => queries::distance(&house, from.into(), to.into())
+                .map(|length| length.map_or((0, 0), |length| (1, length))),
+            Call::Sheet(size) => {
+                let rows = queries::sheet(&house);
+                numbers = rows.concat();
+                fits(&mut numbers, size).map(|()| (number_of(rows.len()), 0))
+            }
+            Call::Write(size) => {
+                let bytes = list::written(&house);
+                let count = number_of(bytes.len());
+                numbers = bytes.into_iter().map(u32::from).collect();
+                fits(&mut numbers, size).map(|()| (count, 0))
+            }
+        };
+        self.answer(call, answered.map_err(refused), &numbers)
+    }
+
+    /// Lands a list and leaves the tables of what was landed.
+    fn land(&mut self, call: &Call, mut house: House, list: &[u8]) -> Answer {
+        let result = list::land(&mut house, list);
+        let (tables, head) = tables_of(&house);
+        (self.tables, self.head) = (tables.clone(), head);
+        self.grown = Some((tables, head, Some(house)));
+        let stopped = |stop: list::Stop| {
+            let refusal = stop.refusal().number().unsigned_abs();
+            (number_of(stop.record()), refusal)
+        };
+        self.answer(call, result.map(|()| (0, 0)).map_err(stopped), &[])
+    }
+
+    /// The answer to a call, with the state after it. 25 writes nothing, and no number of the scratch is
+    /// 0 before; otherwise the scratch ends all zero. The slice begins with these numbers, and its rest
+    /// is untouched.
+    fn answer(&self, call: &Call, result: Result<(u32, u32), (u32, u32)>, slice: &[u32]) -> Answer {
+        let (first, second, refusal) = match result {
+            Ok((first, second)) => (first, second, 0),
+            Err((first, refusal)) => (first, 0, refusal),
+        };
+        let all: usize = SIZES.iter().sum();
+        let room = match call {
+            Call::Sheet(_) => SLICE,
+            Call::Write(_) => BYTES,
+            _ => 0,
+        };
+        let mut numbers = vec![SLICE_BEFORE; room];
+        numbers[..slice.len()].copy_from_slice(slice);
+        Answer {
+            first,
+            second,
+            refusal,
+            scratch: if refusal == WRONG_SIZE { all } else { 0 },
+            head: self.head,
+            tables: self
+                .tables
+                .each_ref()
+                .map(|table| hash(table.iter().chain(&[TABLES_BEFORE]))),
+            slice: hash(&numbers),
+        }
+    }
+}
+
+/// Whether an answer has room in a slice of this size; if not, nothing of it is written.
+fn fits(numbers: &mut Vec<u32>, size: usize) -> Result<(), Refusal> {
+    if numbers.len() <= size {
+        return Ok(());
+    }
+    numbers.clear();
+    Err(Refusal::TooShort)
+}
+
+/// As tests/lent/main.rattle computes it.
+fn hash<'a>(numbers: impl IntoIterator<Item = &'a u32>) -> u64 {
+    let one = |hash, &number| (hash * 2_147_483_629 + u64::from(number) + 1) % 4_294_967_291;
+    numbers.into_iter().fold(0, one)
+}
