@@ -4,10 +4,6 @@ use native.Mathlib.Omega.{arith}
 use borrow.Author.Needs.{needs}
 use Rattle.pnl.proofs.answers.put_word.Statement.{statement}
 use Rattle.pnl.proofs.answers.put_word.Tie as tie
-use Rattle.pnl.proofs.answers.put_word.Reads as reads
-use Rattle.pnl.proofs.answers.put_word.Lts as lts
-use Rattle.pnl.proofs.answers.byte_of.Reads as byte-of-reads
-use Rattle.pnl.proofs.answers.put_bytes.Reads as put-bytes-reads
 
 -- src/answers.rt:59:9
 put-bytes-requires : tie.Need-put-bytes-requires
