@@ -1,24 +1,22 @@
 -- The rows of the chains and rings and the sheet, by walks over the tables and by marks.
-use mathlib.Core.Path.{_≡_, refl, sym, ap, _∙_, subst}
-use mathlib.Core.Logic.{_≢_, _⊎_, inl, inr}
+use mathlib.Core.Path.{_≡_, refl, sym, ap, _∙_}
+use mathlib.Core.Logic.{_⊎_, inl, inr}
 use Prim.Native.Nat.{ℕ, zero, suc, _+_, _≤_, _<_, min, max}
 use native.Mathlib.Omega.{arith}
 use native.Mathlib.Decide.{ℕ-discrete}
 use native.Mathlib.Nat.{not-suc-le-zero}
-use mathlib.Core.Bool.{Bool, true, false}
+use mathlib.Core.Bool.{true, false}
 use mathlib.Core.List.{List, [], _∷_, _++_, map, reverse}
 use lib.ListN.{length, getD, replicate, length-append, length-map, length-replicate, length-reverse, getD-replicate}
-use lib.Dec.{eqb}
-use borrow.Author.Tests.{eq-eqb, ne-eqb, eqb-true, eqb-false}
+use borrow.Author.Tests.{eq-eqb, ne-eqb}
 use Rattle.model.specs.Basics.{countFrom, least, maxEdges, sum, upTo}
-use Rattle.model.specs.Graph.{Chain, Edge, Pass, afterOf, atOf, chainLength, chainOf, edgeAt, endOnwards, lengthAt, lengthsOf, nameOf, edgeOnRing, onwards, openChain, ringChain, onceRound, until, walk}
+use Rattle.model.specs.Graph.{Edge, Pass, afterOf, atOf, chainLength, edgeAt, endOnwards, lengthAt, lengthsOf, nameOf, edgeOnRing, onwards, openChain, ringChain, onceRound, until, walk}
 use Rattle.model.specs.Register.{Register}
 use Rattle.model.specs.Queries.{row, rowsOf, sheet}
 use Rattle.model.specs.Tables.{Tables, countsOf, tablesOf}
 use Rattle.model.specs.Notions.{Reachable}
-use Rattle.tables.specs.Steps.{sum32}
 use Rattle.tables.proofs.Sums.{sum32-is}
-use Rattle.queries.specs.Chains.{markChainIn, namesIn, rowIn, rowsIn, sheetIn, sweepIn}
+use Rattle.queries.specs.Chains.{namesIn, rowIn, rowsIn, sheetIn, sweepIn}
 use Rattle.queries.proofs.SheetLaws.{sheet-count}
 use Rattle.model.proofs.Basics.Booleans.{true-or-false}
 use Rattle.model.proofs.Chains.Same.{chain-open, chain-ring}

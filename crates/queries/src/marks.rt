@@ -14,6 +14,15 @@ ghost use Rattle.queries.specs.Chains.{marked, markIn, unmarkedFrom, wal
 
 const MARK: u16 = 1;
 
+// Where a walk ends, how many regular vertices it passes, the lengths of the edges behind them added up, and the least of its home
+// and those vertices.
+pub struct WalkEnd {
+    pub at: u16,
+    pub inner: u16,
+    pub length: u32,
+    pub lowest: u16,
+}
+
 // The element of edge d is a mark.
 fn put_mark(marks: &mut [u16], d: u16)
     ensures { λ _. ⌜ now (marks .exit) ≡ set (now (marks .entry)) d 1 ⌝ }
@@ -46,15 +55,6 @@ pub fn mark_onwards(
         left -= 1;
     }
     w.at
-}
-
-// Where a walk ends, how many regular vertices it passes, the lengths of the edges behind them added up, and the least of its home
-// and those vertices.
-pub struct WalkEnd {
-    pub at: u16,
-    pub inner: u16,
-    pub length: u32,
-    pub lowest: u16,
 }
 
 // The same, and all that a row is made of.

@@ -2,12 +2,6 @@ use Rattle.lookups.proofs.TableLaws.{way-law}
 use borrow.Author.Needs.{needs}
 use Rattle.lookups.proofs.reach.go_along.Statement.{statement}
 use Rattle.lookups.proofs.reach.go_along.Tie as tie
-use Rattle.lookups.proofs.reach.go_along.Reads as reads
-use Rattle.lookups.proofs.reach.go_along.Lts as lts
-use Rattle.queries.proofs.walks.walk_chain.Reads as walk-chain-reads
-use Rattle.tables.proofs.access.add32.Reads as add32-reads
-use Rattle.tables.proofs.access.of32.Reads as of32-reads
-use Rattle.tables.proofs.steps.far_end.Reads as far-end-reads
 
 -- src/reach.rt:55:9
 far-end-requires : tie.Need-far-end-requires

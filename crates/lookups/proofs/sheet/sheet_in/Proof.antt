@@ -4,10 +4,6 @@ use borrow.Author.Tests.{not-true, not-false}
 use borrow.Author.Needs.{needs}
 use Rattle.lookups.proofs.sheet.sheet_in.Statement.{statement}
 use Rattle.lookups.proofs.sheet.sheet_in.Tie as tie
-use Rattle.lookups.proofs.sheet.sheet_in.Reads as reads
-use Rattle.lookups.proofs.sheet.sheet_in.Lts as lts
-use Rattle.queries.proofs.names.has_room.Reads as has-room-reads
-use Rattle.queries.proofs.rows.put_rows.Reads as put-rows-reads
 
 -- src/sheet.rt:46:9
 has-room-requires : tie.Need-has-room-requires

@@ -1,17 +1,10 @@
 use Rattle.pnl.proofs.Rows.{sheet-short, sheet-whole}
 use Rattle.pnl.proofs.Returns.{value-kept}
 use borrow.Author.Tests.{not-true, not-false}
-use native.Mathlib.Omega.{arith}
 use mathlib.Core.Path.{_∙_}
 use borrow.Author.Needs.{needs}
 use Rattle.pnl.proofs.sheet.answer_sheet.Statement.{statement}
 use Rattle.pnl.proofs.sheet.answer_sheet.Tie as tie
-use Rattle.pnl.proofs.sheet.answer_sheet.Reads as reads
-use Rattle.pnl.proofs.sheet.answer_sheet.Lts as lts
-use Rattle.pnl.proofs.answers.counted.Reads as counted-reads
-use Rattle.pnl.proofs.answers.refused.Reads as refused-reads
-use Rattle.pnl.proofs.sheet.put_sheet.Reads as put-sheet-reads
-use Rattle.queries.proofs.names.has_room.Reads as has-room-reads
 
 -- src/sheet.rt:74:40
 slice-aggregate-has-room : tie.Need-slice-aggregate-has-room

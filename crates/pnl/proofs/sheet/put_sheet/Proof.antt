@@ -7,17 +7,12 @@ use Rattle.model.specs.FromC.{bytesOf}
 use Rattle.model.specs.Queries.{concat}
 use lib.ListN.{length, length-append}
 use native.Mathlib.Omega.{arith}
-use Prim.Native.Nat.{ℕ, _-_, _≤_}
+use Prim.Native.Nat.{ℕ, _-_}
 use mathlib.Core.List.{List, [], _∷_, _++_}
-use mathlib.Core.Path.{_≡_, refl, sym, ap, _∙_}
+use mathlib.Core.Path.{_≡_, refl, ap, _∙_}
 use borrow.Author.Needs.{needs}
 use Rattle.pnl.proofs.sheet.put_sheet.Statement.{statement}
 use Rattle.pnl.proofs.sheet.put_sheet.Tie as tie
-use Rattle.pnl.proofs.sheet.put_sheet.Reads as reads
-use Rattle.pnl.proofs.sheet.put_sheet.Lts as lts
-use Rattle.pnl.proofs.sheet.put_row.Reads as put-row-reads
-use Rattle.queries.proofs.marks.next_unmarked.Reads as next-unmarked-reads
-use Rattle.queries.proofs.rows.take_row.Reads as take-row-reads
 
 abbrev Inv-loop : tie.InvT-loop
 Inv-loop out₀ degrees sides ends lengths marks₀ edges next₀ count₀ edge₀ out marks next count edge = (length out ≡ length out₀) × ((found : List ℕ) × (Sweeps degrees sides ends edges marks₀ edge marks found × ((count ≡ length found) × (page out next ≡ write (bytesOf (concat (rowsIn degrees sides ends lengths edges found))) (page out₀ 0)))))

@@ -6,12 +6,6 @@ use Rattle.print.proofs.Whole.{listing-parts}
 use borrow.Author.Needs.{needs}
 use Rattle.print.proofs.listing.put_listing.Statement.{statement}
 use Rattle.print.proofs.listing.put_listing.Tie as tie
-use Rattle.print.proofs.listing.put_listing.Reads as reads
-use Rattle.print.proofs.listing.put_listing.Lts as lts
-use Rattle.print.proofs.listing.put_sheet.Reads as put-sheet-reads
-use Rattle.print.proofs.listing.put_stop.Reads as put-stop-reads
-use Rattle.queries.proofs.names.count_chains.Reads as count-chains-reads
-use Rattle.text.proofs.lines.put_line4.Reads as put-line4-reads
 
 -- src/listing.rt:114:53
 slice-aggregate-count-chains : tie.Need-slice-aggregate-count-chains

@@ -3,9 +3,6 @@ use native.Mathlib.Omega.{arith}
 use borrow.Author.Needs.{needs}
 use Rattle.print.proofs.listing.put_row.Statement.{statement}
 use Rattle.print.proofs.listing.put_row.Tie as tie
-use Rattle.print.proofs.listing.put_row.Reads as reads
-use Rattle.print.proofs.listing.put_row.Lts as lts
-use Rattle.text.proofs.lines.put_line5.Reads as put-line5-reads
 
 -- src/listing.rt:47:9
 cast-put-line5 : tie.Need-cast-put-line5

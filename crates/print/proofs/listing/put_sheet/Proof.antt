@@ -7,17 +7,12 @@ use Rattle.text.specs.Pages.{page, write}
 use Rattle.model.specs.Printing.{lines}
 use lib.ListN.{length}
 use mathlib.Core.List.{List, [], _∷_, _++_}
-use mathlib.Core.Path.{_≡_, refl, sym, _∙_}
+use mathlib.Core.Path.{_≡_, refl, _∙_}
 use Prim.Native.Nat.{ℕ, _+_, _*_, _-_, _≤_}
 use native.Mathlib.Omega.{arith}
 use borrow.Author.Needs.{needs}
 use Rattle.print.proofs.listing.put_sheet.Statement.{statement}
 use Rattle.print.proofs.listing.put_sheet.Tie as tie
-use Rattle.print.proofs.listing.put_sheet.Reads as reads
-use Rattle.print.proofs.listing.put_sheet.Lts as lts
-use Rattle.print.proofs.listing.put_row.Reads as put-row-reads
-use Rattle.queries.proofs.marks.next_unmarked.Reads as next-unmarked-reads
-use Rattle.queries.proofs.rows.take_row.Reads as take-row-reads
 
 abbrev Inv-loop : tie.InvT-loop
 Inv-loop out₀ at degrees sides ends lengths marks₀ edges next₀ edge₀ out marks next edge = ((length out ≡ length out₀) × (next ≤ at + rowBytes * edge)) × ((found : List ℕ) × (Sweeps degrees sides ends edges marks₀ edge marks found × (page out next ≡ write (lines (rowsIn degrees sides ends lengths edges found)) (page out₀ at))))

@@ -7,11 +7,6 @@ use Rattle.queries.specs.Chains.{markIn}
 use Rattle.queries.proofs.NameLaws.{mark-none, mark-stop, mark-step}
 use Rattle.queries.proofs.marks.mark_onwards.Statement.{statement}
 use Rattle.queries.proofs.marks.mark_onwards.Tie as tie
-use Rattle.queries.proofs.marks.mark_onwards.Reads as reads
-use Rattle.queries.proofs.marks.mark_onwards.Lts as lts
-use Rattle.queries.proofs.marks.put_mark.Reads as put-mark-reads
-use Rattle.queries.proofs.walks.goes_on.Reads as goes-on-reads
-use Rattle.tables.proofs.walks.step_over.Reads as step-over-reads
 
 abbrev Inv-loop : tie.InvT-loop
 Inv-loop degrees sides ends marks₀ edge from home fuel w₀ left₀ marks w left = (length marks ≡ length marks₀) × (markIn degrees sides ends home left marks (w .edge) (w .at) ≡ markIn degrees sides ends home fuel marks₀ edge from)

@@ -1,14 +1,11 @@
 use Rattle.queries.proofs.NameLaws.{unmarked-end, unmarked-here, unmarked-on}
 use Rattle.queries.specs.Chains.{unmarkedFrom}
 use native.Mathlib.Omega.{arith}
-use Prim.Native.Nat.{_-_, _≤_}
+use Prim.Native.Nat.{_-_}
 use mathlib.Core.Path.{_≡_, refl, sym, _∙_}
 use borrow.Author.Needs.{needs}
 use Rattle.queries.proofs.marks.next_unmarked.Statement.{statement}
 use Rattle.queries.proofs.marks.next_unmarked.Tie as tie
-use Rattle.queries.proofs.marks.next_unmarked.Reads as reads
-use Rattle.queries.proofs.marks.next_unmarked.Lts as lts
-use Rattle.tables.proofs.access.of16.Reads as of16-reads
 
 abbrev Inv-loop : tie.InvT-loop
 Inv-loop marks from edges edge₀ edge = unmarkedFrom (edges - edge) marks edge ≡ unmarkedFrom (edges - from) marks from

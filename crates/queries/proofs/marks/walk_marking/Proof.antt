@@ -9,14 +9,6 @@ use borrow.Author.Tests.{not-true, not-false}
 use borrow.Author.Needs.{needs}
 use Rattle.queries.proofs.marks.walk_marking.Statement.{statement}
 use Rattle.queries.proofs.marks.walk_marking.Tie as tie
-use Rattle.queries.proofs.marks.walk_marking.Reads as reads
-use Rattle.queries.proofs.marks.walk_marking.Lts as lts
-use Rattle.queries.proofs.marks.put_mark.Reads as put-mark-reads
-use Rattle.queries.proofs.numbers.lesser.Reads as lesser-reads
-use Rattle.queries.proofs.walks.goes_on.Reads as goes-on-reads
-use Rattle.tables.proofs.access.add32.Reads as add32-reads
-use Rattle.tables.proofs.access.of32.Reads as of32-reads
-use Rattle.tables.proofs.walks.step_over.Reads as step-over-reads
 
 abbrev Inv-loop : tie.InvT-loop
 Inv-loop degrees sides ends lengths marks₀ edge from home fuel w₀ inner₀ length₀ lowest₀ left₀ marks w inner length lowest left = (list.length marks ≡ list.length marks₀) × ((inner + left ≤ fuel) × ((length ≤ 4294967295) × ((lowest ≤ home) × ((walkAhead inner length lowest (walkIn degrees sides ends lengths home left (w .edge) (w .at)) ≡ walkIn degrees sides ends lengths home fuel edge from) × (markIn degrees sides ends home left marks (w .edge) (w .at) ≡ markIn degrees sides ends home fuel marks₀ edge from)))))

@@ -1,16 +1,12 @@
 use Rattle.queries.proofs.NameLaws.{Sweeps, sweep-start, sweep-on, sweep-end, unmarked-less}
 use lib.ListN.{length, length-append}
 use native.Mathlib.Omega.{arith}
-use Prim.Native.Nat.{ℕ, _-_, _≤_}
+use Prim.Native.Nat.{ℕ, _-_}
 use mathlib.Core.List.{List, [], _∷_, _++_}
-use mathlib.Core.Path.{_≡_, refl, sym, ap, _∙_}
+use mathlib.Core.Path.{_≡_, refl, ap, _∙_}
 use borrow.Author.Needs.{needs}
 use Rattle.queries.proofs.names.count_chains.Statement.{statement}
 use Rattle.queries.proofs.names.count_chains.Tie as tie
-use Rattle.queries.proofs.names.count_chains.Reads as reads
-use Rattle.queries.proofs.names.count_chains.Lts as lts
-use Rattle.queries.proofs.marks.next_unmarked.Reads as next-unmarked-reads
-use Rattle.queries.proofs.names.mark_chain.Reads as mark-chain-reads
 
 abbrev Inv-loop : tie.InvT-loop
 Inv-loop degrees sides ends marks₀ edges count₀ edge₀ marks count edge = (found : List ℕ) × (Sweeps degrees sides ends edges marks₀ edge marks found × (count ≡ length found))

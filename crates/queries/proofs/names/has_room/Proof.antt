@@ -2,9 +2,6 @@ use Rattle.queries.proofs.NameLaws.{names-fit}
 use borrow.Author.Needs.{needs}
 use Rattle.queries.proofs.names.has_room.Statement.{statement}
 use Rattle.queries.proofs.names.has_room.Tie as tie
-use Rattle.queries.proofs.names.has_room.Reads as reads
-use Rattle.queries.proofs.names.has_room.Lts as lts
-use Rattle.queries.proofs.names.count_chains.Reads as count-chains-reads
 
 -- src/names.rt:59:9
 returns : tie.Need-returns

@@ -3,11 +3,6 @@ use Rattle.queries.proofs.NameLaws.{chain-round, chain-both}
 use borrow.Author.Needs.{needs}
 use Rattle.queries.proofs.names.mark_chain.Statement.{statement}
 use Rattle.queries.proofs.names.mark_chain.Tie as tie
-use Rattle.queries.proofs.names.mark_chain.Reads as reads
-use Rattle.queries.proofs.names.mark_chain.Lts as lts
-use Rattle.queries.proofs.marks.mark_onwards.Reads as mark-onwards-reads
-use Rattle.tables.proofs.access.at16.Reads as at16-reads
-use Rattle.tables.proofs.access.of16.Reads as of16-reads
 
 -- src/names.rt:62:13
 mul-i : tie.Need-mul-i

@@ -5,17 +5,12 @@ use Rattle.text.specs.Pages.{Page, page, write}
 use Rattle.model.specs.Queries.{concat}
 use lib.ListN.{length, length-append}
 use native.Mathlib.Omega.{arith}
-use Prim.Native.Nat.{ℕ, _-_, _≤_}
+use Prim.Native.Nat.{ℕ, _-_}
 use mathlib.Core.List.{List, [], _∷_, _++_}
-use mathlib.Core.Path.{_≡_, refl, sym, ap, _∙_}
+use mathlib.Core.Path.{_≡_, refl, ap, _∙_}
 use borrow.Author.Needs.{needs}
 use Rattle.queries.proofs.rows.put_rows.Statement.{statement}
 use Rattle.queries.proofs.rows.put_rows.Tie as tie
-use Rattle.queries.proofs.rows.put_rows.Reads as reads
-use Rattle.queries.proofs.rows.put_rows.Lts as lts
-use Rattle.queries.proofs.marks.next_unmarked.Reads as next-unmarked-reads
-use Rattle.queries.proofs.rows.put_row.Reads as put-row-reads
-use Rattle.queries.proofs.rows.take_row.Reads as take-row-reads
 
 abbrev Inv-loop : tie.InvT-loop
 Inv-loop out₀ degrees sides ends lengths marks₀ edges next₀ count₀ edge₀ out marks next count edge = (length out ≡ length out₀) × ((found : List ℕ) × (Sweeps degrees sides ends edges marks₀ edge marks found × ((count ≡ length found) × (page out next ≡ write (concat (rowsIn degrees sides ends lengths edges found)) (page out₀ 0)))))

@@ -4,14 +4,6 @@ use mathlib.Core.Path.{sym, _∙_}
 use borrow.Author.Needs.{needs}
 use Rattle.queries.proofs.rows.take_row.Statement.{statement}
 use Rattle.queries.proofs.rows.take_row.Tie as tie
-use Rattle.queries.proofs.rows.take_row.Reads as reads
-use Rattle.queries.proofs.rows.take_row.Lts as lts
-use Rattle.queries.proofs.marks.walk_marking.Reads as walk-marking-reads
-use Rattle.queries.proofs.rows.open_row.Reads as open-row-reads
-use Rattle.queries.proofs.rows.ring_row.Reads as ring-row-reads
-use Rattle.tables.proofs.access.at16.Reads as at16-reads
-use Rattle.tables.proofs.access.of16.Reads as of16-reads
-use Rattle.tables.proofs.access.of32.Reads as of32-reads
 
 -- src/rows.rt:73:13
 mul-i : tie.Need-mul-i

@@ -7,12 +7,6 @@ use borrow.Author.Tests.{not-true, not-false}
 use borrow.Author.Needs.{needs}
 use Rattle.queries.proofs.walks.walk_chain.Statement.{statement}
 use Rattle.queries.proofs.walks.walk_chain.Tie as tie
-use Rattle.queries.proofs.walks.walk_chain.Reads as reads
-use Rattle.queries.proofs.walks.walk_chain.Lts as lts
-use Rattle.queries.proofs.walks.goes_on.Reads as goes-on-reads
-use Rattle.tables.proofs.access.add32.Reads as add32-reads
-use Rattle.tables.proofs.access.of32.Reads as of32-reads
-use Rattle.tables.proofs.walks.step_over.Reads as step-over-reads
 
 abbrev Inv-loop : tie.InvT-loop
 Inv-loop degrees sides ends lengths edge from home fuel w₀ length₀ left₀ w length left = (passed : ℕ) × ((lowest : ℕ) × ((length ≤ 4294967295) × ((lowest ≤ home) × (walkAhead passed length lowest (walkIn degrees sides ends lengths home left (w .edge) (w .at)) ≡ walkIn degrees sides ends lengths home fuel edge from))))

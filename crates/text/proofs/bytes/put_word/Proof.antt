@@ -4,10 +4,6 @@ use native.Mathlib.Omega.{arith}
 use borrow.Author.Needs.{needs}
 use Rattle.text.proofs.bytes.put_word.Statement.{statement}
 use Rattle.text.proofs.bytes.put_word.Tie as tie
-use Rattle.text.proofs.bytes.put_word.Reads as reads
-use Rattle.text.proofs.bytes.put_word.Lts as lts
-use Rattle.text.proofs.bytes.byte_of.Reads as byte-of-reads
-use Rattle.text.proofs.bytes.put_bytes.Reads as put-bytes-reads
 
 -- src/bytes.rt:59:9
 put-bytes-requires : tie.Need-put-bytes-requires
