@@ -9,9 +9,10 @@ use queries::names::is_name;
 use queries::rows::count_rows;
 use queries::rows::row_at;
 use register::records::grow_list;
-use text::lines::put_line2;
+use streams::reading::MAX_LIST;
 use text::lines::put_line4;
 use text::lines::put_line5;
+use text::lines::put_stopped;
 use text::writing::put_text;
 ghost use mathlib.Core.Path.{_≡_};
 ghost use mathlib.Core.List.{[], _∷_};
@@ -24,9 +25,6 @@ ghost use Rattle.queries.specs.Chains.{rowsIn};
 ghost use Rattle.io.specs.Counts.{Counts as Counted};
 ghost use Rattle.text.specs.Pages.{page, write};
 ghost use Rattle.print.specs.Listing.{listingIn, headBytes, rowBytes, stopBytes, roomBytes};
-
-// "At most 65,536 bytes": a longer list is not read as one.
-pub const MAX_LIST: usize = 65536;
 
 // Room for any listing.
 pub const ROOM: usize = 262144;
@@ -99,8 +97,7 @@ fn put_stop(out: &mut [u8], at: usize, stop: Stop) -> usize
         Stop::Whole => at,
         Stop::Stopped(record, refusal) => {
             let number = refusal.number();
-            let next = put_text(out, at, b"stopped ");
-            put_line2(out, next, record as u64, number as u64)
+            put_stopped(out, at, record as u64, number as u64)
         }
     }
 }
