@@ -2,10 +2,10 @@
 // that it leaves. All that it writes is built by `canonical_list`.
 mod output;
 
-use output::MAX_LIST;
 use output::Output;
 use output::ROOM;
 use output::canonical_list;
+use streams::reading::MAX_LIST;
 use streams::reading::ReadAnswer;
 use streams::reading::read_list;
 use streams::writing::complain;

@@ -7,6 +7,7 @@ use counters::sizes::SIDES;
 use counters::sizes::VERTICES;
 use list::writing::put_list;
 use register::records::grow_list;
+use streams::reading::MAX_LIST;
 use text::lines::put_stopped;
 use text::writing::put_text;
 ghost use mathlib.Core.Path.{_≡_};
@@ -14,9 +15,6 @@ ghost use Prim.Native.Nat.{_≤_};
 ghost use lib.ListN.{length};
 ghost use Rattle.io.specs.Counts.{Counts as Counted};
 ghost use Rattle.canonical.specs.Output.{canonical, outputIn, roomBytes, sizeOf};
-
-// "At most 65,536 bytes", as the printing program.
-pub const MAX_LIST: usize = 65536;
 
 // Room for any list that is written.
 pub const ROOM: usize = 65536;

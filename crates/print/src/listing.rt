@@ -10,9 +10,10 @@ use queries::names::count_chains;
 use queries::rows::Row;
 use queries::rows::take_row;
 use register::records::grow_list;
-use text::lines::put_line2;
+use streams::reading::MAX_LIST;
 use text::lines::put_line4;
 use text::lines::put_line5;
+use text::lines::put_stopped;
 use text::writing::put_text;
 ghost use mathlib.Core.Path.{_≡_};
 ghost use Prim.Native.Nat.{_+_, _*_, _≤_};
@@ -25,9 +26,6 @@ ghost use Rattle.queries.specs.Chains.{sheetIn};
 ghost use Rattle.io.specs.Counts.{Counts as Counted};
 ghost use Rattle.text.specs.Pages.{page, write};
 ghost use Rattle.print.specs.Listing.{listingIn, headBytes, rowBytes, stopBytes, roomBytes};
-
-// "At most 65,536 bytes": a longer list is not read as one.
-pub const MAX_LIST: usize = 65536;
 
 // Room for any listing.
 pub const ROOM: usize = 262144;
@@ -85,8 +83,7 @@ fn put_stop(out: &mut [u8], at: usize, stop: Stop) -> usize
         Stop::Whole => at,
         Stop::Stopped(record, refusal) => {
             let number = refusal.number();
-            let next = put_text(out, at, b"stopped ");
-            put_line2(out, next, record as u64, number as u64)
+            put_stopped(out, at, record as u64, number as u64)
         }
     }
 }

@@ -1,9 +1,9 @@
 // The printing program: reads one list on standard input and prints its sheet. All that it prints is built by `print_list`.
 mod listing;
 
-use listing::MAX_LIST;
 use listing::ROOM;
 use listing::print_list;
+use streams::reading::MAX_LIST;
 use streams::reading::ReadAnswer;
 use streams::reading::read_list;
 use streams::writing::complain;

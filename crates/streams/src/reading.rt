@@ -2,6 +2,9 @@
 ghost use mathlib.Core.Path.{_≡_};
 ghost use Rattle.streams.specs.Input.{stepAfter, Held};
 
+// "At most 65,536 bytes": a longer list is not read as one.
+pub const MAX_LIST: usize = 65536;
+
 // What reading gave: so many bytes at the slice's start, or that a read failed.
 pub enum ReadAnswer {
     Bytes(usize),

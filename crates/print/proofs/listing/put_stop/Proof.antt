@@ -1,8 +1,7 @@
-use Rattle.print.proofs.Lines.{stop-line, stop-at}
+use Rattle.print.proofs.Lines.{stop-at}
 use Rattle.text.specs.Pages.{write}
-use Rattle.model.specs.Printing.{ascii, stopLine}
+use Rattle.model.specs.Printing.{stopLine}
 use native.Mathlib.Omega.{arith}
-use mathlib.Core.Path.{refl}
 use borrow.Author.Needs.{needs}
 use Rattle.print.proofs.listing.put_stop.Statement.{statement}
 use Rattle.print.proofs.listing.put_stop.Tie as tie
@@ -12,12 +11,10 @@ unfolding stopLine write
 returns c = (rw (c .enum-told .given .1), omega arith)
 
 returns-2 : tie.Need-returns-2
-unfolding ascii
 returns-2 c =
-    let at-put-text = c .before .before .before .before .before .before in
-    let at-number = at-put-text .before .before .before in
+    let at-number = c .before .before .before .before in
     let at-stop = at-number .before .before in
-    (rw (at-stop .stop .given .1, ← at-number .number .ensures) (stop-line _ _ _ _ _ _ refl (at-put-text .put-text .ensures) (c .before .before .put-line2 .ensures)), stop-at _ _ _ _ _ _ refl (omega arith) (omega (arith, at-number .number .ok)) (at-put-text .put-text .ensures) (c .before .before .put-line2 .ensures))
+    (rw (at-stop .stop .given .1, ← at-number .number .ensures) (c .before .before .put-stopped .ensures), stop-at _ _ _ _ (omega arith) (omega (arith, at-number .number .ok)) (c .before .before .put-stopped .ensures))
 
 -- the needs in the order of the code
 pub put-stop-spec : {M : Type 1} → statement M
@@ -25,8 +22,6 @@ put-stop-spec =
     tie.close
     (tie.spec
     (λ c. search needs)
-    (λ c. search needs)
-    (λ c κs. search needs)
     (λ c. search needs)
     (λ c κs. search needs)
     (λ c. search needs)
