@@ -13,7 +13,7 @@ use Rattle.model.specs.Basics.{maxEdges, maxVertices, inFront}
 use Rattle.model.specs.Register.{Register}
 use Rattle.model.specs.Queries.{Reply, concat, find, reach, sheet, sheetNumbers}
 use Rattle.model.specs.Tables.{Tables, Counts, tablesOf, cleared}
-use Rattle.model.specs.Calls.{answer, answers, effect, fills, finds, reaches, sheets, scratchAfter, sheetEffect, step}
+use Rattle.model.specs.Calls.{answer, answers, effect, fills, finds, reaches, sheets, scratchAfter, step}
 use Rattle.model.specs.Notions.{Reachable}
 use Rattle.model.proofs.Chains.Sheet.{sheet-length}
 use Rattle.model.proofs.Registers.OnlyHeld.{held-counts, held-tables}

@@ -1,7 +1,7 @@
 use Rattle.admission.proofs.QueryLaws.{query-refused}
 use Rattle.lookups.proofs.AnswerLaws.{sheet-answered}
 use Rattle.admission.specs.Gate.{gateRefusal}
-use Rattle.model.specs.Calls.{sheets, registerFor, lentSlice}
+use Rattle.model.specs.Calls.{sheets, registerFor, lentSlice, lentTo}
 use mathlib.Core.Path.{refl, sym, ap, _∙_}
 use borrow.Author.Needs.{needs}
 use Rattle.lookups.proofs.sheet.sheet.Statement.{statement}
@@ -81,7 +81,7 @@ same-length-11 c = search needs
 
 -- src/sheet.rt:73:1
 returns-2 : tie.Need-returns-2
-unfolding registerFor lentSlice
+unfolding registerFor lentSlice lentTo
 returns-2 c =
     let at-pass-gate = c .before .before .before .before .before .before .before .before .before .before .before .before .before in
     query-refused (sheets _) _ refl _ _ (ap gateRefusal (sym (c .before .passed .given .1)) ∙ at-pass-gate .pass-gate .ensures .0) (at-pass-gate .pass-gate .ensures .1)
