@@ -52,6 +52,8 @@ static void print_answer(char question)
 
     if (question == 'f')
         printf("run %" PRIu32 "\n", first);
+    else if (question == 'r' && first == 0) /* to an end of a run it is 1 mm or more */
+        printf("in a ring of %" PRIu32 " mm\n", pnl_number(answer, 1));
     else if (question == 'r')
         printf("%" PRIu32 " mm to the low end, %" PRIu32 " mm to the high end\n", first, pnl_number(answer, 1));
     else if (first == PNL_NOT_JOINED)

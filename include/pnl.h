@@ -42,8 +42,9 @@
  *   splitting  a pipe that lands on a coupling makes it a junction, without a tag; the two pieces keep their tags and sides.
  *   tapping    a pipe that lands on a fitting of a ring makes of the ring a run from that fitting round to itself, with new tags from the
  *              list's next base on: they begin at the neighbour along the lower-numbered of its two ring pipes, which is on the low side,
- *              and rise round. Every other fitting of the ring is re-hung, but for one that the same pipe makes a junction. Where the
- *              pipe's other fitting starts tags too, the tap's base comes first.
+ *              and rise round. Every other fitting of the ring is re-hung, but for one that the same pipe makes a junction. Where both
+ *              its fittings lie on rings, that of the fitting named first takes its base first; where the other starts the tags of a
+ *              run, the tap's base comes first.
  *
  * A caller finds a run by a tag that somebody read in the trench. No call gives the tag of a fitting.
  */

@@ -64,7 +64,7 @@ fn record_edge(ends: &mut [u16], lengths: &mut [u32], e: u16, a: u16, b: u16, le
 }
 
 // An edge that no refusal of `check_edge` holds of. Whether a ring may stand is carried along: a ring comes by a closing alone, so that
-// a house without one never looks for it.
+// a list grown without one never looks for it.
 fn insert_edge(
     degrees: &mut [u16],
     sides: &mut [u16],
@@ -109,8 +109,8 @@ fn insert_edge(
     Inserted::Done(after, rings || p.ring)
 }
 
-// Every refusal in its order; a refused edge leaves the tables. `rings` is to be false only where no ring stands, and then so is the
-// answer's.
+// Every refusal in its order; a refused edge leaves the tables. `rings` may be false only where no ring stands; the
+// answer's is then false only where none stands after the edge.
 pub fn land_edge(
     degrees: &mut [u16],
     sides: &mut [u16],

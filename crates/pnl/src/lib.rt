@@ -12,7 +12,7 @@ ghost use mathlib.Core.Path.{_≡_};
 ghost use Rattle.model.specs.FromC.{cSheet, cFind, cReach, cDistance};
 ghost use Rattle.pnl.specs.FromC.{returned};
 
-// Sheet: the runs by rising name, five numbers each.
+// Sheet: the runs and rings by rising name, five numbers each.
 #[no_mangle]
 pub extern "C" fn pnl_sheet(list: &[u8], answer: &mut [u8]) -> i32
     ensures { λ r. ⌜ returned (now (answer .exit)) r ≡ cSheet (now (list .entry)) (now (answer .entry)) ⌝ }
@@ -20,7 +20,7 @@ pub extern "C" fn pnl_sheet(list: &[u8], answer: &mut [u8]) -> i32
     answer_call(list, Query::Sheet, answer)
 }
 
-// Find: the name of the run whose couplings include the tag.
+// Find: the name of the run or ring whose couplings include the tag.
 #[no_mangle]
 pub extern "C" fn pnl_find(list: &[u8], tag: u32, answer: &mut [u8]) -> i32
     ensures { λ r. ⌜ returned (now (answer .exit)) r ≡ cFind (now (list .entry)) tag (now (answer .entry)) ⌝ }
@@ -28,7 +28,7 @@ pub extern "C" fn pnl_find(list: &[u8], tag: u32, answer: &mut [u8]) -> i32
     answer_call(list, Query::Find(tag), answer)
 }
 
-// Reach: the lengths from a coupling to its run's low and high end.
+// Reach: the lengths from a coupling to its run's low and high end; in a ring 0 and its length.
 #[no_mangle]
 pub extern "C" fn pnl_reach(list: &[u8], fitting: u32, answer: &mut [u8]) -> i32
     ensures { λ r. ⌜ returned (now (answer .exit)) r ≡ cReach (now (list .entry)) fitting (now (answer .entry)) ⌝ }
