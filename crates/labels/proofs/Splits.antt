@@ -11,7 +11,7 @@ use Rattle.tables.specs.declared.rings.Round.{Round}
 use Rattle.tables.specs.declared.rings.Round.the-variants.{NoRing, Ring, Shared}
 use Rattle.labels.specs.Labelling.{marksIn, relabelIn}
 use Rattle.labels.specs.Merging.{changed}
-use Rattle.labels.specs.Splitting.{bareIn, tapIn, splitBy, splitIn, leftFor, splitBothIn, splitEndsIn}
+use Rattle.labels.specs.Splitting.{bareIn, tapIn, splitBy, splitIn, leftFor, splitBothIn, splitOneIn, splitTwoIn, splitEndsIn}
 use Rattle.labels.specs.declared.splitting.Splits.{Splits}
 use Rattle.labels.specs.declared.splitting.Splits.the-variants.{Neither, One, Both}
 
@@ -54,27 +54,34 @@ unfolding splitBothIn
 both-law degrees s ends l s₁ l₁ s₂ l₂ blocks a b fuel k₁ k₂ m₁ m₂ blocks′ m sum ring₁ ring₂ ring first second left h g i j k o z =
     rw (z .0, z .1, z .2, ← h, ← g, ← i, ← j, ← k, o)
 
--- the ends that are split, where no ring stands and where one may
-module _ (degrees s ends l s′ l′ : List ℕ) (blocks a b fuel blocks′ m : ℕ) (ring rings : Bool) (splits : Splits) where
-  pub ends-neither : splits ≡ Neither → s′ ≡ s → l′ ≡ l → (blocks′ ≡ blocks) × (m ≡ 0) × (ring ≡ false)
-      → changed s′ l′ blocks′ m ring ≡ splitEndsIn splits degrees s ends l blocks a b fuel rings
-  ends-neither o g h z = rw (o, g, h, z .0, z .1, z .2)
+-- one vertex v or two, a and b, where a ring may stand and where none does
+module _ (degrees s ends l s′ l′ : List ℕ) (blocks a b fuel blocks′ m : ℕ) (ring rings : Bool) where
+  pub one-looked : rings ≡ true → changed s′ l′ blocks′ m ring ≡ splitIn degrees s ends l blocks a b fuel
+      → changed s′ l′ blocks′ m ring ≡ splitOneIn degrees s ends l blocks a b fuel rings
+  one-looked t g = rw t g
 
-  module _ (v w : ℕ) (o : splits ≡ One v w) where
-    pub ends-one : rings ≡ true → changed s′ l′ blocks′ m ring ≡ splitIn degrees s ends l blocks v w fuel
-        → changed s′ l′ blocks′ m ring ≡ splitEndsIn splits degrees s ends l blocks a b fuel rings
-    ends-one t g = rw (o, t) g
+  pub one-bare : rings ≡ false → marksIn s′ l′ 0 ≡ bareIn s l a → (blocks′ ≡ blocks) × (m ≡ 0) × (ring ≡ false)
+      → changed s′ l′ blocks′ m ring ≡ splitOneIn degrees s ends l blocks a b fuel rings
+  one-bare t g z = rw (t, z .0, z .1, z .2, ← g)
 
-    pub ends-one-bare : rings ≡ false → marksIn s′ l′ 0 ≡ bareIn s l v → (blocks′ ≡ blocks) × (m ≡ 0) × (ring ≡ false)
-        → changed s′ l′ blocks′ m ring ≡ splitEndsIn splits degrees s ends l blocks a b fuel rings
-    ends-one-bare t g z = rw (o, t, z .0, z .1, z .2, ← g)
+  pub two-looked : rings ≡ true → changed s′ l′ blocks′ m ring ≡ splitBothIn degrees s ends l blocks a b fuel
+      → changed s′ l′ blocks′ m ring ≡ splitTwoIn degrees s ends l blocks a b fuel rings
+  two-looked t g = rw t g
 
-  module _ (o : splits ≡ Both) where
-    pub ends-both : rings ≡ true → changed s′ l′ blocks′ m ring ≡ splitBothIn degrees s ends l blocks a b fuel
-        → changed s′ l′ blocks′ m ring ≡ splitEndsIn splits degrees s ends l blocks a b fuel rings
-    ends-both t g = rw (o, t) g
+  pub two-bare : (s₁ l₁ : List ℕ) → rings ≡ false → marksIn s₁ l₁ 0 ≡ bareIn s l a → marksIn s′ l′ 0 ≡ bareIn s₁ l₁ b
+      → (blocks′ ≡ blocks) × (m ≡ 0) × (ring ≡ false) → changed s′ l′ blocks′ m ring ≡ splitTwoIn degrees s ends l blocks a b fuel rings
+  two-bare s₁ l₁ t g h z = rw (t, z .0, z .1, z .2, ← g, ← h)
 
-    pub ends-both-bare : (s₁ l₁ : List ℕ) → rings ≡ false → marksIn s₁ l₁ 0 ≡ bareIn s l a → marksIn s′ l′ 0 ≡ bareIn s₁ l₁ b
-        → (blocks′ ≡ blocks) × (m ≡ 0) × (ring ≡ false)
+  -- the ends of an edge
+  module _ (splits : Splits) where
+    pub ends-neither : splits ≡ Neither → s′ ≡ s → l′ ≡ l → (blocks′ ≡ blocks) × (m ≡ 0) × (ring ≡ false)
         → changed s′ l′ blocks′ m ring ≡ splitEndsIn splits degrees s ends l blocks a b fuel rings
-    ends-both-bare s₁ l₁ t g h z = rw (o, t, z .0, z .1, z .2, ← g, ← h)
+    ends-neither o g h z = rw (o, g, h, z .0, z .1, z .2)
+
+    pub ends-one : (v w : ℕ) → splits ≡ One v w → changed s′ l′ blocks′ m ring ≡ splitOneIn degrees s ends l blocks v w fuel rings
+        → changed s′ l′ blocks′ m ring ≡ splitEndsIn splits degrees s ends l blocks a b fuel rings
+    ends-one v w o g = rw o g
+
+    pub ends-both : splits ≡ Both → changed s′ l′ blocks′ m ring ≡ splitTwoIn degrees s ends l blocks a b fuel rings
+        → changed s′ l′ blocks′ m ring ≡ splitEndsIn splits degrees s ends l blocks a b fuel rings
+    ends-both o g = rw o g

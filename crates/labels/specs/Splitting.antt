@@ -55,13 +55,20 @@ splitBothIn degrees sides ends labels blocks a b n =
     let d = splitBy (leftFor (ringIn degrees sides ends b a n)) degrees (c .sides) ends (c .labels) (c .blocks) b a in
     changed (d .sides) (d .labels) (d .blocks) (sum32 (c .relabellings) (d .relabellings)) false
 
--- the regular ends of the edge between a and b split; a ring is looked for where one may stand
-abbrev pub splitEndsIn : Splits → List ℕ → List ℕ → List ℕ → List ℕ → ℕ → ℕ → ℕ → ℕ → Bool → Changed
-splitEndsIn Neither degrees sides ends labels blocks a b n rings = changed sides labels blocks 0 false
-splitEndsIn (One v w) degrees sides ends labels blocks a b n rings =
+-- v split, and then a and b, a first; a ring is looked for where one may stand
+abbrev pub splitOneIn : List ℕ → List ℕ → List ℕ → List ℕ → ℕ → ℕ → ℕ → ℕ → Bool → Changed
+splitOneIn degrees sides ends labels blocks v w n rings =
     let c = splitBy NoRing degrees sides ends labels blocks v w in
     if rings then splitIn degrees sides ends labels blocks v w n else c
-splitEndsIn Both degrees sides ends labels blocks a b n rings =
+
+abbrev pub splitTwoIn : List ℕ → List ℕ → List ℕ → List ℕ → ℕ → ℕ → ℕ → ℕ → Bool → Changed
+splitTwoIn degrees sides ends labels blocks a b n rings =
     let c = splitBy NoRing degrees sides ends labels blocks a b in
     let d = splitBy NoRing degrees (c .sides) ends (c .labels) blocks b a in
     if rings then splitBothIn degrees sides ends labels blocks a b n else d
+
+-- the regular ends of the edge between a and b split
+abbrev pub splitEndsIn : Splits → List ℕ → List ℕ → List ℕ → List ℕ → ℕ → ℕ → ℕ → ℕ → Bool → Changed
+splitEndsIn Neither degrees sides ends labels blocks a b n rings = changed sides labels blocks 0 false
+splitEndsIn (One v w) degrees sides ends labels blocks a b n rings = splitOneIn degrees sides ends labels blocks v w n rings
+splitEndsIn Both degrees sides ends labels blocks a b n rings = splitTwoIn degrees sides ends labels blocks a b n rings

@@ -3,7 +3,7 @@
 // - the greatest key smaller than a label: `label_vertex`. It keeps no dictionary of lowest labels; a find looks for the label itself.
 // - a stored weight that a split makes false: `label_vertex`. It stores none; a reach adds up lengths.
 // - a lone regular vertex always extended upwards: `rises`.
-// - the second split in the chain as it was: `split_both` and `split_ends`.
+// - the second split in the chain as it was: `split_both` and `split_two`.
 // - the leaf's own chain split: `place_open` of insertion.
 use tables::access::at32;
 use tables::access::of16;

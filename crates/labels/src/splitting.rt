@@ -12,7 +12,7 @@ use tables::steps::put_pair;
 ghost use mathlib.Core.Path.{_≡_};
 ghost use Rattle.labels.specs.Labelling.{marksIn};
 ghost use Rattle.labels.specs.Merging.{changed};
-ghost use Rattle.labels.specs.Splitting.{bareIn, tapIn, splitBy, leftFor, splitIn, splitBothIn, splitEndsIn};
+ghost use Rattle.labels.specs.Splitting.{bareIn, tapIn, splitBy, leftFor, splitIn, splitBothIn, splitOneIn, splitTwoIn, splitEndsIn};
 
 // Vertex v loses its label and its sides. The pieces of its chain keep theirs: no other vertex is touched.
 fn bare_vertex(sides: &mut [u16], labels: &mut [u32], v: u16)
@@ -133,7 +133,52 @@ pub enum Splits {
     Both,
 }
 
-// The regular ends of the edge between a and b are split. Where no ring stands, none is looked for: each loses its label and its sides.
+// The regular vertex v is split. Where no ring stands, none is looked for: v loses its label and its sides.
+fn split_one(
+    degrees: &[u16],
+    sides: &mut [u16],
+    ends: &[u16],
+    labels: &mut [u32],
+    blocks: u16,
+    v: u16,
+    w: u16,
+    fuel: u16,
+    rings: bool,
+) -> ChainChange
+    ensures { λ r. ⌜ changed (now (sides .exit)) (now (labels .exit)) (r .blocks) (r .relabellings) (r .ring)
+        ≡ splitOneIn (now (degrees .entry)) (now (sides .entry)) (now (ends .entry)) (now (labels .entry)) blocks v w fuel rings ⌝ }
+{
+    if rings {
+        return split_chain(degrees, sides, ends, labels, blocks, v, w, fuel);
+    }
+    bare_vertex(sides, labels, v);
+    ChainChange::new(blocks, 0)
+}
+
+// The same of both ends.
+fn split_two(
+    degrees: &[u16],
+    sides: &mut [u16],
+    ends: &[u16],
+    labels: &mut [u32],
+    blocks: u16,
+    a: u16,
+    b: u16,
+    fuel: u16,
+    rings: bool,
+) -> ChainChange
+    ensures { λ r. ⌜ changed (now (sides .exit)) (now (labels .exit)) (r .blocks) (r .relabellings) (r .ring)
+        ≡ splitTwoIn (now (degrees .entry)) (now (sides .entry)) (now (ends .entry)) (now (labels .entry)) blocks a b fuel rings ⌝ }
+{
+    if rings {
+        return split_both(degrees, sides, ends, labels, blocks, a, b, fuel);
+    }
+    bare_vertex(sides, labels, a);
+    bare_vertex(sides, labels, b);
+    ChainChange::new(blocks, 0)
+}
+
+// The regular ends of the edge between a and b are split.
 pub fn split_ends(
     splits: Splits,
     degrees: &[u16],
@@ -151,20 +196,7 @@ pub fn split_ends(
 {
     match splits {
         Splits::Neither => ChainChange::new(blocks, 0),
-        Splits::One(v, w) => {
-            if rings {
-                return split_chain(degrees, sides, ends, labels, blocks, v, w, fuel);
-            }
-            bare_vertex(sides, labels, v);
-            ChainChange::new(blocks, 0)
-        }
-        Splits::Both => {
-            if rings {
-                return split_both(degrees, sides, ends, labels, blocks, a, b, fuel);
-            }
-            bare_vertex(sides, labels, a);
-            bare_vertex(sides, labels, b);
-            ChainChange::new(blocks, 0)
-        }
+        Splits::One(v, w) => split_one(degrees, sides, ends, labels, blocks, v, w, fuel, rings),
+        Splits::Both => split_two(degrees, sides, ends, labels, blocks, a, b, fuel, rings),
     }
 }
