@@ -46,7 +46,7 @@ pub fn next(source: &mut Source, turn: usize, lent: &mut Lent) -> Vec<Command> {
         0..=2 => vec![grow(source, turn), Command::Call(Call::Sheet(SLICE))],
         3 => with_wrong_size(random, house.as_ref()),
         4..=7 => with_damage(random, lent, house.as_ref()),
-        8 => written_back(random, house.as_ref()),
+        8 => written_back(source, turn, house.as_ref()),
         9..=13 => {
             let landed = Command::Call(land(random, house.as_ref()));
             vec![landed, Command::Call(Call::Sheet(SLICE))]
@@ -191,14 +191,22 @@ fn room(random: &mut Random, needs: usize, most: usize) -> usize {
     random.pick(&[near[0], near[1], near[2], near[3], less, more, most])
 }
 
-/// The list is written and grown, in tables that something else was written to, and written again.
-fn written_back(random: &mut Random, house: Option<&House>) -> Vec<Command> {
-    let written = lists::written(house.unwrap_or(&House::default()));
-    let (table, place) = place(random, house);
+/// The list is written; another house is grown, so that the tables hold something else; then the list is grown whole, and
+/// in two parts, and written after each: one register reached by three lists.
+fn written_back(source: &mut Source, turn: usize, house: Option<&House>) -> Vec<Command> {
+    let empty = House::default();
+    let house = house.unwrap_or(&empty);
+    let written = lists::written(house);
+    let cut = 5 + house.fittings() + 9 * source.random.below(house.pipes().len() + 1);
+    let rest = [&lists::header()[..], &written[cut..]].concat();
     vec![
         Command::Call(Call::Write(BYTES)),
-        Command::Set(table, place, 1),
-        Command::Call(Call::Grow(written)),
+        grow(source, turn),
+        Command::Call(Call::Grow(written.clone())),
+        Command::Call(Call::Write(BYTES)),
+        grow(source, turn + 1),
+        Command::Call(Call::Grow(written[..cut].to_vec())),
+        Command::Call(Call::Land(rest)),
         Command::Call(Call::Write(BYTES)),
     ]
 }
