@@ -1,24 +1,23 @@
 -- One edge more, which meets one vertex of a ring: "the ring becomes a loop run at it" (document 02, S-2), a chain with the same edges from
 -- this vertex to itself.
-use mathlib.Core.Path.{_≡_, refl, sym, _∙_, subst}
+use mathlib.Core.Path.{_≡_, refl, sym, subst}
 use mathlib.Core.Logic.{_≢_, inl, inr}
 use Prim.Native.Nat.{ℕ, _<_}
 use native.Mathlib.Omega.{arith}
 use mathlib.Core.Bool.{true, false}
 use mathlib.Core.List.{List, [], _∷_, _++_, map, List·Memᴰ as Mem, List·Memᴰ·head as at-head, List·Memᴰ·tail as in-tail}
 use lib.ListN.{length}
-use Rattle.model.specs.Graph.{Chain, Edge, Pass, atOf, chainOf, degree, edgeAt, edgeOnRing, endsAt, far, isRegular, onceRound}
+use Rattle.model.specs.Graph.{Chain, Edge, Pass, atOf, chainOf, degree, edgeAt, edgeOnRing, endsAt, isRegular, onceRound}
 use Rattle.model.specs.Notions.{SameChain, SameEdges, reversed}
 use Rattle.model.proofs.Walks.Degree.{Proper, degree-snoc, is-two, not-regular, proper-snoc}
 use Rattle.model.proofs.Walks.Turn.{At, some-edge}
 use Rattle.model.proofs.Walks.Joins.{across}
-use Rattle.model.proofs.Walks.Trail.{Trail}
 use Rattle.model.proofs.Walks.Places.{off-mem}
 use Rattle.model.proofs.Walks.Snoc.{Clear, far-old, trail-old}
 use Rattle.model.proofs.Walks.NewEdge.{at-new}
 use Rattle.model.proofs.Walks.Round.{Round, ring-round}
 use Rattle.model.proofs.Walks.Loops.{SameLoop, loop-both, loop-regular, loop-ring, loopEdges, loopInner, loops-same}
-use Rattle.model.proofs.Chains.Same.{Line, chain-of-line, lineChain, lineEdges, same-back, same-mem}
+use Rattle.model.proofs.Chains.Same.{Line, chain-of-line, lineChain, same-back, same-mem}
 use Rattle.model.proofs.Chains.Partition.{first-at, own-round, ring-edges, ring-inner}
 
 clear-of : (p : Edge) (ss : List Pass) → ((x : ℕ) → Mem x (map atOf ss) → endsAt x p ≡ 0) → Clear p ss
