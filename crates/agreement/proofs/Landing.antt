@@ -6,24 +6,24 @@ use Prim.Native.Nat.{ℕ, _+_, _≤_, _<_}
 use native.Mathlib.Omega.{arith}
 use mathlib.Core.Bool.{Bool, true, false, not, _&&_, _||_}
 use mathlib.Core.List.{List, [], _∷_, _++_}
+use mathlib.Core.Option.{Option, none, some}
 use lib.ListN.{length, set}
 use lib.Dec.{eqb, leb, ltb}
-use borrow.Author.Tests.{eqb-false, leb-false, ltb-true, not-false}
 use Rattle.model.specs.Basics.{if_then_else_, maxEdges, maxLength}
 use Rattle.model.specs.Graph.{Edge}
 use Rattle.model.specs.Cases.{closesRing}
 use Rattle.model.specs.Labels.{labelEdge, relabelCount}
-use Rattle.model.specs.Register.{Landed, Register, landEdge, landed, marksOf, refused, withEdge}
+use Rattle.model.specs.Register.{Landed, Register, edgeRefusal, landEdge, landed, marksOf, refused, withEdge}
 use Rattle.model.specs.Tables.{Counts, Tables, countsOf, tablesOf}
 use Rattle.model.specs.Notions.{Reachable}
 use Rattle.tables.specs.Steps.{more16, setPair, sum32}
 use Rattle.tables.proofs.Sums.{more16-is, sum32-is}
 use Rattle.model.proofs.Registers.Equality.{counts-parts, tables-parts}
 use Rattle.insertion.specs.Placing.{Placed, placedBy}
-use Rattle.insertion.specs.Insertion.{CheckIn, LandingIn, checkIn, done, failed, insertIn, landChecked, landIn, landingIn, refusedIn}
-use Rattle.model.proofs.Basics.Booleans.{and-true}
+use Rattle.insertion.specs.Insertion.{CheckIn, LandingIn, checkIn, done, failed, insertIn, landChecked, landIn, landingIn, passed, refusedIn}
 use Rattle.model.proofs.Walks.NewEdge.{length-new}
 use Rattle.model.proofs.Registers.Small.{total-small}
+use Rattle.model.proofs.Registers.Accepted.{unrefused}
 use Rattle.agreement.proofs.Lists.{ends-stored, lengths-stored}
 use Rattle.agreement.proofs.Relabelled.{relabelled-most}
 use Rattle.agreement.proofs.Tables.{degrees-are, linked-sides}
@@ -102,33 +102,39 @@ module _ (r : Register) (e : Edge) (rings : Bool) (g : Reachable r) (warns : War
 
 -- ---- with every refusal, in its order
 
+-- what the code's check comes to, by the model's refusal
+abbrev checkedAs : Edge → Option ℕ → CheckIn
+checkedAs e (some x) = failed x
+checkedAs e none = passed (e .len)
+
+checked-if : (e : Edge) (b : Bool) (x : ℕ) (c : CheckIn) (o : Option ℕ) → c ≡ checkedAs e o → (if b then failed x else c) ≡ checkedAs e (if b then some x else o)
+checked-if e true x c o h = refl
+checked-if e false x c o h = h
+
+check-agrees : (r : Register) (e : Edge) → checkIn (countsOf r) e ≡ checkedAs e (edgeRefusal r e)
+unfolding checkIn edgeRefusal countsOf
+check-agrees r e =
+    checked-if e (not (ltb (e .first) (r .vertices) && ltb (e .second) (r .vertices))) 5 _ _
+    (checked-if e (eqb (e .first) (e .second)) 6 _ _
+    (checked-if e (eqb (e .len) 0 || ltb maxLength (e .len)) 7 _ _
+    (checked-if e (leb maxEdges (length (r .edges))) 23 _ _ refl)))
+
 module _ (r : Register) (e : Edge) (rings : Bool) where
   abbrev shown : Landed → LandingIn
   shown l = shownIn r (ringsAfter r rings e) l
 
-  same-if : (b : Bool) (n : ℕ) (x : CheckIn) (y : Landed) → (b ≡ false → landChecked (tablesOf r) (countsOf r) rings e x ≡ shown y)
-      → landChecked (tablesOf r) (countsOf r) rings e (if b then failed n else x) ≡ shown (if b then refused n else y)
-  unfolding shownIn
-  same-if true n x y h = refl
-  same-if false n x y h = h refl
-
   module _ (g : Reachable r) (warns : Warns rings (r .edges)) where
-    last-agrees : e .first < r .vertices → e .second < r .vertices → e .first ≢ e .second → length (r .edges) < maxEdges
-        → insertIn (tablesOf r) (countsOf r) rings e ≡ shown (landed (withEdge r e))
+    by-refusal : (o : Option ℕ) → edgeRefusal r e ≡ o
+        → landChecked (tablesOf r) (countsOf r) rings e (checkedAs e o) ≡ shown (elim o [ some x ↦ refused x | none ↦ landed (withEdge r e) ])
     unfolding shownIn
-    last-agrees fa fb df rm = inserts-agree r e rings g warns fa fb df rm
+    by-refusal (some x) q = refl
+    by-refusal none q =
+        let a = unrefused r e q in
+        inserts-agree r e rings g warns (a .lawful .first-landed) (a .lawful .second-landed) (a .lawful .differ) (a .room)
 
     pub land-agrees : landIn (tablesOf r) (countsOf r) rings e ≡ shownIn r (ringsAfter r rings e) (landEdge r e)
-    unfolding landIn checkIn landEdge countsOf
-    land-agrees =
-        same-if (not (ltb (e .first) (r .vertices) && ltb (e .second) (r .vertices))) 5 _ _ (λ h₅.
-        same-if (eqb (e .first) (e .second)) 6 _ _ (λ h₆.
-        same-if (eqb (e .len) 0 || ltb maxLength (e .len)) 7 _ _ (λ h₇.
-        same-if (leb maxEdges (length (r .edges))) 23 _ _ (λ h₂₃.
-        last-agrees (ltb-true _ _ (ends h₅ .0)) (ltb-true _ _ (ends h₅ .1)) (eqb-false _ _ h₆) (leb-false _ _ h₂₃)))))
-      where
-        ends : not (ltb (e .first) (r .vertices) && ltb (e .second) (r .vertices)) ≡ false → (ltb (e .first) (r .vertices) ≡ true) × (ltb (e .second) (r .vertices) ≡ true)
-        ends h = and-true (ltb (e .first) (r .vertices)) (ltb (e .second) (r .vertices)) (not-false _ h)
+    unfolding landIn landEdge
+    land-agrees = ap (landChecked (tablesOf r) (countsOf r) rings e) (check-agrees r e) ∙ by-refusal (edgeRefusal r e) refl
 
     -- .. in two parts, for a function that goes on by the answer
     pub edge-parts : (l : Landed) → landEdge r e ≡ l → let shows = shownIn r (ringsAfter r rings e) l in

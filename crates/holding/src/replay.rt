@@ -5,23 +5,24 @@ use counters::refusals::Refusal;
 use insertion::landing::Inserted;
 use insertion::landing::land_edge;
 use tables::access::at16;
-use tables::access::of32;
+use tables::access::at32;
 use tables::whole::clear_tables;
 use tables::whole::same_tables;
 ghost use mathlib.Core.Path.{_≡_};
-ghost use mathlib.Core.Bool.{false};
 ghost use Rattle.counters.specs.Answers.{countsIn};
 ghost use Rattle.tables.specs.Steps.{tables, zeroed, Tells};
 ghost use Rattle.insertion.specs.Insertion.{landingIn};
 ghost use Rattle.insertion.specs.Meaning.{answerIn};
 ghost use Rattle.holding.specs.Replay.{replayIn, regrowIn, Regrows};
 
-// The first edges of the tables of ends and lengths, landed on other tables, on which no ring stands.
-fn replay(
+// So many edges of the tables of ends and lengths, from number `first` on, landed on other tables; rings: a ring may stand on these.
+pub fn replay(
     ownends: &[u16],
     ownlengths: &[u32],
+    first: u16,
     number: u16,
     from: Counts,
+    rings: bool,
     degrees: &mut [u16],
     sides: &mut [u16],
     ends: &mut [u16],
@@ -29,13 +30,13 @@ fn replay(
     labels: &mut [u32],
 ) -> Inserted
     ensures { λ r. ⌜ landingIn (tables (now (degrees .exit)) (now (sides .exit)) (now (ends .exit)) (now (lengths .exit)) (now (labels .exit))) (answerIn r)
-        ≡ replayIn (now (ownends .entry)) (now (ownlengths .entry)) number 0
-        (tables (now (degrees .entry)) (now (sides .entry)) (now (ends .entry)) (now (lengths .entry)) (now (labels .entry))) (countsIn from) false ⌝ }
+        ≡ replayIn (now (ownends .entry)) (now (ownlengths .entry)) number first
+        (tables (now (degrees .entry)) (now (sides .entry)) (now (ends .entry)) (now (lengths .entry)) (now (labels .entry))) (countsIn from) rings ⌝ }
 {
     let mut counts = from;
-    let mut rings = false;
-    let mut i: usize = 0;
-    let mut edge: u16 = 0;
+    let mut ringed = rings;
+    let mut i: usize = 2 * (first as usize);
+    let mut edge: usize = first as usize;
     let mut left = number;
     while 0 < left {
         let inserted = land_edge(
@@ -47,13 +48,13 @@ fn replay(
             counts,
             at16(ownends, i),
             at16(ownends, i + 1),
-            of32(ownlengths, edge),
-            rings,
+            at32(ownlengths, edge),
+            ringed,
         );
         match inserted {
             Inserted::Done(next, then) => {
                 counts = next;
-                rings = then;
+                ringed = then;
             }
             Inserted::Refused(refusal) => {
                 return inserted;
@@ -63,11 +64,11 @@ fn replay(
         edge += 1;
         left -= 1;
     }
-    Inserted::Done(counts, rings)
+    Inserted::Done(counts, ringed)
 }
 
 // As many edges as the counts say, landed on tables that come cleared, after as many vertices.
-fn regrow(
+pub fn regrow(
     ownends: &[u16],
     ownlengths: &[u32],
     own: Counts,
@@ -93,8 +94,10 @@ fn regrow(
     replay(
         ownends,
         ownlengths,
+        0,
         own.edges,
         from,
+        false,
         degrees,
         sides,
         ends,

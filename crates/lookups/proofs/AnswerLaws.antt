@@ -9,7 +9,7 @@ use lib.ListN.{length, replicate, take, length-replicate}
 use lib.Seq.{take-length}
 use lib.Dec.{ltb}
 use borrow.Author.Tests.{ltb-false}
-use Rattle.model.specs.Basics.{maxEdges, maxVertices, inFront}
+use Rattle.model.specs.Basics.{maxEdges, maxVertices, inFront, rowSize}
 use Rattle.model.specs.Register.{Register}
 use Rattle.model.specs.Queries.{Reply, concat, find, reach, sheet, sheetNumbers}
 use Rattle.model.specs.Tables.{Tables, Counts, tablesOf, cleared}
@@ -59,7 +59,7 @@ numbers-are r = refl
 pub sheet-answers : (t : Tables) (c : Counts) (m n : ℕ) (counting marks xs ys : List ℕ) (a : Reply) → maxEdges ≤ m → maxEdges ≤ n
     → counting ≡ replicate m 0 → marks ≡ replicate n 0 → sheeted ys a ≡ sheetedIn t c counting marks xs → Answers (sheets xs) t c ys a
 unfolding effect answer fills sheetedIn
-sheet-answers t c m n counting marks xs ys a l o p q h r k = go (ltb (length xs) (5 * length (sheet r))) refl
+sheet-answers t c m n counting marks xs ys a l o p q h r k = go (ltb (length xs) (rowSize * length (sheet r))) refl
   where
     rows-are : sheetIn (t .degrees) (t .sides) (t .ends) (t .lengths) (c .edges) marks ≡ sheet r
     rows-are = rw (← q, held-tables k, held-counts k) at (sheet-agrees r (k .reachable) n o)
@@ -67,14 +67,14 @@ sheet-answers t c m n counting marks xs ys a l o p q h r k = go (ltb (length xs)
     count : length (namesIn (t .degrees) (t .sides) (t .ends) (c .edges) counting) ≡ length (sheet r)
     count = rw (← p, held-tables k, held-counts k) at (names-counted r (k .reachable) m l)
 
-    go : (b : Bool) → ltb (length xs) (5 * length (sheet r)) ≡ b
+    go : (b : Bool) → ltb (length xs) (rowSize * length (sheet r)) ≡ b
         → effect (sheets xs) r ≡ record { leaves = r; slice = ys; reply = a }
     go true e =
         let q = rw (count, e) at h in
         rw (sheet-length r, e, ap (λ (x : Sheeted). x .slice) q, ap (λ (x : Sheeted). x .reply) q)
     go false e =
         let q = rw (count, rows-are, numbers-are r, e) at h in
-        let fits : length (sheetNumbers r) ≤ length xs = omega (arith, sheet-length r, ltb-false (length xs) (5 * length (sheet r)) e) in
+        let fits : length (sheetNumbers r) ≤ length xs = omega (arith, sheet-length r, ltb-false (length xs) (rowSize * length (sheet r)) e) in
         let front : ys ≡ inFront (sheetNumbers r) xs = ap (λ (x : Sheeted). x .slice) q ∙ write-front (sheetNumbers r) xs _ _ fits refl in
         rw (sheet-length r, e, front, ap (λ (x : Sheeted). x .reply) q)
 

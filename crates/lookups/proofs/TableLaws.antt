@@ -8,6 +8,7 @@ use mathlib.Core.List.{List}
 use lib.ListN.{length, getD}
 use lib.Dec.{leb}
 use borrow.Author.Tests.{eq-eqb, ne-eqb, leb-true, leb-false, lt-ltb, le-ltb}
+use Rattle.model.specs.Basics.{rowSize}
 use Rattle.model.specs.Queries.{concat, found, reached, listed, refuses}
 use Rattle.model.specs.Tables.{Tables, Counts}
 use Rattle.tables.specs.Steps.{farIn, sum32}
@@ -66,20 +67,20 @@ module _ (t : Tables) (c : Counts) where
   -- ---- sheet
 
   module _ (counting marks xs : List ℕ) (fits : Bool)
-      (room : fits ≡ leb (length (namesIn (t .degrees) (t .sides) (t .ends) (c .edges) counting)) (length xs / 5)) where
+      (room : fits ≡ leb (length (namesIn (t .degrees) (t .sides) (t .ends) (c .edges) counting)) (length xs / rowSize)) where
     chains : ℕ
     chains = length (namesIn (t .degrees) (t .sides) (t .ends) (c .edges) counting)
 
     pub sheet-short : fits ≡ false → sheeted xs (refuses 9) ≡ sheetedIn t c counting marks xs
     unfolding sheetedIn chains
     sheet-short h =
-        let l : length xs < 5 * chains = omega (arith, leb-false chains (length xs / 5) (sym room ∙ h)) in
-        rw (lt-ltb (length xs) (5 * chains) l)
+        let l : length xs < rowSize * chains = omega (arith, leb-false chains (length xs / rowSize) (sym room ∙ h)) in
+        rw (lt-ltb (length xs) (rowSize * chains) l)
 
     pub sheet-whole : (k : ℕ) (ys : List ℕ) → fits ≡ true → k ≡ length (namesIn (t .degrees) (t .sides) (t .ends) (c .edges) marks)
         → ys ≡ (write (concat (sheetIn (t .degrees) (t .sides) (t .ends) (t .lengths) (c .edges) marks)) (page xs 0)) .slice
         → sheeted ys (listed k) ≡ sheetedIn t c counting marks xs
     unfolding sheetedIn chains
     sheet-whole k ys h e f =
-        let l : 5 * chains ≤ length xs = omega (arith, leb-true chains (length xs / 5) (sym room ∙ h)) in
-        rw (le-ltb (length xs) (5 * chains) l, f, e, sheet-count (t .degrees) (t .sides) (t .ends) (t .lengths) (c .edges) marks)
+        let l : rowSize * chains ≤ length xs = omega (arith, leb-true chains (length xs / rowSize) (sym room ∙ h)) in
+        rw (le-ltb (length xs) (rowSize * chains) l, f, e, sheet-count (t .degrees) (t .sides) (t .ends) (t .lengths) (c .edges) marks)

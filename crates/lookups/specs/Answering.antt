@@ -3,7 +3,7 @@ use Prim.Native.Nat.{ℕ, _*_}
 use mathlib.Core.List.{List}
 use lib.ListN.{length}
 use lib.Dec.{ltb}
-use Rattle.model.specs.Basics.{if_then_else_}
+use Rattle.model.specs.Basics.{if_then_else_, rowSize}
 use Rattle.model.specs.Queries.{Reply, concat, listed, refuses}
 use Rattle.model.specs.Tables.{Tables, Counts}
 use Rattle.queries.specs.Chains.{namesIn, sheetIn}
@@ -22,5 +22,5 @@ unfoldable pub sheetedIn : Tables → Counts → List ℕ → List ℕ → List 
 sheetedIn t c counting marks xs =
     let counted = length (namesIn (t .degrees) (t .sides) (t .ends) (c .edges) counting) in
     let rows = sheetIn (t .degrees) (t .sides) (t .ends) (t .lengths) (c .edges) marks in
-    if ltb (length xs) (5 * counted) then sheeted xs (refuses 9)
+    if ltb (length xs) (rowSize * counted) then sheeted xs (refuses 9)
     else sheeted ((write (concat rows) (page xs 0)) .slice) (listed (length rows))

@@ -4,6 +4,7 @@ use admission::gate::pass_gate;
 use counters::counts::Counts;
 use counters::refusals::Refusal;
 use queries::names::has_room;
+use queries::rows::ROW;
 use queries::rows::put_rows;
 use tables::whole::clear16;
 ghost use mathlib.Core.Path.{_≡_};
@@ -16,9 +17,6 @@ ghost use Rattle.tables.specs.Steps.{tables};
 ghost use Rattle.admission.specs.Lent.{lent, outcome};
 ghost use Rattle.lookups.specs.Meaning.{listedReply};
 ghost use Rattle.lookups.specs.Answering.{sheeted, sheetedIn};
-
-// The numbers of a row.
-const ROW: usize = 5;
 
 // How many chains have their rows in the slice.
 pub enum Listed {

@@ -6,6 +6,7 @@ use counters::refusals::Refusal;
 use counters::sizes::EDGES;
 use queries::marks::next_unmarked;
 use queries::names::has_room;
+use queries::rows::ROW;
 use queries::rows::Row;
 use queries::rows::take_row;
 ghost use mathlib.Core.Path.{_≡_};
@@ -18,8 +19,8 @@ ghost use Rattle.queries.specs.Chains.{namesIn, sheetIn};
 ghost use Rattle.text.specs.Pages.{page, write};
 ghost use Rattle.pnl.specs.FromC.{returned};
 
-// Five numbers of four bytes.
-const ROW_BYTES: usize = 20;
+// Four bytes a number.
+const ROW_BYTES: usize = 4 * ROW;
 
 fn put_row(out: &mut [u8], at: usize, row: Row) -> usize
     ensures { λ r. ⌜ page (now (out .exit)) r ≡ write (bytesOf (rowOf row)) (page (now (out .entry)) at) ⌝ }

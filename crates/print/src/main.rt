@@ -1,8 +1,6 @@
 // The printing program: reads one list on standard input and prints its sheet. All that it prints is built by `print_list`.
-mod listing;
-
-use listing::ROOM;
-use listing::print_list;
+use listing::listing::ROOM;
+use listing::listing::print_list;
 use streams::reading::MAX_LIST;
 use streams::reading::ReadAnswer;
 use streams::reading::read_list;

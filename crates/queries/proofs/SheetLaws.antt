@@ -7,6 +7,7 @@ use native.Mathlib.Omega.{arith}
 use borrow.Author.Tests.{eq-eqb, ne-eqb}
 use lib.ListN.{length, getD, length-map, length-append}
 use lib.Dec.{eqb}
+use Rattle.model.specs.Basics.{rowSize}
 use Rattle.model.specs.Queries.{concat}
 use Rattle.tables.specs.Steps.{sum32}
 use Rattle.text.specs.Pages.{Page, write}
@@ -58,31 +59,31 @@ module _ (ds ss es ls : List ℕ) (n : ℕ) where
     unfolding sheetIn
     put-all cs ms p₀ p e a = rw (← e) a
 
-  -- a row a name, of five numbers
+  -- a row a name, of so many numbers
   rows-count : (cs : List ℕ) → length (rowsIn ds ss es ls n cs) ≡ length cs
   unfolding rowsIn
   rows-count cs = length-map cs (rowIn ds ss es ls n)
 
-  row-five : (c : ℕ) → length (rowIn ds ss es ls n c) ≡ 5
+  row-size : (c : ℕ) → length (rowIn ds ss es ls n c) ≡ rowSize
   unfolding rowIn
-  row-five c = go (walkIn ds ss es ls (getD es (2 * c) 0) n c (getD es (2 * c + 1) 0)) refl
+  row-size c = go (walkIn ds ss es ls (getD es (2 * c) 0) n c (getD es (2 * c + 1) 0)) refl
     where
-      go : (w : WalkEnd) → walkIn ds ss es ls (getD es (2 * c) 0) n c (getD es (2 * c + 1) 0) ≡ w → length (rowIn ds ss es ls n c) ≡ 5
+      go : (w : WalkEnd) → walkIn ds ss es ls (getD es (2 * c) 0) n c (getD es (2 * c + 1) 0) ≡ w → length (rowIn ds ss es ls n c) ≡ rowSize
       go w e = by (eqb (getD ds (w .at) 0) 2) refl
         where
-          by : (b : Bool) → eqb (getD ds (w .at) 0) 2 ≡ b → length (rowIn ds ss es ls n c) ≡ 5
+          by : (b : Bool) → eqb (getD ds (w .at) 0) 2 ≡ b → length (rowIn ds ss es ls n c) ≡ rowSize
           by true q = rw (e, q)
           by false q = rw (e, q)
 
-  rows-fives : (cs : List ℕ) → length (concat (rowsIn ds ss es ls n cs)) ≡ 5 * length cs
+  rows-size : (cs : List ℕ) → length (concat (rowsIn ds ss es ls n cs)) ≡ rowSize * length cs
   unfolding rowsIn concat
-  rows-fives [] = refl
-  rows-fives (x ∷ xs) = omega (arith, row-five x, length-append (rowIn ds ss es ls n x) (concat (map (rowIn ds ss es ls n) xs)), rows-fives xs)
+  rows-size [] = refl
+  rows-size (x ∷ xs) = omega (arith, row-size x, length-append (rowIn ds ss es ls n x) (concat (map (rowIn ds ss es ls n) xs)), rows-size xs)
 
   pub sheet-count : (ms : List ℕ) → length (sheetIn ds ss es ls n ms) ≡ length (namesIn ds ss es n ms)
   unfolding sheetIn
   sheet-count ms = rows-count (namesIn ds ss es n ms)
 
-  pub sheet-fives : (ms : List ℕ) → length (concat (sheetIn ds ss es ls n ms)) ≡ 5 * length (namesIn ds ss es n ms)
+  pub sheet-size : (ms : List ℕ) → length (concat (sheetIn ds ss es ls n ms)) ≡ rowSize * length (namesIn ds ss es n ms)
   unfolding sheetIn
-  sheet-fives ms = rows-fives (namesIn ds ss es n ms)
+  sheet-size ms = rows-size (namesIn ds ss es n ms)

@@ -29,6 +29,9 @@ pub struct Row {
     pub length: u32,
 }
 
+// The numbers of a row.
+pub const ROW: usize = 5;
+
 // The row of a ring, by a walk round it from one end of its edge to the other.
 fn ring_row(edge: u16, own: u32, on: WalkEnd) -> Row
     ensures { λ r. ⌜ rowOf r ≡ edge ∷ on .lowest ∷ on .lowest ∷ (1 + on .inner) ∷ sum32 own (on .length) ∷ [] ⌝ }

@@ -13,13 +13,13 @@ use Rattle.holding.proofs.replay.replay.Tie as tie
 
 -- the edges left leave what all leave; i is twice the edge's number; the tables keep their lengths
 abbrev Inv-loop : tie.InvT-loop
-Inv-loop ownends ownlengths number degrees₀ sides₀ ends₀ lengths₀ labels₀ counts₀ rings₀ i₀ edge₀ left₀ degrees sides ends lengths labels counts rings i edge left =
-    ((edge + left ≤ 65535) × (i ≡ 2 * edge)) × (SameLengths degrees₀ sides₀ ends₀ lengths₀ labels₀ degrees sides ends lengths labels
-    × (replayIn ownends ownlengths left edge (tables degrees sides ends lengths labels) (countsIn counts) rings
-    ≡ replayIn ownends ownlengths left₀ edge₀ (tables degrees₀ sides₀ ends₀ lengths₀ labels₀) (countsIn counts₀) rings₀))
+Inv-loop ownends ownlengths first number rings degrees₀ sides₀ ends₀ lengths₀ labels₀ counts₀ ringed₀ i₀ edge₀ left₀ degrees sides ends lengths labels counts ringed i edge left =
+    ((edge + left ≤ 131070) × (i ≡ 2 * edge)) × (SameLengths degrees₀ sides₀ ends₀ lengths₀ labels₀ degrees sides ends lengths labels
+    × (replayIn ownends ownlengths left edge (tables degrees sides ends lengths labels) (countsIn counts) ringed
+    ≡ replayIn ownends ownlengths left₀ edge₀ (tables degrees₀ sides₀ ends₀ lengths₀ labels₀) (countsIn counts₀) ringed₀))
 
 abbrev μ-loop : tie.MeasureT-loop
-μ-loop ownends ownlengths number degrees₀ sides₀ ends₀ lengths₀ labels₀ counts₀ rings₀ i₀ edge₀ left₀ degrees sides ends lengths labels counts rings i edge left = left
+μ-loop ownends ownlengths first number rings degrees₀ sides₀ ends₀ lengths₀ labels₀ counts₀ ringed₀ i₀ edge₀ left₀ degrees sides ends lengths labels counts ringed i edge left = left
 
 loop-holds : tie.Need-loop-holds Inv-loop μ-loop
 loop-holds c = ((omega arith, omega arith), (same-refl _ _ _ _ _, refl))
@@ -62,12 +62,12 @@ same-length-5 c =
 returns : tie.Need-returns Inv-loop μ-loop
 returns c =
     let at-land-edge = c .before .before .before .before .before .before .before .before .before .before .before .before .before in
-    let at-of32 = at-land-edge .before in
-    let at-at162 = at-of32 .before in
+    let at-at32 = at-land-edge .before in
+    let at-at162 = at-at32 .before in
     let at-at16 = at-at162 .before in
     let at-loop-test = at-at16 .before .before .before .before .before .before in
     let at-loop = at-loop-test .before in
-    replay-refused _ _ _ _ _ _ _ _ _ _ _ _ (at-loop-test .loop-test .taken) (at-loop .loop .inv .0 .1) (at-at16 .at16 .ensures) (at-at162 .at162 .ensures) (at-of32 .of32 .ensures) _ (at-land-edge .land-edge .ensures) _
+    replay-refused _ _ _ _ _ _ _ _ _ _ _ _ (at-loop-test .loop-test .taken) (at-loop .loop .inv .0 .1) (at-at16 .at16 .ensures) (at-at162 .at162 .ensures) (at-at32 .at32 .ensures) _ (at-land-edge .land-edge .ensures) _
     (ap answerIn (c .before .inserted2 .given .1)) ∙ at-loop .loop .inv .1 .1
 
 add-i : tie.Need-add-i Inv-loop μ-loop
@@ -95,15 +95,15 @@ loop-less c =
 loop-again : tie.Need-loop-again Inv-loop μ-loop
 loop-again c =
     let at-land-edge = c .before .before .before .before .before .before .before .before .before .before .before .before .before in
-    let at-of32 = at-land-edge .before in
-    let at-at162 = at-of32 .before in
+    let at-at32 = at-land-edge .before in
+    let at-at162 = at-at32 .before in
     let at-at16 = at-at162 .before in
     let at-loop-test = at-at16 .before .before .before .before .before .before in
     let at-loop = at-loop-test .before in (
       (omega (arith, at-loop .loop .inv .0 .0, at-loop-test .loop-test .taken), omega (arith, at-loop .loop .inv .0 .1)),
       (
         same-on (at-land-edge .land-edge .kept) (at-loop .loop .inv .1 .0),
-        sym (replay-on _ _ _ _ _ _ _ _ _ _ _ _ (at-loop-test .loop-test .taken) (at-loop .loop .inv .0 .1) (at-at16 .at16 .ensures) (at-at162 .at162 .ensures) (at-of32 .of32 .ensures) _ (at-land-edge .land-edge .ensures) _ _
+        sym (replay-on _ _ _ _ _ _ _ _ _ _ _ _ (at-loop-test .loop-test .taken) (at-loop .loop .inv .0 .1) (at-at16 .at16 .ensures) (at-at162 .at162 .ensures) (at-at32 .at32 .ensures) _ (at-land-edge .land-edge .ensures) _ _
             (ap answerIn (c .before .inserted .given .1))) ∙ at-loop .loop .inv .1 .1,
       ),
     )
@@ -133,6 +133,7 @@ replay-spec =
     (tie.spec
     Inv-loop
     μ-loop
+    (λ c. search needs)
     loop-holds
     (λ c κs. search needs)
     add-at16

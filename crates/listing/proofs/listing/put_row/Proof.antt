@@ -1,8 +1,8 @@
-use Rattle.print.proofs.Lines.{line-at}
+use Rattle.listing.proofs.Lines.{line-at}
 use native.Mathlib.Omega.{arith}
 use borrow.Author.Needs.{needs}
-use Rattle.print.proofs.listing.put_row.Statement.{statement}
-use Rattle.print.proofs.listing.put_row.Tie as tie
+use Rattle.listing.proofs.listing.put_row.Statement.{statement}
+use Rattle.listing.proofs.listing.put_row.Tie as tie
 
 -- src/listing.rt:47:9
 cast-put-line5 : tie.Need-cast-put-line5

@@ -1,11 +1,11 @@
-use Rattle.print.proofs.Whole.{too-long, prints}
+use Rattle.listing.proofs.Whole.{too-long, prints}
 use Rattle.model.specs.Tables.{cleared}
 use Rattle.model.specs.Printing.{ascii}
 use native.Mathlib.Omega.{arith}
 use mathlib.Core.Path.{refl}
 use borrow.Author.Needs.{needs}
-use Rattle.print.proofs.listing.print_list.Statement.{statement}
-use Rattle.print.proofs.listing.print_list.Tie as tie
+use Rattle.listing.proofs.listing.print_list.Statement.{statement}
+use Rattle.listing.proofs.listing.print_list.Tie as tie
 
 returns : tie.Need-returns
 unfolding ascii

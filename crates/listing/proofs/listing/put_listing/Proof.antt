@@ -1,11 +1,11 @@
 use mathlib.Core.Path.{sym, _∙_}
 use native.Mathlib.Omega.{arith}
 use Rattle.queries.proofs.SheetLaws.{sheet-count}
-use Rattle.print.proofs.Lines.{line-at}
-use Rattle.print.proofs.Whole.{listing-parts}
+use Rattle.listing.proofs.Lines.{line-at}
+use Rattle.listing.proofs.Whole.{listing-parts}
 use borrow.Author.Needs.{needs}
-use Rattle.print.proofs.listing.put_listing.Statement.{statement}
-use Rattle.print.proofs.listing.put_listing.Tie as tie
+use Rattle.listing.proofs.listing.put_listing.Statement.{statement}
+use Rattle.listing.proofs.listing.put_listing.Tie as tie
 
 -- src/listing.rt:114:53
 slice-aggregate-count-chains : tie.Need-slice-aggregate-count-chains

@@ -1,5 +1,5 @@
-use Rattle.print.proofs.Lines.{row-lines}
-use Rattle.print.specs.Listing.{rowBytes}
+use Rattle.listing.proofs.Lines.{row-lines}
+use Rattle.listing.specs.Listing.{rowBytes}
 use Rattle.queries.proofs.SheetLaws.{put-none, put-on, put-all}
 use Rattle.queries.proofs.NameLaws.{Sweeps, sweep-start, sweep-on, sweep-end, unmarked-less}
 use Rattle.queries.specs.Chains.{rowsIn}
@@ -11,8 +11,8 @@ use mathlib.Core.Path.{_≡_, refl, _∙_}
 use Prim.Native.Nat.{ℕ, _+_, _*_, _-_, _≤_}
 use native.Mathlib.Omega.{arith}
 use borrow.Author.Needs.{needs}
-use Rattle.print.proofs.listing.put_sheet.Statement.{statement}
-use Rattle.print.proofs.listing.put_sheet.Tie as tie
+use Rattle.listing.proofs.listing.put_sheet.Statement.{statement}
+use Rattle.listing.proofs.listing.put_sheet.Tie as tie
 
 abbrev Inv-loop : tie.InvT-loop
 Inv-loop out₀ at degrees sides ends lengths marks₀ edges next₀ edge₀ out marks next edge = ((length out ≡ length out₀) × (next ≤ at + rowBytes * edge)) × ((found : List ℕ) × (Sweeps degrees sides ends edges marks₀ edge marks found × (page out next ≡ write (lines (rowsIn degrees sides ends lengths edges found)) (page out₀ at))))

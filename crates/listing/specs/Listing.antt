@@ -2,6 +2,7 @@
 use Prim.Native.Nat.{ℕ, _+_, _*_}
 use mathlib.Core.List.{List, [], _∷_, _++_}
 use lib.ListN.{length}
+use Rattle.model.specs.Basics.{rowSize}
 use Rattle.model.specs.Format.{Stop}
 use Rattle.model.specs.Printing.{line, lines, stopLine}
 use Rattle.model.specs.Tables.{Counts}
@@ -18,7 +19,7 @@ abbrev pub headBytes : ℕ
 headBytes = 4 * fieldBytes
 
 abbrev pub rowBytes : ℕ
-rowBytes = 5 * fieldBytes
+rowBytes = rowSize * fieldBytes
 
 -- the word, a 64-bit number and the space behind it, and a refusal's number
 abbrev pub stopBytes : ℕ

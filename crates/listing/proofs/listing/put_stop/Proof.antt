@@ -1,10 +1,10 @@
-use Rattle.print.proofs.Lines.{stop-at}
+use Rattle.listing.proofs.Lines.{stop-at}
 use Rattle.text.specs.Pages.{write}
 use Rattle.model.specs.Printing.{stopLine}
 use native.Mathlib.Omega.{arith}
 use borrow.Author.Needs.{needs}
-use Rattle.print.proofs.listing.put_stop.Statement.{statement}
-use Rattle.print.proofs.listing.put_stop.Tie as tie
+use Rattle.listing.proofs.listing.put_stop.Statement.{statement}
+use Rattle.listing.proofs.listing.put_stop.Tie as tie
 
 returns : tie.Need-returns
 unfolding stopLine write

@@ -21,7 +21,7 @@ use Rattle.register.proofs.Growing.{list-leaves}
 use Rattle.io.specs.Counts.{Counts as Counted}
 use Rattle.text.specs.Pages.{Page, page, write}
 use Rattle.text.proofs.PageLaws.{write-two, write-at, write-fits, write-room}
-use Rattle.print.specs.Listing.{listingIn, headBytes, rowBytes, stopBytes, roomBytes}
+use Rattle.listing.specs.Listing.{listingIn, headBytes, rowBytes, stopBytes, roomBytes}
 
 -- the four numbers, the sheet and the stop, one after the other
 pub listing-parts : (c : Counts) (rows : List (List ℕ)) (a : Stop) (k : ℕ) (p q r s : Page) → k ≡ length rows

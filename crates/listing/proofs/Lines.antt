@@ -11,7 +11,7 @@ use Rattle.text.specs.Pages.{Page, write}
 use Rattle.text.proofs.PageLaws.{write-at}
 use Rattle.text.proofs.Decimal.{Small, line-length}
 use Rattle.text.proofs.LineLaws.{stop-length}
-use Rattle.print.specs.Listing.{fieldBytes, stopBytes}
+use Rattle.listing.specs.Listing.{fieldBytes, stopBytes}
 
 pub row-lines : RowByRow line lines
 unfolding lines

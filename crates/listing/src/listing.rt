@@ -25,7 +25,7 @@ ghost use Rattle.queries.specs.Answers.{rowOf};
 ghost use Rattle.queries.specs.Chains.{sheetIn};
 ghost use Rattle.io.specs.Counts.{Counts as Counted};
 ghost use Rattle.text.specs.Pages.{page, write};
-ghost use Rattle.print.specs.Listing.{listingIn, headBytes, rowBytes, stopBytes, roomBytes};
+ghost use Rattle.listing.specs.Listing.{listingIn, headBytes, rowBytes, stopBytes, roomBytes};
 
 // Room for any listing.
 pub const ROOM: usize = 262144;
