@@ -11,7 +11,6 @@ pub mod Meeting
 pub mod Splitting
 pub mod SplittingBoth
 pub mod Standing
-pub mod Costs
 pub mod Opening
 pub mod Extending
 pub mod Joining
@@ -19,7 +18,6 @@ pub mod Merging
 pub mod Closing
 pub mod Registers
 pub mod Tables
-pub mod TapCosts
 pub mod Placing
 pub mod Cases
 pub mod Inserting
