@@ -7,7 +7,7 @@ use mathlib.Core.Bool.{true, false}
 use mathlib.Core.List.{List, _∷_, map, List·Memᴰ as Mem, List·Memᴰ·head as at-head, List·Memᴰ·tail as in-tail}
 use lib.ListN.{length, length-map}
 use Rattle.model.specs.Basics.{least, sum}
-use Rattle.model.specs.Graph.{Chain, Edge, afterOf, chainLength, lengthsOf, atOf, chainOf, edgeAt, isRegular, edgeOnRing, ringChain, onceRound}
+use Rattle.model.specs.Graph.{Chain, Edge, afterOf, chainLength, chainVolume, lengthsOf, volumeAt, volumeSum, atOf, chainOf, edgeAt, isRegular, edgeOnRing, ringChain, onceRound}
 use Rattle.model.specs.Notions.{IsRing, NoTwice, SameRing}
 use Rattle.model.proofs.Walks.Degree.{Proper}
 use Rattle.model.proofs.Walks.Turn.{At}
@@ -134,12 +134,15 @@ module _ (es : List Edge) (pr : Proper es) where
       starts : c .start ≡ (chainOf es d) .start
       starts = same-lowest c (chainOf es d) k own inner-on inner-back′
 
-  -- and has as many vertices as it, and its length
-  pub ring-row : (c : Chain) (d : ℕ) → IsRing es c → Mem d (c .edges) → (length (c .inner) ≡ length ((chainOf es d) .inner)) × (sum (lengthsOf es (c .edges)) ≡ chainLength es d)
-  unfolding chainLength afters
+  -- and has as many vertices as it, its length and its volume
+  pub ring-row : (c : Chain) (d : ℕ) → IsRing es c → Mem d (c .edges) → (length (c .inner) ≡ length ((chainOf es d) .inner))
+      × (sum (lengthsOf es (c .edges)) ≡ chainLength es d) × (volumeSum (map (volumeAt es) (c .edges)) ≡ chainVolume es d)
+  unfolding chainLength chainVolume afters
   ring-row c d k m = (
     ap length (l .inner-are) ∙ loop-count (l .edge) (l .from) ∙ sums .length-is ∙ sym (loop-count d v) ∙ sym (ap length (ring-inner es pr d t)),
     ap (λ (z : List ℕ). sum (lengthsOf es z)) (l .edges-are) ∙ sums .sum-is ∙ sym (ap (λ (z : List ℕ). sum (lengthsOf es z)) (ring-edges es pr d t)),
+    ap (λ (z : List ℕ). volumeSum (map (volumeAt es) z)) (l .edges-are) ∙ sums .volume-is
+        ∙ sym (ap (λ (z : List ℕ). volumeSum (map (volumeAt es) z)) (ring-edges es pr d t)),
   )
     where
       l : AsLoop c
