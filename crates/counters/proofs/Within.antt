@@ -1,12 +1,13 @@
--- The three ways out of a test of bounds, and what its answer tells.
+-- The three ways out of a test of bounds, and what its answer tells; and the three of a volume.
 use mathlib.Core.Path.{_≡_, refl, sym}
 use Prim.Native.Nat.{ℕ, _≤_, _<_}
 use native.Mathlib.Omega.{arith}
 use mathlib.Core.Bool.{Bool, true, false, _&&_}
 use mathlib.Core.Option.{none, some, Option·some-injective, Option·some-ne-none}
 use lib.Dec.{leb}
-use borrow.Author.Tests.{le-leb, lt-leb, leb-false}
-use Rattle.counters.specs.Numbers.{within}
+use borrow.Author.Tests.{eq-eqb, ne-eqb, le-leb, lt-leb, leb-false}
+use Rattle.model.specs.Basics.{maxVolume}
+use Rattle.counters.specs.Numbers.{within, known, unknown, outOfRange, volumeOf}
 
 pub within-yes : (low high n : ℕ) → low ≤ n → n ≤ high → some n ≡ within low high n
 unfolding within
@@ -35,3 +36,17 @@ within-none high n e = go (leb n high) refl
     go : (b : Bool) → leb n high ≡ b → high < n
     go true q = absurd (Option·some-ne-none n (sym (rw (le-leb 0 n (omega arith), q) at e)))
     go false q = leb-false n high q
+
+-- ---- a volume
+
+pub volume-unknown : (n : ℕ) → n < 1 → unknown ≡ volumeOf n
+unfolding volumeOf
+volume-unknown n h = rw (eq-eqb n 0 (omega arith))
+
+pub volume-known : (n : ℕ) → 1 ≤ n → n ≤ maxVolume → known n ≡ volumeOf n
+unfolding volumeOf
+volume-known n l h = rw (ne-eqb n 0 (λ e. omega arith), le-leb n maxVolume h)
+
+pub volume-above : (n : ℕ) → maxVolume < n → outOfRange ≡ volumeOf n
+unfolding volumeOf
+volume-above n h = rw (ne-eqb n 0 (λ e. omega arith), lt-leb n maxVolume h)

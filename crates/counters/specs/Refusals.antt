@@ -1,12 +1,12 @@
--- Document 01, "Refusals from the input" and "Refusals from the state": the number of each.
+-- Document 01, "Refusals from the input" and "Refusals from the state", and document 02, "Errors": the number of each.
 use Prim.Native.Nat.{ℕ}
 use Rattle.counters.specs.declared.refusals.Refusal.{Refusal}
-use Rattle.counters.specs.declared.refusals.Refusal.the-variants.{NoMark, Version, Cut, UnknownKind, NotLanded, SameVertex, Length, NotRegular, ShortSlice, NotGrown, TooManyVertices, TooManyEdges, WrongSize}
+use Rattle.counters.specs.declared.refusals.Refusal.the-variants.{NoMark, Version, Cut, UnknownKind, NotLanded, SameVertex, Length, NotRegular, ShortSlice, NotGrown, TooManyVertices, TooManyEdges, WrongSize, Volume}
 
 abbrev pub numberOf : Refusal → ℕ
 -- "no mark (list shorter than 3 or other bytes)"
 numberOf NoMark = 1
--- "version not 1"
+-- "version not 1"; document 02, S-4: "2 now means neither 1 nor 2"
 numberOf Version = 2
 -- "cut within header or record"
 numberOf Cut = 3
@@ -30,3 +30,5 @@ numberOf TooManyVertices = 22
 numberOf TooManyEdges = 23
 -- "a table of the wrong size"
 numberOf WrongSize = 25
+-- document 02, S-4: "volume above 1,000,000"
+numberOf Volume = 31

@@ -1,8 +1,8 @@
-// A fitting number, a tag and a length in millimetres: three types, so that none stands where another is expected. Each has its
-// bounds, and a constructor that tests them, on a number that is wide enough to be out of them.
+// A fitting number, a tag, a length in millimetres and a volume in millilitres: four types, so that none stands where another is expected.
+// Each has its bounds, and a constructor that tests them, on a number that is wide enough to be out of them.
 ghost use mathlib.Core.Path.{_≡_};
 ghost use Prim.Native.Nat.{_-_, _^_};
-ghost use Rattle.counters.specs.Numbers.{within, vertexIn, labelIn, millimetresIn};
+ghost use Rattle.counters.specs.Numbers.{within, volumeOf, vertexIn, labelIn, millimetresIn, millilitresIn};
 ghost use Rattle.model.specs.Basics.{maxVertices, maxLength};
 
 // Document 01's fitting number, from 0.
@@ -74,5 +74,35 @@ impl Millimetres {
             return CheckedMillimetres::Is(Millimetres(n));
         }
         CheckedMillimetres::OutOfRange
+    }
+}
+
+// The volume of one pipe, if it is known.
+pub struct Millilitres(pub u32);
+
+pub enum CheckedMillilitres {
+    Known(Millilitres),
+    Unknown,
+    OutOfRange,
+}
+
+impl Millilitres {
+    // What stands for a volume that is not known.
+    pub const UNKNOWN: u32 = 0;
+
+    pub const MIN: u32 = Millilitres::UNKNOWN + 1;
+
+    pub const MAX: u32 = 1000000;
+
+    pub fn new(n: u32) -> CheckedMillilitres
+        ensures { λ r. ⌜ millilitresIn r ≡ volumeOf n ⌝ }
+    {
+        if n < Millilitres::MIN {
+            return CheckedMillilitres::Unknown;
+        }
+        if n <= Millilitres::MAX {
+            return CheckedMillilitres::Known(Millilitres(n));
+        }
+        CheckedMillilitres::OutOfRange
     }
 }

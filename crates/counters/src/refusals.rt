@@ -1,4 +1,4 @@
-// Document 01's refusals; document 02 withdraws 24. A definition, `numberOf`, gives the number of each.
+// Document 01's refusals, and 31 of document 02, which withdraws 24. A definition, `numberOf`, gives the number of each.
 ghost use mathlib.Core.Path.{_≡_};
 ghost use Rattle.counters.specs.Refusals.{numberOf};
 
@@ -16,6 +16,7 @@ pub enum Refusal {
     TooManyVertices,
     TooManyEdges,
     WrongSize,
+    Volume,
 }
 
 impl Refusal {
@@ -36,6 +37,7 @@ impl Refusal {
             Refusal::TooManyVertices => 22,
             Refusal::TooManyEdges => 23,
             Refusal::WrongSize => 25,
+            Refusal::Volume => 31,
         }
     }
 }
