@@ -27,17 +27,18 @@ byte-in b at bs h = sym (write-in b [] bs at h)
 
 -- ---- a list
 
-pub header-law : (word : List ℕ) (p q r : Page) → word ≡ 0x50 ∷ 0x4E ∷ 0x4C ∷ [] → q ≡ write word p → r ≡ write (bytes2 1) q
+pub header-law : (word : List ℕ) (p q r : Page) → word ≡ 0x50 ∷ 0x4E ∷ 0x4C ∷ [] → q ≡ write word p → r ≡ write (bytes2 2) q
     → r ≡ write header p
 unfolding header
-header-law word p q r w e f = write-two (0x50 ∷ 0x4E ∷ 0x4C ∷ []) (bytes2 1) p q r (rw w at e) f
+header-law word p q r w e f = write-two (0x50 ∷ 0x4E ∷ 0x4C ∷ []) (bytes2 2) p q r (rw w at e) f
 
-pub edge-law : (a b len : ℕ) (p q r s t : Page) → q ≡ write (0x50 ∷ []) p → r ≡ write (bytes2 a) q → s ≡ write (bytes2 b) r
-    → t ≡ write (bytes4 len) s → t ≡ write (edgeBytes (record { first = a; second = b; len = len })) p
+pub edge-law : (a b len volume : ℕ) (p q r s t u : Page) → q ≡ write (0x50 ∷ []) p → r ≡ write (bytes2 a) q → s ≡ write (bytes2 b) r
+    → t ≡ write (bytes4 len) s → u ≡ write (bytes4 volume) t
+    → u ≡ write (edgeBytes (record { first = a; second = b; len = len; volume = volume })) p
 unfolding edgeBytes
-edge-law a b len p q r s t e₁ e₂ e₃ e₄ =
-    write-two (0x50 ∷ bytes2 a) (bytes2 b ++ bytes4 len) p r t (write-two (0x50 ∷ []) (bytes2 a) p q r e₁ e₂)
-    (write-two (bytes2 b) (bytes4 len) r s t e₃ e₄)
+edge-law a b len volume p q r s t u e₁ e₂ e₃ e₄ e₅ =
+    write-two (0x50 ∷ bytes2 a) (bytes2 b ++ (bytes4 len ++ bytes4 volume)) p r u (write-two (0x50 ∷ []) (bytes2 a) p q r e₁ e₂)
+    (write-two (bytes2 b) (bytes4 len ++ bytes4 volume) r s u e₃ (write-two (bytes4 len) (bytes4 volume) s t u e₄ e₅))
 
 -- a loop that writes one byte n times: a turn of it, and its end
 pub copies-on : (x k : ℕ) (p q : Page) → 0 < k → q ≡ write (x ∷ []) p → write (replicate (k - 1) x) q ≡ write (replicate k x) p

@@ -1,4 +1,4 @@
-// The parts of a list: its header, vertices (document 01: fittings), an edge (pipe).
+// The parts of a list, in version 2: its header, vertices (document 01: fittings), an edge (pipe).
 use crate::bytes::put_u16;
 use crate::bytes::put_word;
 use crate::writing::put_byte;
@@ -8,7 +8,7 @@ ghost use lib.ListN.{replicate};
 ghost use Rattle.model.specs.Format.{edgeBytes, header};
 ghost use Rattle.text.specs.Pages.{page, write};
 
-const VERSION: u16 = 1;
+const VERSION: u16 = 2;
 
 const VERTEX: u8 = 0x46;
 
@@ -33,12 +33,20 @@ pub fn put_vertices(out: &mut [u8], at: usize, n: u16) -> usize
     next
 }
 
-pub fn put_edge(out: &mut [u8], at: usize, first: u16, second: u16, length: u32) -> usize
+pub fn put_edge(
+    out: &mut [u8],
+    at: usize,
+    first: u16,
+    second: u16,
+    length: u32,
+    volume: u32,
+) -> usize
     ensures { λ r. ⌜ page (now (out .exit)) r
-        ≡ write (edgeBytes (record { first = first; second = second; len = length })) (page (now (out .entry)) at) ⌝ }
+        ≡ write (edgeBytes (record { first = first; second = second; len = length; volume = volume })) (page (now (out .entry)) at) ⌝ }
 {
     let ends = put_byte(out, at, EDGE);
     let other = put_u16(out, ends, first);
     let millimetres = put_u16(out, other, second);
-    put_word(out, millimetres, length)
+    let millilitres = put_word(out, millimetres, length);
+    put_word(out, millilitres, volume)
 }
