@@ -10,10 +10,10 @@ use Rattle.model.specs.Basics.{if_then_else_}
 use Rattle.model.specs.Graph.{Edge}
 use Rattle.model.specs.Tables.{Tables, Counts, Stored, edgeIn, edgesIn}
 
--- the five tables as one record
-abbrev pub tables : List ℕ → List ℕ → List ℕ → List ℕ → List ℕ → Tables
-tables degrees sides ends lengths labels =
-    record { degrees = degrees; sides = sides; ends = ends; lengths = lengths; labels = labels }
+-- the six tables as one record
+abbrev pub tables : List ℕ → List ℕ → List ℕ → List ℕ → List ℕ → List ℕ → Tables
+tables degrees sides ends lengths volumes labels =
+    record { degrees = degrees; sides = sides; ends = ends; lengths = lengths; volumes = volumes; labels = labels }
 
 -- the answer r tells whether a is b
 abbrev pub Tells : {A : Type 0} → Bool → A → A → Type 0
@@ -62,15 +62,15 @@ raiseBothIn degrees v w = raiseIn (raiseIn degrees v) w
 unfoldable pub zeroed : Tables → Tables
 zeroed t =
     tables (replicate (length (t .degrees)) 0) (replicate (length (t .sides)) 0) (replicate (length (t .ends)) 0)
-    (replicate (length (t .lengths)) 0) (replicate (length (t .labels)) 0)
+    (replicate (length (t .lengths)) 0) (replicate (length (t .volumes)) 0) (replicate (length (t .labels)) 0)
 
 -- tables and counts as one record
 abbrev pub stored : Tables → Counts → Stored
 stored t c = record { tables = t; counts = c }
 
--- edge e, and the first m: edges stand in the tables of ends and lengths alone
-abbrev pub edgeOf : List ℕ → List ℕ → ℕ → Edge
-edgeOf ends lengths e = edgeIn (tables [] [] ends lengths []) e
+-- edge e, and the first m: edges stand in the tables of ends, lengths and volumes alone
+abbrev pub edgeOf : List ℕ → List ℕ → List ℕ → ℕ → Edge
+edgeOf ends lengths volumes e = edgeIn (tables [] [] ends lengths volumes []) e
 
-abbrev pub edgesOf : List ℕ → List ℕ → ℕ → List Edge
-edgesOf ends lengths m = edgesIn (tables [] [] ends lengths []) m
+abbrev pub edgesOf : List ℕ → List ℕ → List ℕ → ℕ → List Edge
+edgesOf ends lengths volumes m = edgesIn (tables [] [] ends lengths volumes []) m

@@ -28,16 +28,18 @@ pub fn clear_tables(
     sides: &mut [u16],
     ends: &mut [u16],
     lengths: &mut [u32],
+    volumes: &mut [u32],
     labels: &mut [u32],
 )
-    ensures { λ _. ⌜ tables (now (degrees .exit)) (now (sides .exit)) (now (ends .exit)) (now (lengths .exit)) (now (labels .exit))
+    ensures { λ _. ⌜ tables (now (degrees .exit)) (now (sides .exit)) (now (ends .exit)) (now (lengths .exit)) (now (volumes .exit)) (now (labels .exit))
         ≡ zeroed
-        (tables (now (degrees .entry)) (now (sides .entry)) (now (ends .entry)) (now (lengths .entry)) (now (labels .entry))) ⌝ }
+        (tables (now (degrees .entry)) (now (sides .entry)) (now (ends .entry)) (now (lengths .entry)) (now (volumes .entry)) (now (labels .entry))) ⌝ }
 {
     clear16(degrees);
     clear16(sides);
     clear16(ends);
     clear32(lengths);
+    clear32(volumes);
     clear32(labels);
 }
 
@@ -79,16 +81,18 @@ pub fn same_tables(
     sides: &[u16],
     ends: &[u16],
     lengths: &[u32],
+    volumes: &[u32],
     labels: &[u32],
     degrees2: &[u16],
     sides2: &[u16],
     ends2: &[u16],
     lengths2: &[u32],
+    volumes2: &[u32],
     labels2: &[u32],
 ) -> bool
     ensures { λ r. ⌜ Tells r
-        (tables (now (degrees .entry)) (now (sides .entry)) (now (ends .entry)) (now (lengths .entry)) (now (labels .entry)))
-        (tables (now (degrees2 .entry)) (now (sides2 .entry)) (now (ends2 .entry)) (now (lengths2 .entry)) (now (labels2 .entry))) ⌝ }
+        (tables (now (degrees .entry)) (now (sides .entry)) (now (ends .entry)) (now (lengths .entry)) (now (volumes .entry)) (now (labels .entry)))
+        (tables (now (degrees2 .entry)) (now (sides2 .entry)) (now (ends2 .entry)) (now (lengths2 .entry)) (now (volumes2 .entry)) (now (labels2 .entry))) ⌝ }
 {
     if !same16(degrees, degrees2) {
         return false;
@@ -100,6 +104,9 @@ pub fn same_tables(
         return false;
     }
     if !same32(lengths, lengths2) {
+        return false;
+    }
+    if !same32(volumes, volumes2) {
         return false;
     }
     if !same32(labels, labels2) {

@@ -19,6 +19,9 @@ clear32-requires c κs = search needs
 clear32-requires-2 : tie.Need-clear32-requires-2
 clear32-requires-2 c κs = search needs
 
+clear32-requires-3 : tie.Need-clear32-requires-3
+clear32-requires-3 c κs = search needs
+
 same-length : tie.Need-same-length
 same-length c = search needs
 
@@ -34,15 +37,19 @@ same-length-4 c = search needs
 same-length-5 : tie.Need-same-length-5
 same-length-5 c = search needs
 
+same-length-6 : tie.Need-same-length-6
+same-length-6 c = search needs
+
 returns : tie.Need-returns
 unfolding zeroed
 returns c =
-    let at-clear32 = c .before .before .before .before .before .before in
+    let at-clear322 = c .before .before .before .before .before .before in
+    let at-clear32 = at-clear322 .before .before .before .before in
     let at-clear163 = at-clear32 .before .before .before .before in
     let at-clear162 = at-clear163 .before .before .before .before in
     let at-clear16 = at-clear162 .before .before .before .before in
     tables-parts (at-clear16 .clear16 .ensures) (at-clear162 .clear162 .ensures) (at-clear163 .clear163 .ensures)
-    (at-clear32 .clear32 .ensures) (c .before .before .clear322 .ensures)
+    (at-clear32 .clear32 .ensures) (at-clear322 .clear322 .ensures) (c .before .before .clear323 .ensures)
 
 pub clear-tables-spec : {M : Type 1} → statement M
 clear-tables-spec =
@@ -53,9 +60,11 @@ clear-tables-spec =
     clear16-requires-3
     clear32-requires
     clear32-requires-2
+    clear32-requires-3
     same-length
     same-length-2
     same-length-3
     same-length-4
     same-length-5
+    same-length-6
     returns)

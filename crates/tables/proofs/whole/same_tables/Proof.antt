@@ -35,11 +35,19 @@ same32-requires-2 : tie.Need-same32-requires-2
 same32-requires-2 c κs = search needs
 
 returns-5 : tie.Need-returns-5
-returns-5 c = differ _ _ (λ e. not-same _ _ (c .if5 .taken) (c .before .same322 .ensures .1) (ap (λ (t : Tables). t .labels) e))
+returns-5 c = differ _ _ (λ e. not-same _ _ (c .if5 .taken) (c .before .same322 .ensures .1) (ap (λ (t : Tables). t .volumes) e))
+
+same32-requires-3 : tie.Need-same32-requires-3
+same32-requires-3 c κs = search needs
 
 returns-6 : tie.Need-returns-6
-returns-6 c =
-    let at-if3 = c .before .before .before .before in
+returns-6 c = differ _ _ (λ e. not-same _ _ (c .if6 .taken) (c .before .same323 .ensures .1) (ap (λ (t : Tables). t .labels) e))
+
+returns-7 : tie.Need-returns-7
+returns-7 c =
+    let at-if4 = c .before .before .before .before in
+    let at-same32 = at-if4 .before in
+    let at-if3 = at-same32 .before in
     let at-same163 = at-if3 .before in
     let at-if2 = at-same163 .before in
     let at-same162 = at-if2 .before in
@@ -48,8 +56,9 @@ returns-6 c =
       λ _. tables-parts (at-same16 .same16 .ensures .0 (not-false _ (at-if1 .if1 .left)))
           (at-same162 .same162 .ensures .0 (not-false _ (at-if2 .if2 .left)))
           (at-same163 .same163 .ensures .0 (not-false _ (at-if3 .if3 .left)))
-          (c .before .before .before .same32 .ensures .0 (not-false _ (c .before .before .if4 .left)))
-          (c .before .same322 .ensures .0 (not-false _ (c .if5 .left))),
+          (at-same32 .same32 .ensures .0 (not-false _ (at-if4 .if4 .left)))
+          (c .before .before .before .same322 .ensures .0 (not-false _ (c .before .before .if5 .left)))
+          (c .before .same323 .ensures .0 (not-false _ (c .if6 .left))),
       λ _. refl,
     )
 
@@ -67,4 +76,6 @@ same-tables-spec =
     returns-4
     same32-requires-2
     returns-5
-    returns-6)
+    same32-requires-3
+    returns-6
+    returns-7)
