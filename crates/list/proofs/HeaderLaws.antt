@@ -1,14 +1,14 @@
 -- The ways out of reading a header.
-use mathlib.Core.Path.{_≡_}
+use mathlib.Core.Path.{_≡_, ap}
 use mathlib.Core.Logic.{_≢_}
 use Prim.Native.Nat.{ℕ, _≤_, _<_}
-use mathlib.Core.Bool.{true, false}
+use mathlib.Core.Bool.{true, false, _||_}
 use mathlib.Core.List.{List}
 use lib.ListN.{length, getD}
 use lib.Dec.{eqb}
 use borrow.Author.Tests.{eq-eqb, ne-eqb, le-leb, lt-leb, lt-ltb, le-ltb}
-use Rattle.model.specs.Format.{byteAt, u16At, hasMark, headerRefusal}
-use Rattle.list.specs.Reading.{good, badHeader, headerAt}
+use Rattle.model.specs.Format.{byteAt, u16At, hasMark, headerRefusal, versionOf}
+use Rattle.list.specs.Reading.{good, badHeader, headerAt, place}
 
 module _ (bs : List ℕ) where
   pub mark-short : length bs < 3 → false ≡ hasMark bs
@@ -35,10 +35,20 @@ module _ (bs : List ℕ) where
   unfolding headerAt headerRefusal
   header-cut h l = rw (h, lt-ltb _ _ l, headerAt)
 
-  pub header-version : hasMark bs ≡ true → 5 ≤ length bs → u16At bs 3 ≢ 1 → badHeader 2 ≡ headerAt bs
-  unfolding headerAt headerRefusal
-  header-version h l v = rw (h, le-ltb _ _ l, ne-eqb _ _ v, headerAt)
+  module _ (version : ℕ) (is : version ≡ u16At bs 3) where
+    pub header-version : hasMark bs ≡ true → 5 ≤ length bs → version ≢ 1 → version ≢ 2 → badHeader 2 ≡ headerAt bs
+    unfolding headerAt headerRefusal versionOf
+    header-version h l m n = rw (h, le-ltb _ _ l, ← is, ne-eqb _ _ m, ne-eqb _ _ n, headerAt)
 
-  pub header-good : hasMark bs ≡ true → 5 ≤ length bs → u16At bs 3 ≡ 1 → good 5 ≡ headerAt bs
-  unfolding headerAt headerRefusal
-  header-good h l v = rw (h, le-ltb _ _ l, eq-eqb _ _ v, headerAt)
+    -- the version is 1 or 2
+    pub header-good : hasMark bs ≡ true → 5 ≤ length bs → (eqb version 1 || eqb version 2) ≡ true → good (place 5 version) ≡ headerAt bs
+    unfolding headerAt headerRefusal versionOf
+    header-good h l v =
+        let w : (eqb (versionOf bs) 1 || eqb (versionOf bs) 2) ≡ true = rw is at v in
+        rw (h, le-ltb _ _ l, w, headerAt) (ap (λ (n : ℕ). good (place 5 n)) is)
+
+pub first-version : (version : ℕ) → version ≡ 1 → (eqb version 1 || eqb version 2) ≡ true
+first-version version e = rw (eq-eqb version 1 e)
+
+pub second-version : (version : ℕ) → version ≢ 1 → version ≡ 2 → (eqb version 1 || eqb version 2) ≡ true
+second-version version n e = rw (ne-eqb version 1 n, eq-eqb version 2 e)

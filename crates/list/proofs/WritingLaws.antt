@@ -17,32 +17,32 @@ use Rattle.text.proofs.PageLaws.{write-two}
 use Rattle.text.proofs.Pieces.{Pieces}
 use Rattle.list.specs.Writing.{listIn, recordsIn}
 
-module _ (ends lengths : List ℕ) where
+module _ (ends lengths volumes : List ℕ) where
   -- ---- the edges, one after the other
 
-  pub edge-pieces : Pieces (recordsIn ends lengths)
+  pub edge-pieces : Pieces (recordsIn ends lengths volumes)
   unfolding recordsIn edgeRecords
   edge-pieces =
       record {
         none = refl;
-        first = λ d ds. ap (λ (bs : List ℕ). bs ++ recordsIn ends lengths ds) (sym (append-nil (edgeBytes (edgeIn (tables [] [] ends lengths []) d))));
+        first = λ d ds. ap (λ (bs : List ℕ). bs ++ recordsIn ends lengths volumes ds) (sym (append-nil (edgeBytes (edgeIn (tables [] [] ends lengths volumes []) d))));
       }
 
-  pub one-edge : (d a b l : ℕ) (p q : Page) → a ≡ getD ends (2 * d) 0 → b ≡ getD ends (2 * d + 1) 0 → l ≡ getD lengths d 0
-      → q ≡ write (edgeBytes (record { first = a; second = b; len = l })) p → q ≡ write (recordsIn ends lengths (d ∷ [])) p
+  pub one-edge : (d a b l v : ℕ) (p q : Page) → a ≡ getD ends (2 * d) 0 → b ≡ getD ends (2 * d + 1) 0 → l ≡ getD lengths d 0 → v ≡ getD volumes d 0
+      → q ≡ write (edgeBytes (record { first = a; second = b; len = l; volume = v })) p → q ≡ write (recordsIn ends lengths volumes (d ∷ [])) p
   unfolding recordsIn edgeRecords edgeIn
-  one-edge d a b l p q e f g w = rw append-nil (rw (e, f, g) at w)
+  one-edge d a b l v p q e f g h w = rw append-nil (rw (e, f, g, h) at w)
 
   module _ (c : Counts) where
     -- ---- the list, part by part
 
     pub list-parts : (p q r s : Page) → q ≡ write header p → r ≡ write (replicate (c .vertices) 0x46) q
-        → s ≡ write (recordsIn ends lengths (upTo (c .edges))) r → s ≡ write (listIn ends lengths c) p
+        → s ≡ write (recordsIn ends lengths volumes (upTo (c .edges))) r → s ≡ write (listIn ends lengths volumes c) p
     unfolding listIn
     list-parts p q r s e f g = write-two _ _ p q s e (write-two _ _ q r s f g)
 
     -- it is the list of the tables' own vertices and edges, whatever the other tables hold
-    list-is : (degrees sides labels : List ℕ) → listIn ends lengths c ≡ listOf (c .vertices) (edgesIn (tables degrees sides ends lengths labels) (c .edges))
+    list-is : (degrees sides labels : List ℕ) → listIn ends lengths volumes c ≡ listOf (c .vertices) (edgesIn (tables degrees sides ends lengths volumes labels) (c .edges))
     unfolding listIn recordsIn listOf edgesIn edgeIn
     list-is degrees sides labels = refl
 
@@ -50,9 +50,9 @@ module _ (ends lengths : List ℕ) where
     unfolding edgesIn
     length-edges t n = length-map (upTo n) (edgeIn t) ∙ length-upTo n
 
-    pub list-bytes : length (listIn ends lengths c) ≡ 5 + c .vertices + 9 * c .edges
+    pub list-bytes : length (listIn ends lengths volumes c) ≡ 5 + c .vertices + 13 * c .edges
     list-bytes =
-        let t = tables [] [] ends lengths [] in
+        let t = tables [] [] ends lengths volumes [] in
         ap length (list-is [] [] []) ∙ omega (arith, list-long (c .vertices) (edgesIn t (c .edges)), length-edges t (c .edges))
 
 -- ---- of a register
@@ -61,5 +61,5 @@ list-of : (r : Register) → listOf ((countsOf r) .vertices) (edgesIn (tablesOf 
 unfolding countsOf written
 list-of r = ap (listOf (r .vertices)) (edges-read r)
 
-pub list-written : (r : Register) (t : Tables) (c : Counts) → t ≡ tablesOf r → c ≡ countsOf r → listIn (t .ends) (t .lengths) c ≡ written r
-list-written r t c e f = list-is (t .ends) (t .lengths) c (t .degrees) (t .sides) (t .labels) ∙ rw (e, f) (list-of r)
+pub list-written : (r : Register) (t : Tables) (c : Counts) → t ≡ tablesOf r → c ≡ countsOf r → listIn (t .ends) (t .lengths) (t .volumes) c ≡ written r
+list-written r t c e f = list-is (t .ends) (t .lengths) (t .volumes) c (t .degrees) (t .sides) (t .labels) ∙ rw (e, f) (list-of r)

@@ -1,4 +1,4 @@
--- The list of a register, as functions that mirror the code. Of the tables they read the ends and the lengths alone.
+-- The list of a register, as functions that mirror the code. Of the tables they read the ends, the lengths and the volumes alone.
 use Prim.Native.Nat.{ℕ}
 use mathlib.Core.List.{List, [], map, _++_}
 use lib.ListN.{replicate}
@@ -8,8 +8,8 @@ use Rattle.model.specs.Tables.{Counts, edgeIn}
 use Rattle.tables.specs.Steps.{tables}
 
 -- the records of edges, by their numbers
-unfoldable pub recordsIn : List ℕ → List ℕ → List ℕ → List ℕ
-recordsIn ends lengths ds = edgeRecords (map (edgeIn (tables [] [] ends lengths [])) ds)
+unfoldable pub recordsIn : List ℕ → List ℕ → List ℕ → List ℕ → List ℕ
+recordsIn ends lengths volumes ds = edgeRecords (map (edgeIn (tables [] [] ends lengths volumes [])) ds)
 
-unfoldable pub listIn : List ℕ → List ℕ → Counts → List ℕ
-listIn ends lengths c = header ++ (replicate (c .vertices) 0x46 ++ recordsIn ends lengths (upTo (c .edges)))
+unfoldable pub listIn : List ℕ → List ℕ → List ℕ → Counts → List ℕ
+listIn ends lengths volumes c = header ++ (replicate (c .vertices) 0x46 ++ recordsIn ends lengths volumes (upTo (c .edges)))

@@ -1,33 +1,40 @@
-// A list reader: the lent list along with the next byte's index. Its functions are thin, `next_record` does the work. Whoever has a
-// list and a cursor calls `record_at`.
+// A list reader: the lent list along with the next byte's index, and the version by which its records are read. Its functions are thin,
+// `next_record` does the work. Whoever has a list and a cursor calls `record_at`.
 use crate::records::Cursor;
 use crate::records::Record;
 use crate::records::next_record;
 ghost use mathlib.Core.Path.{_≡_};
-ghost use Rattle.list.specs.Reading.{recordIn, recordAt};
+ghost use Rattle.list.specs.Reading.{place, placeIn, recordIn, recordAt};
 
 pub struct Reader<'a> {
     pub list: &'a [u8],
     pub at: usize,
+    pub version: u16,
 }
 
 impl<'a> Reader<'a> {
-    pub fn new(list: &'a [u8], at: usize) -> Reader<'a>
-        ensures { λ r. ⌜ (r .list ≡ list .entry) × (r .at ≡ at) ⌝ }
+    pub fn new(list: &'a [u8], at: usize, version: u16) -> Reader<'a>
+        ensures { λ r. ⌜ (r .list ≡ list .entry) × (r .at ≡ at) × (r .version ≡ version) ⌝ }
     {
-        Reader { list, at }
+        Reader { list, at, version }
     }
 
     // The record at the index, which says where the next one stands.
     pub fn next(self) -> Record
-        ensures { λ r. ⌜ recordIn r ≡ recordAt (now (self .entry .list)) (self .entry .at) ⌝ }
+        ensures { λ r. ⌜ recordIn r ≡ recordAt (now (self .entry .list)) (place (self .entry .at) (self .entry .version)) ⌝ }
     {
-        next_record(self.list, Cursor { at: self.at })
+        next_record(
+            self.list,
+            Cursor {
+                at: self.at,
+                version: self.version,
+            },
+        )
     }
 }
 
 pub fn record_at(list: &[u8], c: Cursor) -> Record
-    ensures { λ r. ⌜ recordIn r ≡ recordAt (now (list .entry)) (c .at) ⌝ }
+    ensures { λ r. ⌜ recordIn r ≡ recordAt (now (list .entry)) (placeIn c) ⌝ }
 {
-    Reader::new(list, c.at).next()
+    Reader::new(list, c.at, c.version).next()
 }

@@ -1,5 +1,5 @@
 use borrow.Author.Tests.{not-true, not-false}
-use Rattle.list.proofs.HeaderLaws.{header-mark, header-cut, header-version, header-good}
+use Rattle.list.proofs.HeaderLaws.{first-version, header-cut, header-good, header-mark, header-version, second-version}
 use native.Mathlib.Omega.{arith}
 use mathlib.Core.Path.{sym, _∙_}
 use borrow.Author.Needs.{needs}
@@ -20,14 +20,25 @@ u16-at-requires c κs = search needs
 
 returns-3 : tie.Need-returns-3
 returns-3 c =
-    let at-has-mark = c .before .before .before .before in
-    header-version _ (sym (at-has-mark .has-mark .ensures) ∙ not-false _ (c .before .before .before .if1 .left)) (omega (arith, c .before .before .if2 .left)) (λ e. c .if3 .taken (c .before .u16-at .ensures ∙ e))
+    let at-u16-at = c .before .before in
+    let at-has-mark = at-u16-at .before .before .before in
+    header-version _ _ (at-u16-at .u16-at .ensures) (sym (at-has-mark .has-mark .ensures) ∙ not-false _ (at-u16-at .before .before .if1 .left)) (omega (arith, at-u16-at .before .if2 .left))
+    (c .before .if3 .taken) (c .if4 .taken)
 
 returns-4 : tie.Need-returns-4
 returns-4 c =
-    let at-has-mark = c .before .before .before .before in
-    header-good _ (sym (at-has-mark .has-mark .ensures) ∙ not-false _ (c .before .before .before .if1 .left)) (omega (arith, c .before .before .if2 .left)) (sym (c .before .u16-at .ensures) ∙ c .if3 .left)
+    let at-u16-at = c .before .before in
+    let at-has-mark = at-u16-at .before .before .before in
+    header-good _ _ (at-u16-at .u16-at .ensures) (sym (at-has-mark .has-mark .ensures) ∙ not-false _ (at-u16-at .before .before .if1 .left)) (omega (arith, at-u16-at .before .if2 .left))
+    (second-version _ (c .before .if3 .taken) (c .if4 .left))
+
+returns-5 : tie.Need-returns-5
+returns-5 c =
+    let at-u16-at = c .before in
+    let at-has-mark = at-u16-at .before .before .before in
+    header-good _ _ (at-u16-at .u16-at .ensures) (sym (at-has-mark .has-mark .ensures) ∙ not-false _ (at-u16-at .before .before .if1 .left)) (omega (arith, at-u16-at .before .if2 .left))
+    (first-version _ (c .if3 .left))
 
 pub read-header-spec : {M : Type 1} → statement M
 read-header-spec =
-    tie.close (tie.spec has-mark-requires returns returns-2 u16-at-requires returns-3 returns-4)
+    tie.close (tie.spec has-mark-requires returns returns-2 u16-at-requires returns-3 returns-4 returns-5)

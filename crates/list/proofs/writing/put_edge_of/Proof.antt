@@ -5,8 +5,8 @@ use Rattle.list.proofs.writing.put_edge_of.Tie as tie
 
 returns : tie.Need-returns
 returns c =
-    let at-at162 = c .before .before .before .before in
-    one-edge _ _ _ _ _ _ _ _ (at-at162 .before .at16 .ensures) (at-at162 .at162 .ensures) (c .before .before .before .of32 .ensures) (c .before .before .put-edge .ensures)
+    let at-of32 = c .before .before .before .before in
+    one-edge _ _ _ _ _ _ _ _ _ _ (at-of32 .before .before .at16 .ensures) (at-of32 .before .at162 .ensures) (at-of32 .of32 .ensures) (c .before .before .before .of322 .ensures) (c .before .before .put-edge .ensures)
 
 -- the needs in the order of the code
 pub put-edge-of-spec : {M : Type 1} → statement M
@@ -16,6 +16,7 @@ put-edge-of-spec =
     (λ c. search needs)
     (λ c κs. search needs)
     (λ c. search needs)
+    (λ c κs. search needs)
     (λ c κs. search needs)
     (λ c κs. search needs)
     (λ c κs. search needs)

@@ -1,5 +1,5 @@
 -- `Reader::next` meets its contract: a walk of its MIR, by hand. The reader is taken apart, and `next_record` is called on the list and a
--- cursor at the index. All that the proof knows of `next_record` is that it meets its contract.
+-- cursor at the index, of the version. All that the proof knows of `next_record` is that it meets its contract.
 -- What the list owns goes to the callee, and nothing is kept of it for the exit (Passed.antt).
 use mathlib.Core.Path.{_≡_, refl}
 use Prim.Native.Nat.{_<_, _^_}
@@ -78,15 +78,15 @@ module _ {M : Type 1} (𝓤 : URA M) (H : Heap 𝓤) (A : Atoms 𝓤) (W : Given
   abbrev Post : Val → SProp 𝓤
   Post = walkOf 𝓤 H A own.ended stayed (own.clauses 𝓤 H A mem run) .post ((κs, qs, tt, (d, tt), (mach ∷ [], tt)), tt)
 
-  -- the cursor at the index, and that its machine value is the one of the number alone
+  -- the cursor at the index, and that its machine value is the one of the numbers alone
   abbrev cursor : Cursor
-  cursor = record { at = d .at }
+  cursor = record { at = d .at; version = d .version }
 
   abbrev cursor-val : Val
   cursor-val = LL.val K.the-type K′.the-laws cursor
 
-  cursor-is : d .at < 2 ^ 64 → Is K.the-row cursor (cursor-val ∷ [])
-  cursor-is fits = LL.owes K.the-type K′.the-laws cursor ((refl, fits), tt)
+  cursor-is : d .at < 2 ^ 64 → d .version < 2 ^ 16 → Is K.the-row cursor (cursor-val ∷ [])
+  cursor-is fits version-fits = LL.owes K.the-type K′.the-laws cursor ((refl, fits), ((refl, version-fits), tt))
 
   -- what the callee is passed, its machine values
   abbrev given-args : Args callee.signature κs
@@ -106,30 +106,31 @@ module _ {M : Type 1} (𝓤 : URA M) (H : Heap 𝓤) (A : Atoms 𝓤) (W : Given
   Toks = alive 𝓤 H A own.signature κs qs
 
   -- what the list owns, and the cursor's facts, are what the callee asks
-  goes : d .at < 2 ^ 64 → ent 𝓤 (onEntry 𝓤 H A own.signature κs qs (d, tt) (mach ∷ [], tt)) (Callee 𝓤 H A mem run .pre to)
-  goes fits =
+  goes : d .at < 2 ^ 64 → d .version < 2 ^ 16 → ent 𝓤 (onEntry 𝓤 H A own.signature κs qs (d, tt) (mach ∷ [], tt)) (Callee 𝓤 H A mem run .pre to)
+  goes fits version-fits =
       qed W (raw Toks ∷ ‵ (owns (typesAt (own.signature .params) κs) (d, tt) (mach ∷ [], tt)) ∷ []) ∵ move ! (1 ∷ []) $ fsplit ! $
-      use1 W (given (mach ∷ [] ≡ mach ∷ []) (‵ (all-own (D κs .parts) (L κs) (d .list, (d .at, tt))))) (own-open 𝓤 H A W (D κs) (L κs) (d .list, (d .at, tt)) mach) $ learn ! (λ _.
-      fsplit ! $ keep ! (0 ∷ 3 ∷ []) $ nothing ! $ owned ! K.the-row (Is K.the-row) (LL.makes K.the-type K′.the-plain 𝓤 H A) cursor _ (cursor-is fits) $
+      use1 W (given (mach ∷ [] ≡ mach ∷ []) (‵ (all-own (D κs .parts) (L κs) (d .list, (d .at, (d .version, tt)))))) (own-open 𝓤 H A W (D κs) (L κs) (d .list, (d .at, (d .version, tt))) mach) $ learn ! (λ _.
+      fsplit ! $ keep ! (0 ∷ 3 ∷ []) $ nothing ! $ owned ! K.the-row (Is K.the-row) (LL.makes K.the-type K′.the-plain 𝓤 H A) cursor _ (cursor-is fits version-fits) $
       fjoin ! $ move ! (1 ∷ 0 ∷ []) $ fjoin ! $ move ! (1 ∷ 0 ∷ []) $ join ! $ frame ! $ done !)
 
   module _ (C : Calls 𝓤 H) (Λ : Loops 𝓤 H) (fm : FmC 𝓤 H (W .laws) C) (known : Triple 𝓤 (C #callee) (Callee 𝓤 H A mem run)) where
     walk : Holds (hasTy (T′.mir (named 0)) mach) × WT mach → ent 𝓤 (onEntry 𝓤 H A own.signature κs qs (d, tt) (mach ∷ [], tt)) (WpFn 𝓤 H C Λ code.function (mach ∷ []) Post)
     walk wt =
         qed W (raw (onEntry 𝓤 H A own.signature κs qs (d, tt) (mach ∷ [], tt)) ∷ []) ∵ enter ! C Λ code.function (mach ∷ []) _ $
-        alloc1 ! (λ l₀. alloc1 ! (λ l₁. alloc1 ! (λ l₂. alloc1 ! (λ l₃. alloc1 ! (λ l₄. alloc0 ! $ params1 ! $ pass1 ! (init ! 6 refl wt) $ pass0 ! $
-        assigns ! (of-opd ! (load ! (from ! (fld ! refl (stop !))) (look-in ! 6 (sub ! 0 refl (whole !))))) (from ! (stop !)) (init ! 4 refl (tt, wt .1 .0)) $
-        assigns ! (of-opd ! (load ! (from ! (fld ! refl (stop !))) (look-in ! 6 (sub ! 1 refl (whole !))))) (from ! (stop !)) (init ! 2 refl (tt, wt .1 .1 .0)) $
-        assigns ! (agg ! (and-then ! (load ! (from ! (stop !)) (look ! 2 refl)) (no-more !))) (from ! (stop !)) (init ! 0 refl (LL.lawful K.the-type K′.the-laws 𝓤 H A W .typed cursor _ (cursor-is (wt .1 .1 .0 .fits)) .0)) $
-        move ! (10 ∷ []) $ use1 W (raw (Callee 𝓤 H A mem run .pre to)) (goes (wt .1 .1 .0 .fits)) $
-        calls-at ! fm (Callee 𝓤 H A mem run) known to (and-then ! (load ! (from ! (stop !)) (look ! 5 refl)) (and-then ! (load ! (from ! (stop !)) (look ! 1 refl)) (no-more !))) (λ u.
+        alloc1 ! (λ l₀. alloc1 ! (λ l₁. alloc1 ! (λ l₂. alloc1 ! (λ l₃. alloc1 ! (λ l₄. alloc1 ! (λ l₅. alloc0 ! $ params1 ! $ pass1 ! (init ! 8 refl wt) $ pass0 ! $
+        assigns ! (of-opd ! (load ! (from ! (fld ! refl (stop !))) (look-in ! 8 (sub ! 0 refl (whole !))))) (from ! (stop !)) (init ! 6 refl (tt, wt .1 .0)) $
+        assigns ! (of-opd ! (load ! (from ! (fld ! refl (stop !))) (look-in ! 8 (sub ! 1 refl (whole !))))) (from ! (stop !)) (init ! 4 refl (tt, wt .1 .1 .0)) $
+        assigns ! (of-opd ! (load ! (from ! (fld ! refl (stop !))) (look-in ! 8 (sub ! 2 refl (whole !))))) (from ! (stop !)) (init ! 2 refl (tt, wt .1 .1 .1 .0)) $
+        assigns ! (agg ! (and-then ! (load ! (from ! (stop !)) (look ! 4 refl)) (and-then ! (load ! (from ! (stop !)) (look ! 2 refl)) (no-more !)))) (from ! (stop !)) (init ! 0 refl (LL.lawful K.the-type K′.the-laws 𝓤 H A W .typed cursor _ (cursor-is (wt .1 .1 .0 .fits) (wt .1 .1 .1 .0 .fits)) .0)) $
+        move ! (12 ∷ []) $ use1 W (raw (Callee 𝓤 H A mem run .pre to)) (goes (wt .1 .1 .0 .fits) (wt .1 .1 .1 .0 .fits)) $
+        calls-at ! fm (Callee 𝓤 H A mem run) known to (and-then ! (load ! (from ! (stop !)) (look ! 7 refl)) (and-then ! (load ! (from ! (stop !)) (look ! 1 refl)) (no-more !))) (λ u.
         use1 W (later (some (λ (r : Record). (raw Toks ⊛ ‵ (E.the-row .own r (u ∷ []))) ⊛ raw (ensured 𝓤 H A callee.ended (callee.clauses 𝓤 H A mem run) κs given-args tt r)))) (id⊢ 𝓤 _) $ await ! tt $ pick ! (λ r.
         split ! $ move ! (1 ∷ []) $ use1 W (some (λ (zs : Lasts callee.ended κs given-args). ‵ (lasts callee.ended κs given-args zs) ⊛ raw (Clause r zs))) (id⊢ 𝓤 _) $ pick ! (λ zs. split ! $ drop ! $ heard ! _ (λ e. split ! $ move ! (1 ∷ []) $
-        -- [the result; the token; the locals _4 to _0, each with the right to free it]
+        -- [the result; the token; the locals _5 to _0, each with the right to free it]
         peeks ! E.the-row (Is E.the-row) (shows 𝓤 H A E.the-row) r (u ∷ []) (λ is.
-        land ! (from ! (stop !)) (init ! 10 refl (EL.lawful E.the-type E′.the-laws 𝓤 H A W tt .typed r _ is .0)) $
-        returns ! (look ! 10 refl) $ gone ! 10 refl refl $ gone ! 8 refl refl $ gone ! 6 refl refl $ gone ! 4 refl refl $ gone ! 2 refl refl $ free0 ! $
-        suffices ! _ (ends-at 𝓤 H A own.ended stayed (own.clauses 𝓤 H A mem run) W ((κs, qs, tt, (d, tt), (mach ∷ [], tt)), tt) u r (tt, tt) (tt, tt)) $ says ! e $ move ! (1 ∷ []) $ frame ! $ nothing ! $ nothing ! $ fjoin ! $ frame ! $ done !))))))))))
+        land ! (from ! (stop !)) (init ! 12 refl (EL.lawful E.the-type E′.the-laws 𝓤 H A W tt .typed r _ is .0)) $
+        returns ! (look ! 12 refl) $ gone ! 12 refl refl $ gone ! 10 refl refl $ gone ! 8 refl refl $ gone ! 6 refl refl $ gone ! 4 refl refl $ gone ! 2 refl refl $ free0 ! $
+        suffices ! _ (ends-at 𝓤 H A own.ended stayed (own.clauses 𝓤 H A mem run) W ((κs, qs, tt, (d, tt), (mach ∷ [], tt)), tt) u r (tt, tt) (tt, tt)) $ says ! e $ move ! (1 ∷ []) $ frame ! $ nothing ! $ nothing ! $ fjoin ! $ frame ! $ done !)))))))))))
 
 module _ {M : Type 1} (𝓤 : URA M) (H : Heap 𝓤) (A : Atoms 𝓤) (W : Given 𝓤 H A) (mem : Memory → SProp 𝓤) (run : Routine → Fun 𝓤) where
   next-walks : (C : Calls 𝓤 H) (Λ : Loops 𝓤 H) → FmC 𝓤 H (W .laws) C → Triple 𝓤 (C #callee) (Callee 𝓤 H A mem run) → Walks 𝓤 H A own.ended stayed (WpFn 𝓤 H C Λ code.function) (own.clauses 𝓤 H A mem run)
