@@ -21,8 +21,8 @@ use Rattle.model.specs.Tables.{Tables, countsOf, tablesOf}
 use Rattle.model.specs.Notions.{Reachable}
 use Rattle.tables.specs.Steps.{sum32}
 use Rattle.tables.proofs.Sums.{sum32-is}
-use Rattle.queries.specs.Chains.{WalkEnd, firstAt, firstFrom}
-use Rattle.queries.specs.Finding.{endToIn, findIn, lengthToIn, reachIn, wayIn}
+use Rattle.chains.specs.Chains.{WalkEnd, firstAt, firstFrom}
+use Rattle.chains.specs.Finding.{endToIn, findIn, lengthToIn, reachIn, wayIn}
 use Rattle.model.proofs.Walks.Degree.{is-two, two-is}
 use Rattle.model.proofs.Walks.Turn.{At, Turned, turned, two-edges}
 use Rattle.model.proofs.Walks.Trail.{afters}

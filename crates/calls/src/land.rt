@@ -3,7 +3,7 @@ use admission::gate::Gate;
 use admission::gate::pass_gate;
 use counters::answers::ListAnswer;
 use counters::counts::Counts;
-use register::records::land_list;
+use landing::records::land_list;
 ghost use mathlib.Core.Path.{_≡_};
 ghost use mathlib.Core.List.{[]};
 ghost use Rattle.model.specs.Calls.{lands, step};

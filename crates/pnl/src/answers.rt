@@ -1,9 +1,9 @@
 // What a call from C answers: 32-bit numbers in the answer slice and the count of their bytes, or a refusal's number made negative.
+use chains::numbers::wide;
 use counters::refusals::Refusal;
-use distance::measure::Measured;
-use lookups::find::FoundChain;
-use lookups::reach::Reached;
-use queries::numbers::wide;
+use questions::find::FoundChain;
+use questions::measure::Measured;
+use questions::reach::Reached;
 use search::shortest::Distance;
 use tables::access::at32;
 use text::bytes::put_word;
@@ -14,8 +14,7 @@ ghost use lib.ListN.{length};
 ghost use Rattle.model.specs.Register.{Register};
 ghost use Rattle.model.specs.FromC.{bytesOf, returnsNumbers, returnsReply};
 ghost use Rattle.counters.specs.Refusals.{numberOf};
-ghost use Rattle.lookups.specs.Meaning.{foundReply, reachedReply};
-ghost use Rattle.distance.specs.Meaning.{measuredReply};
+ghost use Rattle.questions.specs.Meaning.{foundReply, measuredReply, reachedReply};
 ghost use Rattle.text.specs.Pages.{page, write};
 ghost use Rattle.pnl.specs.FromC.{returned};
 

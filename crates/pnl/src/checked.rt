@@ -4,19 +4,18 @@ use counters::counts::Counts;
 use counters::numbers::CheckedVertex;
 use counters::numbers::Vertex;
 use counters::refusals::Refusal;
-use distance::measure::Measured;
-use lookups::reach::Reached;
-use lookups::reach::reach_in;
+use questions::measure::Measured;
+use questions::reach::Reached;
+use questions::reach::reach_in;
 ghost use mathlib.Core.Path.{_≡_};
 ghost use mathlib.Core.List.{List};
 ghost use Prim.Native.Nat.{ℕ, _≤_};
 ghost use Rattle.model.specs.Basics.{maxVertices};
 ghost use Rattle.counters.specs.Answers.{countsIn};
 ghost use Rattle.tables.specs.Steps.{tables};
-ghost use Rattle.queries.specs.Finding.{reachIn};
-ghost use Rattle.lookups.specs.Meaning.{reachedReply};
-ghost use Rattle.distance.specs.Meaning.{measuredReply};
-ghost use Rattle.distance.specs.Measure.{Measurable, measureIn};
+ghost use Rattle.chains.specs.Finding.{reachIn};
+ghost use Rattle.questions.specs.Meaning.{measuredReply, reachedReply};
+ghost use Rattle.questions.specs.Measure.{Measurable, measureIn};
 
 pub fn reach_checked(
     degrees: &[u16],

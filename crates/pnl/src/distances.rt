@@ -4,15 +4,15 @@ use counters::numbers::Vertex;
 use counters::sizes::ENDS;
 use counters::sizes::SIDES;
 use counters::sizes::VERTICES;
-use distance::measure::Measured;
-use distance::measure::measure;
+use questions::measure::Measured;
+use questions::measure::measure;
 ghost use mathlib.Core.Path.{_≡_};
 ghost use mathlib.Core.List.{List};
 ghost use Prim.Native.Nat.{ℕ};
 ghost use Rattle.counters.specs.Answers.{countsIn};
 ghost use Rattle.tables.specs.Steps.{tables};
-ghost use Rattle.distance.specs.Meaning.{measuredReply};
-ghost use Rattle.distance.specs.Measure.{Measurable, measureIn};
+ghost use Rattle.questions.specs.Meaning.{measuredReply};
+ghost use Rattle.questions.specs.Measure.{Measurable, measureIn};
 
 // The arrays are the scratch of the search.
 pub fn distance_in(

@@ -2,20 +2,20 @@
 use crate::answers::counted;
 use crate::answers::put_words;
 use crate::answers::refused;
+use chains::marks::next_unmarked;
+use chains::names::has_room;
+use chains::rows::ROW;
+use chains::rows::Row;
+use chains::rows::take_row;
 use counters::refusals::Refusal;
 use counters::sizes::EDGES;
-use queries::marks::next_unmarked;
-use queries::names::has_room;
-use queries::rows::ROW;
-use queries::rows::Row;
-use queries::rows::take_row;
 ghost use mathlib.Core.Path.{_≡_};
 ghost use lib.ListN.{length, replicate};
 ghost use Rattle.model.specs.Basics.{maxEdges};
 ghost use Rattle.model.specs.FromC.{bytesOf, returnsNumbers};
 ghost use Rattle.model.specs.Queries.{concat};
-ghost use Rattle.queries.specs.Answers.{rowOf};
-ghost use Rattle.queries.specs.Chains.{namesIn, sheetIn};
+ghost use Rattle.chains.specs.Answers.{rowOf};
+ghost use Rattle.chains.specs.Chains.{namesIn, sheetIn};
 ghost use Rattle.text.specs.Pages.{page, write};
 ghost use Rattle.pnl.specs.FromC.{returned};
 

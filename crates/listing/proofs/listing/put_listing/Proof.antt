@@ -1,6 +1,6 @@
 use mathlib.Core.Path.{sym, _∙_}
 use native.Mathlib.Omega.{arith}
-use Rattle.queries.proofs.SheetLaws.{sheet-count}
+use Rattle.chains.proofs.SheetLaws.{sheet-count}
 use Rattle.listing.proofs.Lines.{line-at}
 use Rattle.listing.proofs.Whole.{listing-parts}
 use borrow.Author.Needs.{needs}

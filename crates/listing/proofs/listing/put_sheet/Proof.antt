@@ -1,8 +1,8 @@
 use Rattle.listing.proofs.Lines.{row-lines}
 use Rattle.listing.specs.Listing.{rowBytes}
-use Rattle.queries.proofs.SheetLaws.{put-none, put-on, put-all}
-use Rattle.queries.proofs.NameLaws.{Sweeps, sweep-start, sweep-on, sweep-end, unmarked-less}
-use Rattle.queries.specs.Chains.{rowsIn}
+use Rattle.chains.proofs.SheetLaws.{put-none, put-on, put-all}
+use Rattle.chains.proofs.NameLaws.{Sweeps, sweep-start, sweep-on, sweep-end, unmarked-less}
+use Rattle.chains.specs.Chains.{rowsIn}
 use Rattle.text.specs.Pages.{page, write}
 use Rattle.model.specs.Printing.{lines}
 use lib.ListN.{length}

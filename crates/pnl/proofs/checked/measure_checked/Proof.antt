@@ -1,6 +1,6 @@
 use Rattle.counters.proofs.Within.{within-is, within-none}
 use native.Mathlib.Omega.{arith}
-use Rattle.distance.proofs.Measuring.{measure-first}
+use Rattle.questions.proofs.Measuring.{measure-first}
 use Rattle.counters.specs.Numbers.{vertexIn}
 use mathlib.Core.Path.{sym, ap, _∙_}
 use borrow.Author.Needs.{needs}

@@ -1,7 +1,7 @@
 use Rattle.counters.proofs.Within.{within-is, within-none}
 use native.Mathlib.Omega.{arith}
-use Rattle.distance.proofs.Measuring.{measure-second}
-use Rattle.distance.specs.Measure.{measureIn}
+use Rattle.questions.proofs.Measuring.{measure-second}
+use Rattle.questions.specs.Measure.{measureIn}
 use Rattle.counters.specs.Numbers.{vertexIn}
 use mathlib.Core.Path.{sym, ap, _∙_}
 use borrow.Author.Needs.{needs}

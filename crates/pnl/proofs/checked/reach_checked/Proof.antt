@@ -1,7 +1,7 @@
 use Rattle.counters.proofs.Within.{within-is, within-none}
 use native.Mathlib.Omega.{arith}
-use Rattle.lookups.proofs.TableLaws.{reach-past}
-use Rattle.queries.specs.Finding.{reachIn}
+use Rattle.questions.proofs.TableLaws.{reach-past}
+use Rattle.chains.specs.Finding.{reachIn}
 use Rattle.counters.specs.Numbers.{vertexIn}
 use mathlib.Core.Path.{sym, ap, _∙_}
 use borrow.Author.Needs.{needs}

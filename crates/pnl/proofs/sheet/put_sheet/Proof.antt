@@ -1,7 +1,7 @@
 use Rattle.pnl.proofs.Rows.{row-bytes}
-use Rattle.queries.proofs.SheetLaws.{put-none, put-on, put-all}
-use Rattle.queries.proofs.NameLaws.{Sweeps, sweep-start, sweep-on, sweep-end, unmarked-less}
-use Rattle.queries.specs.Chains.{rowsIn}
+use Rattle.chains.proofs.SheetLaws.{put-none, put-on, put-all}
+use Rattle.chains.proofs.NameLaws.{Sweeps, sweep-start, sweep-on, sweep-end, unmarked-less}
+use Rattle.chains.specs.Chains.{rowsIn}
 use Rattle.text.specs.Pages.{Page, page, write}
 use Rattle.model.specs.FromC.{bytesOf}
 use Rattle.model.specs.Queries.{concat}

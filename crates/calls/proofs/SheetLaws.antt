@@ -1,0 +1,45 @@
+-- The sheet behind an open gate: the scratch that serves it for marks is left as the gate left it.
+use mathlib.Core.Path.{_≡_, ap, _∙_}
+use Prim.Native.Nat.{ℕ, _*_}
+use native.Mathlib.Omega.{arith}
+use mathlib.Core.Option.{none}
+use mathlib.Core.List.{List}
+use lib.ListN.{length, replicate, length-replicate}
+use Rattle.model.specs.Basics.{maxVertices}
+use Rattle.model.specs.Queries.{Reply}
+use Rattle.model.specs.Tables.{Tables, Counts, cleared}
+use Rattle.model.specs.Calls.{sheets, scratchAfter, step}
+use Rattle.model.proofs.Series.Calls.{scratch-cleared}
+use Rattle.tables.specs.Steps.{tables}
+use Rattle.admission.specs.Lent.{lent, outcome}
+use Rattle.admission.specs.Gate.{barred}
+use Rattle.admission.proofs.GateLaws.{opened}
+use Rattle.questions.specs.Answering.{answered, sheetedIn}
+use Rattle.questions.proofs.AnswerLaws.{sheet-answers}
+use Rattle.calls.proofs.QueryLaws.{query-answered}
+
+-- The sheet over scratch g that the gate left: its degrees and its sides served for marks, and both are zeros again.
+module _ (t : Tables) (c : Counts) (s g : Tables) (h : none ≡ barred (lent t c s)) (e : g ≡ scratchAfter (lent t c s)) where
+  zeros : g ≡ cleared
+  zeros = e ∙ scratch-cleared (lent t c s) ((opened (lent t c s) h) .fit)
+
+  degrees-are : g .degrees ≡ replicate maxVertices 0
+  unfolding cleared
+  degrees-are = ap (λ (x : Tables). x .degrees) zeros
+
+  sides-are : g .sides ≡ replicate (2 * maxVertices) 0
+  unfolding cleared
+  sides-are = ap (λ (x : Tables). x .sides) zeros
+
+  again : (xs : List ℕ) (n : ℕ) → xs ≡ replicate n 0 → replicate (length xs) 0 ≡ xs
+  again xs n q = rw (q, length-replicate)
+
+  pub sheet-answered : (counting marks xs ys : List ℕ) (a : Reply) → answered ys a ≡ sheetedIn t c (g .degrees) (g .sides) xs
+      → counting ≡ replicate (length (g .degrees)) 0 → marks ≡ replicate (length (g .sides)) 0
+      → outcome t c (tables counting marks (g .ends) (g .lengths) (g .labels)) ys a ≡ step (sheets xs) (lent t c s)
+  sheet-answered counting marks xs ys a q m n =
+      let m′ : counting ≡ g .degrees = m ∙ again (g .degrees) maxVertices degrees-are in
+      let n′ : marks ≡ g .sides = n ∙ again (g .sides) (2 * maxVertices) sides-are in
+      let u : tables counting marks (g .ends) (g .lengths) (g .labels) ≡ g = rw (m′, n′) in
+      query-answered (sheets xs) (lent t c s) _ ys a h (u ∙ e)
+      (sheet-answers t c maxVertices (2 * maxVertices) (g .degrees) (g .sides) xs ys a (omega arith) (omega arith) degrees-are sides-are q)

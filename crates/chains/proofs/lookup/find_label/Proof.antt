@@ -1,0 +1,58 @@
+use Rattle.chains.proofs.LookupLaws.{first-past, first-here, first-next}
+use Rattle.chains.specs.Chains.{firstFrom, firstAt}
+use lib.ListN.{take, drop}
+use Rattle.model.specs.Basics.{maxVertices}
+use native.Mathlib.Omega.{arith}
+use Prim.Native.Nat.{_-_, _≤_}
+use mathlib.Core.Path.{_≡_, sym, _∙_}
+use borrow.Author.Needs.{needs}
+use Rattle.chains.proofs.lookup.find_label.Statement.{statement}
+use Rattle.chains.proofs.lookup.find_label.Tie as tie
+
+-- the label is at none of the first v places
+abbrev Inv-loop : tie.InvT-loop
+Inv-loop labels label v₀ v = (v ≤ 4096) × (firstFrom v label (drop v (take maxVertices labels)) ≡ firstAt label (take maxVertices labels))
+
+abbrev μ-loop : tie.MeasureT-loop
+μ-loop labels label v₀ v = 4096 - v
+
+loop-holds : tie.Need-loop-holds Inv-loop μ-loop
+unfolding firstAt
+loop-holds c = search needs
+
+returns : tie.Need-returns Inv-loop μ-loop
+returns c =
+    let at-loop = c .before .before .before .before in
+    let at-args = at-loop .before .before in
+    first-here _ _ (at-args .args .labels .now) _ (c .before .before .before .loop-test .taken) (c .before .before .if1 .left) (sym (c .before .of32 .ensures) ∙ c .if2 .taken) ∙ at-loop .loop .inv .1
+
+loop-again : tie.Need-loop-again Inv-loop μ-loop
+loop-again c =
+    let at-loop = c .before .before .before .before in
+    let at-args = at-loop .before .before in
+    (omega arith, sym (first-next _ _ (at-args .args .labels .now) _ (c .before .before .before .loop-test .taken) (c .before .before .if1 .left) (λ e. c .if2 .left (c .before .of32 .ensures ∙ e))) ∙ at-loop .loop .inv .1)
+
+returns-2 : tie.Need-returns-2 Inv-loop μ-loop
+returns-2 c = first-past _ 4096 (c .before .before .before .args .labels .now) (c .before .loop .v) (omega arith) ∙ c .before .loop .inv .1
+
+returns-3 : tie.Need-returns-3 Inv-loop μ-loop
+returns-3 c =
+    let at-args = c .before .before .before .before in
+    first-past _ 4096 (at-args .args .labels .now) (c .before .before .loop .v) (omega arith) ∙ c .before .before .loop .inv .1
+
+-- the needs in the order of the code
+pub find-label-spec : {M : Type 1} → statement M
+find-label-spec =
+    tie.close
+    (tie.spec
+    Inv-loop
+    μ-loop
+    loop-holds
+    (λ c. omega arith)
+    (λ c κs. search needs)
+    returns
+    (λ c. omega arith)
+    (λ c. omega arith)
+    loop-again
+    returns-2
+    returns-3)
