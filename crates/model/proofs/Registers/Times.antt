@@ -77,9 +77,9 @@ pub few-times : (r : Register) (k : Reachable r) (v : ℕ) → timesRelabelled v
 unfolding mostTimes
 few-times r k v = go (decLe (degree (r .edges) v) 1)
   where
-    go : Dec (degree (r .edges) v ≤ 1) → timesRelabelled v (history k) ≤ 2 * floorLog (length (r .edges))
+    go : Dec (degree (r .edges) v ≤ 1) → timesRelabelled v (history k) ≤ mostTimes (length (r .edges))
     go (yes q) = omega (arith, none (timesRelabelled v (history k)) ((room-times r k v) .not-yet q))
-    go (no q) = floorLog-square (timesRelabelled v (history k)) (length (r .edges)) ((room-times r k v) .always (omega (arith, q)))
+    go (no q) = omega (arith, floorLog-square (timesRelabelled v (history k)) (length (r .edges)) ((room-times r k v) .always (omega (arith, q))))
 
 -- ---- and fewer where there is less room
 
