@@ -8,6 +8,7 @@
 //! - [`lent`]: the same over lent tables, and what the tables hold;
 //! - [`print`]: what the printing program prints;
 //! - [`gen`]: lists of every kind, drawn from a seed;
+//! - [`times`]: how often each tag is re-hung;
 //! - [`arguments`], [`child`], [`tally`] and [`workers`]: reading a command line, asking a binary,
 //!   counting outcomes, and doing so on every core.
 
@@ -25,6 +26,7 @@ pub mod refusal;
 pub mod ring;
 pub mod run;
 pub mod tally;
+pub mod times;
 pub mod workers;
 
 #[cfg(test)]
