@@ -2,7 +2,7 @@
 use crate::sizes::sizes_fit;
 use counters::counts::Counts;
 use counters::refusals::Refusal;
-use holding::replay::is_held;
+use holding::held::is_held;
 use tables::whole::clear_tables;
 ghost use mathlib.Core.Path.{_≡_};
 ghost use mathlib.Core.Bool.{_&&_};

@@ -1,7 +1,7 @@
 -- Single steps on the lent tables, as functions of lists that mirror the code. A read past a table's end gives 0 and a write past it
 -- changes nothing; a sum stops at the largest number of its type. That no register meets these ends is a theorem on the definitions.
 use mathlib.Core.Path.{_≡_}
-use Prim.Native.Nat.{ℕ, _+_, _*_, _-_, min}
+use Prim.Native.Nat.{ℕ, _+_, _*_, min}
 use mathlib.Core.Bool.{Bool, true}
 use mathlib.Core.List.{List, []}
 use lib.ListN.{length, getD, set, replicate}
@@ -46,10 +46,6 @@ more32 n = min (n + 1) most32
 
 unfoldable pub sum32 : ℕ → ℕ → ℕ
 sum32 m n = min (m + n) most32
-
--- the next label, upwards or downwards
-unfoldable pub nextIn : Bool → ℕ → ℕ
-nextIn up label = if up then more32 label else label - 1
 
 -- one more edge end at vertex v
 unfoldable pub raiseIn : List ℕ → ℕ → List ℕ
