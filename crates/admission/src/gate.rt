@@ -9,7 +9,7 @@ ghost use mathlib.Core.Bool.{_&&_};
 ghost use Rattle.model.specs.Tables.{fits};
 ghost use Rattle.model.specs.Calls.{scratchAfter};
 ghost use Rattle.counters.specs.Answers.{countsIn};
-ghost use Rattle.tables.specs.Steps.{tables};
+ghost use Rattle.tables.specs.Meaning.{tables};
 ghost use Rattle.admission.specs.Lent.{lent};
 ghost use Rattle.admission.specs.Gate.{barred, gateRefusal, zeroedIf};
 

@@ -6,7 +6,8 @@ use tables::whole::clear_tables;
 use tables::whole::same_tables;
 ghost use mathlib.Core.Path.{_≡_};
 ghost use Rattle.counters.specs.Answers.{countsIn};
-ghost use Rattle.tables.specs.Steps.{tables, zeroed, Tells};
+ghost use Rattle.tables.specs.Meaning.{tables};
+ghost use Rattle.tables.specs.Steps.{zeroed, Tells};
 ghost use Rattle.holding.specs.Replay.{Regrows};
 
 fn same_counts(a: Counts, b: Counts) -> bool

@@ -8,7 +8,7 @@ use tables::access::at16;
 use tables::access::at32;
 ghost use mathlib.Core.Path.{_≡_};
 ghost use Rattle.counters.specs.Answers.{countsIn};
-ghost use Rattle.tables.specs.Steps.{tables};
+ghost use Rattle.tables.specs.Meaning.{tables};
 ghost use Rattle.insertion.specs.Insertion.{landingIn};
 ghost use Rattle.insertion.specs.Meaning.{answerIn};
 ghost use Rattle.holding.specs.Replay.{replayIn, regrowIn};

@@ -16,7 +16,8 @@ use Rattle.model.specs.Tables.{Tables, Counts}
 use Rattle.counters.specs.Answers.{counts}
 use Rattle.counters.specs.Numbers.{within}
 use Rattle.counters.proofs.Within.{within-yes, within-below, within-above}
-use Rattle.tables.specs.Steps.{tables, setPair, more16, sum32}
+use Rattle.tables.specs.Meaning.{tables}
+use Rattle.tables.specs.Steps.{setPair, more16, sum32}
 use Rattle.insertion.specs.Placing.{placed, placeIn}
 use Rattle.insertion.specs.Insertion.{done, refusedIn, landingIn, landVertexIn, insertIn, passed, failed, checkIn, landChecked, landIn}
 use Rattle.insertion.specs.Meaning.{checkedIn}

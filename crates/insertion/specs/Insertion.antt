@@ -7,7 +7,8 @@ use Rattle.model.specs.Basics.{if_then_else_, maxEdges, maxLength, maxVertices}
 use Rattle.model.specs.Graph.{Edge}
 use Rattle.model.specs.Tables.{Tables, Counts}
 use Rattle.counters.specs.Answers.{counts}
-use Rattle.tables.specs.Steps.{tables, setPair, more16, sum32}
+use Rattle.tables.specs.Meaning.{tables}
+use Rattle.tables.specs.Steps.{setPair, more16, sum32}
 use Rattle.insertion.specs.Placing.{placedBy}
 
 -- the counts after a landing and whether a ring may stand then, or its refusal

@@ -16,7 +16,8 @@ use tables::steps::put_pair;
 ghost use mathlib.Core.Path.{_≡_};
 ghost use lib.ListN.{set};
 ghost use Rattle.counters.specs.Answers.{countsIn};
-ghost use Rattle.tables.specs.Steps.{tables, setPair};
+ghost use Rattle.tables.specs.Meaning.{tables};
+ghost use Rattle.tables.specs.Steps.{setPair};
 ghost use Rattle.insertion.specs.Insertion.{landingIn, insertIn, checkIn, landIn};
 ghost use Rattle.insertion.specs.Meaning.{answerIn, checkedIn};
 

@@ -15,7 +15,7 @@ ghost use lib.ListN.{length};
 ghost use lib.Dec.{ltb};
 ghost use Rattle.model.specs.Tables.{noCounts};
 ghost use Rattle.counters.specs.Answers.{counts, countsIn, stopIn};
-ghost use Rattle.tables.specs.Steps.{tables};
+ghost use Rattle.tables.specs.Meaning.{tables};
 ghost use Rattle.insertion.specs.Meaning.{answerIn};
 ghost use Rattle.list.specs.Reading.{recordAt};
 ghost use Rattle.landing.specs.Records.{stepOf, steppedIn, landRecordIn, readingIn, landRecordsIn, landListIn};

@@ -14,7 +14,7 @@ ghost use Prim.Native.Nat.{ℕ};
 ghost use lib.ListN.{length, replicate};
 ghost use Rattle.model.specs.Queries.{concat};
 ghost use Rattle.counters.specs.Answers.{countsIn};
-ghost use Rattle.tables.specs.Steps.{tables};
+ghost use Rattle.tables.specs.Meaning.{tables};
 ghost use Rattle.text.specs.Pages.{page, write};
 ghost use Rattle.chains.specs.Answers.{rowOf};
 ghost use Rattle.chains.specs.Chains.{namesIn, sheetIn};

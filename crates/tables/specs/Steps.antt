@@ -8,12 +8,8 @@ use lib.ListN.{length, getD, set, replicate}
 use lib.Dec.{eqb}
 use Rattle.model.specs.Basics.{if_then_else_}
 use Rattle.model.specs.Graph.{Edge}
-use Rattle.model.specs.Tables.{Tables, Counts, Stored, edgeIn, edgesIn}
-
--- the five tables as one record
-abbrev pub tables : List ℕ → List ℕ → List ℕ → List ℕ → List ℕ → Tables
-tables degrees sides ends lengths labels =
-    record { degrees = degrees; sides = sides; ends = ends; lengths = lengths; labels = labels }
+use Rattle.model.specs.Tables.{Tables, edgeIn, edgesIn}
+use Rattle.tables.specs.Meaning.{tables}
 
 -- the answer r tells whether a is b
 abbrev pub Tells : {A : Type 0} → Bool → A → A → Type 0
@@ -59,10 +55,6 @@ unfoldable pub zeroed : Tables → Tables
 zeroed t =
     tables (replicate (length (t .degrees)) 0) (replicate (length (t .sides)) 0) (replicate (length (t .ends)) 0)
     (replicate (length (t .lengths)) 0) (replicate (length (t .labels)) 0)
-
--- tables and counts as one record
-abbrev pub stored : Tables → Counts → Stored
-stored t c = record { tables = t; counts = c }
 
 -- edge e, and the first m: edges stand in the tables of ends and lengths alone
 abbrev pub edgeOf : List ℕ → List ℕ → ℕ → Edge
