@@ -2,14 +2,14 @@
 use crate::sizes::sizes_fit;
 use counters::counts::Counts;
 use counters::refusals::Refusal;
-use holding::replay::is_held;
+use holding::held::is_held;
 use tables::whole::clear_tables;
 ghost use mathlib.Core.Path.{_≡_};
 ghost use mathlib.Core.Bool.{_&&_};
 ghost use Rattle.model.specs.Tables.{fits};
 ghost use Rattle.model.specs.Calls.{scratchAfter};
 ghost use Rattle.counters.specs.Answers.{countsIn};
-ghost use Rattle.tables.specs.Steps.{tables};
+ghost use Rattle.tables.specs.Meaning.{tables};
 ghost use Rattle.admission.specs.Lent.{lent};
 ghost use Rattle.admission.specs.Gate.{barred, gateRefusal, zeroedIf};
 

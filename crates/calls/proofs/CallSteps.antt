@@ -20,7 +20,7 @@ use Rattle.model.specs.Calls.{Call, finds, grows, lands, measures, reaches, she
 use Rattle.counters.specs.declared.counts.Counts.{Counts}
 use Rattle.counters.specs.declared.answers.ListAnswer.{ListAnswer}
 use Rattle.counters.specs.Answers.{countsIn, listReply}
-use Rattle.tables.specs.Steps.{tables}
+use Rattle.tables.specs.Meaning.{tables}
 use Rattle.admission.specs.Lent.{lent, outcome}
 use Rattle.questions.specs.Meaning.{foundReply, listedReply, measuredReply, reachedReply, writtenReply}
 use Rattle.calls.proofs.grow.grow as grow

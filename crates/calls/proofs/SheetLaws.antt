@@ -10,7 +10,7 @@ use Rattle.model.specs.Queries.{Reply}
 use Rattle.model.specs.Tables.{Tables, Counts, cleared}
 use Rattle.model.specs.Calls.{sheets, scratchAfter, step}
 use Rattle.model.proofs.Series.Calls.{scratch-cleared}
-use Rattle.tables.specs.Steps.{tables}
+use Rattle.tables.specs.Meaning.{tables}
 use Rattle.admission.specs.Lent.{lent, outcome}
 use Rattle.admission.specs.Gate.{barred}
 use Rattle.admission.proofs.GateLaws.{opened}

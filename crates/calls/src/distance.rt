@@ -9,7 +9,7 @@ ghost use mathlib.Core.Path.{_≡_};
 ghost use mathlib.Core.List.{[]};
 ghost use Rattle.model.specs.Calls.{measures, step};
 ghost use Rattle.counters.specs.Answers.{countsIn};
-ghost use Rattle.tables.specs.Steps.{tables};
+ghost use Rattle.tables.specs.Meaning.{tables};
 ghost use Rattle.admission.specs.Lent.{lent, outcome};
 ghost use Rattle.questions.specs.Meaning.{measuredReply};
 

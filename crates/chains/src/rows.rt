@@ -1,6 +1,5 @@
-// Rows of the sheet: of one chain, and of all. A chain is walked once, for its row and its marks.
+// The row of one chain, which is walked once, for its row and its marks.
 use crate::marks::WalkEnd;
-use crate::marks::next_unmarked;
 use crate::marks::walk_marking;
 use crate::numbers::greater;
 use crate::numbers::lesser;
@@ -9,15 +8,11 @@ use tables::access::add32;
 use tables::access::at16;
 use tables::access::of16;
 use tables::access::of32;
-use text::writing::put_u32;
 ghost use mathlib.Core.Path.{_≡_};
 ghost use mathlib.Core.List.{[], _∷_};
 ghost use Prim.Native.Nat.{_+_, min, max};
-ghost use lib.ListN.{length};
 ghost use Rattle.tables.specs.Steps.{sum32};
-ghost use Rattle.model.specs.Queries.{concat};
-ghost use Rattle.text.specs.Pages.{page, write};
-ghost use Rattle.chains.specs.Chains.{markChainIn, namesIn, rowIn, sheetIn};
+ghost use Rattle.chains.specs.Chains.{markChainIn, rowIn};
 ghost use Rattle.chains.specs.Answers.{rowOf};
 
 // A chain's name, its end with the lower number, its other end, its regular vertices, its length.
@@ -103,42 +98,4 @@ pub fn take_row(
         fuel,
     );
     open_row(edge, own, back, on)
-}
-
-// The five numbers of a row, one after the other.
-fn put_row(out: &mut [u32], at: usize, row: Row) -> usize
-    ensures { λ r. ⌜ page (now (out .exit)) r ≡ write (rowOf row) (page (now (out .entry)) at) ⌝ }
-{
-    let second = put_u32(out, at, row.name);
-    let third = put_u32(out, second, row.lower);
-    let fourth = put_u32(out, third, row.other);
-    let fifth = put_u32(out, fourth, row.inner);
-    put_u32(out, fifth, row.length)
-}
-
-// The rows of all chains by rising name, five numbers each, from the front of the slice on; the answer is how many there are.
-pub fn put_rows(
-    out: &mut [u32],
-    degrees: &[u16],
-    sides: &[u16],
-    ends: &[u16],
-    lengths: &[u32],
-    marks: &mut [u16],
-    edges: u16,
-) -> u16
-    ensures { λ r. ⌜ (r ≡ length (namesIn (now (degrees .entry)) (now (sides .entry)) (now (ends .entry)) edges (now (marks .entry))))
-        × (now (out .exit)
-        ≡ (write (concat (sheetIn (now (degrees .entry)) (now (sides .entry)) (now (ends .entry)) (now (lengths .entry)) edges (now (marks .entry))))
-        (page (now (out .entry)) 0)) .slice) ⌝ }
-{
-    let mut next: usize = 0;
-    let mut count: u16 = 0;
-    let mut edge = next_unmarked(marks, 0, edges);
-    while edge < edges {
-        let row = take_row(degrees, sides, ends, lengths, marks, edge, edges);
-        next = put_row(out, next, row);
-        count += 1;
-        edge = next_unmarked(marks, edge + 1, edges);
-    }
-    count
 }

@@ -14,7 +14,8 @@ use Rattle.model.specs.Register.{Landed, Register, empty, landEdge, landVertex,
 use Rattle.model.specs.Tables.{Counts, Stored, Tables, cleared, countsOf, edgeIn, edgesIn, growFrom, held, landEdges, landVertices, storedOf, tablesOf}
 use Rattle.model.specs.Notions.{Reachable, with-edge}
 use Rattle.model.proofs.Computing.{computing}
-use Rattle.tables.specs.Steps.{edgeOf, stored}
+use Rattle.tables.specs.Meaning.{stored}
+use Rattle.tables.specs.Steps.{edgeOf}
 use Rattle.counters.specs.Answers.{counts}
 use Rattle.insertion.specs.Insertion.{LandingIn, refusedIn}
 use Rattle.model.proofs.Registers.Held.{grow-again, grown-from, onVertices, vertices-grow}

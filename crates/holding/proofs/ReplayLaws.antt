@@ -13,7 +13,8 @@ use borrow.Author.Tests.{le-leb, lt-leb, eqb-true, eq-eqb}
 use Rattle.model.specs.Basics.{maxVertices}
 use Rattle.model.specs.Tables.{Tables, Counts, Stored, edgeIn}
 use Rattle.model.proofs.Registers.Equality.{counts-parts}
-use Rattle.tables.specs.Steps.{edgeOf, stored, tables, zeroed, Tells}
+use Rattle.tables.specs.Meaning.{stored, tables}
+use Rattle.tables.specs.Steps.{edgeOf, zeroed, Tells}
 use Rattle.tables.proofs.Lists.{differ}
 use Rattle.counters.specs.Answers.{counts}
 use Rattle.insertion.specs.Insertion.{AnswerIn, done, refusedIn, LandingIn, landingIn, landIn}

@@ -1,4 +1,4 @@
--- The refusals of an edge, in their order, and an insertion.
+-- A vertex; the refusals of an edge, in their order, and an insertion.
 use mathlib.Core.Path.{_≡_, refl, sym, _∙_}
 use mathlib.Core.Bool.{Bool, true, false, _||_}
 use mathlib.Core.List.{List}
@@ -9,18 +9,29 @@ use native.Mathlib.Decide.{decLe, decLt}
 use borrow.Author.Tests.{eq-eqb, ne-eqb, lt-ltb, le-ltb, le-leb, lt-leb}
 use lib.Dec.{eqb, ltb}
 use lib.ListN.{getD, set}
-use Rattle.model.specs.Basics.{if_then_else_, maxEdges, maxLength}
+use Rattle.model.specs.Basics.{if_then_else_, maxEdges, maxLength, maxVertices}
 use Rattle.model.specs.Graph.{Edge}
 use Rattle.model.specs.Cases.{Case, classOf, caseOf}
 use Rattle.model.specs.Tables.{Tables, Counts}
 use Rattle.counters.specs.Answers.{counts}
 use Rattle.counters.specs.Numbers.{within}
 use Rattle.counters.proofs.Within.{within-yes, within-below, within-above}
-use Rattle.tables.specs.Steps.{tables, setPair, more16, sum32}
+use Rattle.tables.specs.Meaning.{tables}
+use Rattle.tables.specs.Steps.{setPair, more16, sum32}
 use Rattle.insertion.specs.Placing.{placed, placeIn}
-use Rattle.insertion.specs.Insertion.{done, landingIn, insertIn, passed, failed, checkIn, landChecked, landIn}
+use Rattle.insertion.specs.Insertion.{done, refusedIn, landingIn, landVertexIn, insertIn, passed, failed, checkIn, landChecked, landIn}
 use Rattle.insertion.specs.Meaning.{checkedIn}
-use Rattle.insertion.specs.declared.landing.Checked.{Checked}
+use Rattle.insertion.specs.declared.edges.Checked.{Checked}
+
+module _ (c : Counts) (rings : Bool) where
+  pub vertex-full : maxVertices ≤ c .vertices → refusedIn 22 ≡ landVertexIn c rings
+  unfolding landVertexIn
+  vertex-full h = rw (le-leb maxVertices (c .vertices) h)
+
+  pub vertex-more : (n : ℕ) → c .vertices < maxVertices → n ≡ more16 (c .vertices)
+      → done (counts n (c .edges) (c .blocks) (c .relabellings)) rings ≡ landVertexIn c rings
+  unfolding landVertexIn
+  vertex-more n h e = rw (lt-leb maxVertices (c .vertices) h, e)
 
 pub insert-done : (d s ends l t d′ s′ t′ ends′ l′ : List ℕ) (c : Counts) (rings ring after : Bool) (a b len da db blocks m edges n : ℕ) (k : Case)
     → da ≡ getD d a 0 → db ≡ getD d b 0 → k ≡ caseOf (classOf da) (classOf db)

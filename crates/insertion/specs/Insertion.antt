@@ -1,13 +1,14 @@
--- One edge into the five tables: its refusals in their order, what it leaves and its answer.
+-- One vertex or one edge into the five tables: its refusals in their order, what it leaves and its answer.
 use Prim.Native.Nat.{ℕ}
 use mathlib.Core.Bool.{Bool, not, _&&_, _||_}
 use lib.ListN.{set}
 use lib.Dec.{eqb, leb, ltb}
-use Rattle.model.specs.Basics.{if_then_else_, maxEdges, maxLength}
+use Rattle.model.specs.Basics.{if_then_else_, maxEdges, maxLength, maxVertices}
 use Rattle.model.specs.Graph.{Edge}
 use Rattle.model.specs.Tables.{Tables, Counts}
 use Rattle.counters.specs.Answers.{counts}
-use Rattle.tables.specs.Steps.{tables, setPair, more16, sum32}
+use Rattle.tables.specs.Meaning.{tables}
+use Rattle.tables.specs.Steps.{setPair, more16, sum32}
 use Rattle.insertion.specs.Placing.{placedBy}
 
 -- the counts after a landing and whether a ring may stand then, or its refusal
@@ -22,6 +23,12 @@ pub record LandingIn : Type 0 where
 
 abbrev pub landingIn : Tables → AnswerIn → LandingIn
 landingIn t a = record { tables = t; answer = a }
+
+-- a vertex changes the counts alone
+unfoldable pub landVertexIn : Counts → Bool → AnswerIn
+landVertexIn c rings =
+    if leb maxVertices (c .vertices) then refusedIn 22
+    else done (counts (more16 (c .vertices)) (c .edges) (c .blocks) (c .relabellings)) rings
 
 -- an edge that passed refusals 5, 6, 7 and 23; rings: a ring may stand
 unfoldable pub insertIn : Tables → Counts → Bool → Edge → LandingIn

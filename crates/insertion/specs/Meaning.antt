@@ -7,10 +7,10 @@ use Rattle.insertion.specs.declared.cases.Class.{Class}
 use Rattle.insertion.specs.declared.cases.Class.the-variants.{Isolated, Leaf, Regular, Branch}
 use Rattle.insertion.specs.declared.cases.Case.{Case}
 use Rattle.insertion.specs.declared.cases.Case.the-variants.{New, ExtendFirst, ExtendSecond, Merge, SplitExtendFirst, SplitExtendSecond, SplitFirst, SplitSecond, SplitBoth}
-use Rattle.insertion.specs.declared.landing.Inserted.{Inserted}
-use Rattle.insertion.specs.declared.landing.Inserted.the-variants as inserted
-use Rattle.insertion.specs.declared.landing.Checked.{Checked}
-use Rattle.insertion.specs.declared.landing.Checked.the-variants as checked
+use Rattle.insertion.specs.declared.edges.Inserted.{Inserted}
+use Rattle.insertion.specs.declared.edges.Inserted.the-variants as inserted
+use Rattle.insertion.specs.declared.edges.Checked.{Checked}
+use Rattle.insertion.specs.declared.edges.Checked.the-variants as checked
 
 abbrev pub classIn : Class → C.Class
 classIn Isolated = C.isolated

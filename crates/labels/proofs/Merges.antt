@@ -6,9 +6,9 @@ use Prim.Native.Nat.{ℕ, _+_, _*_}
 use borrow.Author.Tests.{eq-eqb, ne-eqb}
 use lib.ListN.{getD}
 use Rattle.model.specs.Labels.{base}
-use Rattle.tables.specs.Steps.{farIn, more16, nextIn}
+use Rattle.tables.specs.Steps.{farIn, more16}
 use Rattle.tables.specs.Walks.{Met, lockstepIn}
-use Rattle.labels.specs.Labelling.{marksIn, countAhead, risesIn, labelVertexIn, relabelIn, beyondIn}
+use Rattle.labels.specs.Labelling.{marksIn, countAhead, risesIn, labelVertexIn, relabelIn, beyondIn, nextIn}
 use Rattle.labels.specs.Merging.{joinIn, beginIn, changed, closeIn, keeperFor, keeperIn, mergeAt, mergeIn}
 use Rattle.labels.specs.declared.merging.Keeper.{Keeper}
 use Rattle.labels.specs.declared.merging.Keeper.the-variants.{Neither, Chain}

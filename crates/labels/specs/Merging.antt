@@ -6,9 +6,9 @@ use lib.ListN.{getD}
 use lib.Dec.{eqb}
 use Rattle.model.specs.Basics.{if_then_else_}
 use Rattle.model.specs.Labels.{base}
-use Rattle.tables.specs.Steps.{farIn, more16, nextIn}
+use Rattle.tables.specs.Steps.{farIn, more16}
 use Rattle.tables.specs.Walks.{Met, lockstepIn}
-use Rattle.labels.specs.Labelling.{MarksIn, marksIn, countAhead, risesIn, labelVertexIn, relabelIn, beyondIn}
+use Rattle.labels.specs.Labelling.{MarksIn, marksIn, countAhead, risesIn, labelVertexIn, relabelIn, beyondIn, nextIn}
 use Rattle.labels.specs.declared.merging.Keeper.{Keeper}
 use Rattle.labels.specs.declared.merging.Keeper.the-variants.{Neither, Chain}
 

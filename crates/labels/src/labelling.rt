@@ -9,22 +9,32 @@ use tables::access::at32;
 use tables::access::of16;
 use tables::access::of32;
 use tables::access::one_more16;
+use tables::access::one_more32;
 use tables::access::put32;
 use tables::steps::low_edge;
-use tables::steps::next_label;
 use tables::steps::put_pair;
 use tables::walks::Walker;
 use tables::walks::leave_leaf;
 use tables::walks::step_over;
 ghost use mathlib.Core.Path.{_≡_};
 ghost use Rattle.model.specs.Labels.{base, isRelabelled};
-ghost use Rattle.labels.specs.Labelling.{marksIn, orientIn, labelVertexIn, relabelIn, risesIn, beyondIn, extendIn};
+ghost use Rattle.labels.specs.Labelling.{marksIn, nextIn, orientIn, labelVertexIn, relabelIn, risesIn, beyondIn, extendIn};
 
 // The first label of block k: document 01's base of the k-th birth.
 pub fn base(k: u16) -> u32
     ensures { λ r. ⌜ r ≡ base k ⌝ }
 {
     8192 * (k as u32)
+}
+
+// The label after this one, upwards or downwards.
+pub fn next_label(label: u32, up: bool) -> u32
+    ensures { λ r. ⌜ r ≡ nextIn up label ⌝ }
+{
+    if up {
+        return one_more32(label);
+    }
+    if label == 0 { 0 } else { label - 1 }
 }
 
 // The sides of vertex v. Upwards the edge before it is the low one.

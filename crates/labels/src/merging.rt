@@ -2,12 +2,12 @@
 use crate::labelling::base;
 use crate::labelling::label_beyond;
 use crate::labelling::label_vertex;
+use crate::labelling::next_label;
 use crate::labelling::relabel_chain;
 use crate::labelling::rises;
 use tables::access::of16;
 use tables::access::of32;
 use tables::access::one_more16;
-use tables::steps::next_label;
 use tables::walks::Meeting;
 use tables::walks::Walker;
 use tables::walks::leave_leaf;

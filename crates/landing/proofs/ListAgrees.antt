@@ -18,8 +18,9 @@ use Rattle.model.specs.Notions.{Reachable, with-edge, with-vertex}
 use Rattle.list.specs.Reading.{badRecord, edgeTo, ends, headerAt, recordAt, recordOf, vertexTo}
 use Rattle.tables.proofs.Sums.{more16-is}
 use Rattle.agreement.proofs.Standing.{Warns, warns-edge, warns-first, warns-vertex}
+use Rattle.insertion.specs.Insertion.{landVertexIn}
 use Rattle.agreement.proofs.Landing.{edge-parts, shownIn}
-use Rattle.landing.specs.Records.{ReadingIn, landListIn, landRecordIn, landRecordsIn, landVertexIn, readingIn}
+use Rattle.landing.specs.Records.{ReadingIn, landListIn, landRecordIn, landRecordsIn, readingIn}
 use Rattle.model.proofs.Registers.Accepted.{added}
 
 -- what the definition leaves, as tables, counts and answer

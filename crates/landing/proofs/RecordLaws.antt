@@ -7,28 +7,13 @@ use mathlib.Core.Bool.{Bool}
 use mathlib.Core.List.{List}
 use lib.ListN.{length}
 use lib.Dec.{ltb}
-use borrow.Author.Tests.{le-leb, lt-leb}
-use Rattle.model.specs.Basics.{maxVertices}
 use Rattle.model.specs.Graph.{Edge}
 use Rattle.model.specs.Format.{whole, stopped}
 use Rattle.model.specs.Tables.{Tables, Counts}
-use Rattle.tables.specs.Steps.{more16}
 use Rattle.counters.specs.Answers.{counts}
-use Rattle.insertion.specs.Insertion.{AnswerIn, done, refusedIn, landingIn, landIn}
+use Rattle.insertion.specs.Insertion.{AnswerIn, done, refusedIn, landingIn, landIn, landVertexIn}
 use Rattle.list.specs.Reading.{good, badHeader, RecordAt, ends, vertexTo, edgeTo, badRecord, headerAt, recordAt}
-use Rattle.landing.specs.Records.{StepIn, ended, wentOn, stoppedIn, SteppedIn, steppedIn, stepOf, landVertexIn, landRecordIn, ReadingIn, readingIn, landRecordsIn, landListIn}
-
--- ---- a vertex
-
-module _ (c : Counts) (rings : Bool) where
-  pub vertex-full : maxVertices ≤ c .vertices → refusedIn 22 ≡ landVertexIn c rings
-  unfolding landVertexIn
-  vertex-full h = rw (le-leb maxVertices (c .vertices) h)
-
-  pub vertex-more : (n : ℕ) → c .vertices < maxVertices → n ≡ more16 (c .vertices)
-      → done (counts n (c .edges) (c .blocks) (c .relabellings)) rings ≡ landVertexIn c rings
-  unfolding landVertexIn
-  vertex-more n h e = rw (lt-leb maxVertices (c .vertices) h, e)
+use Rattle.landing.specs.Records.{StepIn, ended, wentOn, stoppedIn, SteppedIn, steppedIn, stepOf, landRecordIn, ReadingIn, readingIn, landRecordsIn, landListIn}
 
 -- ---- one record
 

@@ -3,13 +3,10 @@ use Prim.Native.Nat.{ℕ, zero, suc, _+_}
 use mathlib.Core.Bool.{Bool}
 use mathlib.Core.List.{List}
 use lib.ListN.{length}
-use lib.Dec.{leb, ltb}
-use Rattle.model.specs.Basics.{if_then_else_, maxVertices}
+use lib.Dec.{ltb}
 use Rattle.model.specs.Format.{Stop, whole, stopped}
 use Rattle.model.specs.Tables.{Tables, Counts}
-use Rattle.counters.specs.Answers.{counts}
-use Rattle.tables.specs.Steps.{more16}
-use Rattle.insertion.specs.Insertion.{AnswerIn, done, refusedIn, landIn}
+use Rattle.insertion.specs.Insertion.{AnswerIn, done, refusedIn, landIn, landVertexIn}
 use Rattle.list.specs.Reading.{good, RecordAt, ends, vertexTo, edgeTo, badHeader, badRecord, headerAt, recordAt}
 
 -- what stands behind a record: the end of the list; the counts, whether a ring may stand, and the next index; or the record's refusal
@@ -29,12 +26,6 @@ steppedIn t s = record { tables = t; step = s }
 abbrev pub stepOf : ℕ → AnswerIn → StepIn
 stepOf i (done c rings) = wentOn c rings i
 stepOf i (refusedIn x) = stoppedIn x
-
--- a vertex changes the counts alone
-unfoldable pub landVertexIn : Counts → Bool → AnswerIn
-landVertexIn c rings =
-    if leb maxVertices (c .vertices) then refusedIn 22
-    else done (counts (more16 (c .vertices)) (c .edges) (c .blocks) (c .relabellings)) rings
 
 -- one record on the tables; i is the index behind it
 unfoldable pub landRecordIn : Tables → Counts → Bool → RecordAt → SteppedIn

@@ -1,25 +1,24 @@
 // A list landed on the tables, record by record.
 use counters::answers::Stop;
 use counters::counts::Counts;
-use counters::numbers::Vertex;
 use counters::refusals::Refusal;
-use insertion::landing::Inserted;
-use insertion::landing::land_edge;
+use insertion::edges::Inserted;
+use insertion::edges::land_edge;
+use insertion::vertices::land_vertex;
 use list::reader::record_at;
 use list::records::Cursor;
 use list::records::Header;
 use list::records::Record;
 use list::records::read_header;
-use tables::access::one_more16;
 ghost use mathlib.Core.Path.{_≡_};
 ghost use lib.ListN.{length};
 ghost use lib.Dec.{ltb};
 ghost use Rattle.model.specs.Tables.{noCounts};
 ghost use Rattle.counters.specs.Answers.{counts, countsIn, stopIn};
-ghost use Rattle.tables.specs.Steps.{tables};
+ghost use Rattle.tables.specs.Meaning.{tables};
 ghost use Rattle.insertion.specs.Meaning.{answerIn};
 ghost use Rattle.list.specs.Reading.{recordAt};
-ghost use Rattle.landing.specs.Records.{landVertexIn, stepOf, steppedIn, landRecordIn, readingIn, landRecordsIn, landListIn};
+ghost use Rattle.landing.specs.Records.{stepOf, steppedIn, landRecordIn, readingIn, landRecordsIn, landListIn};
 ghost use Rattle.landing.specs.Meaning.{stepMeans, readingMeans};
 
 // What stands behind a record: the end of the list; the counts, whether a ring may stand, and the next record; or the record's refusal.
@@ -33,21 +32,6 @@ pub enum Step {
 pub struct Reading {
     pub counts: Counts,
     pub stop: Stop,
-}
-
-fn land_vertex(counts: Counts, rings: bool) -> Inserted
-    ensures { λ r. ⌜ answerIn r ≡ landVertexIn (countsIn counts) rings ⌝ }
-{
-    if Vertex::COUNT <= counts.vertices {
-        return Inserted::Refused(Refusal::TooManyVertices);
-    }
-    let after = Counts {
-        vertices: one_more16(counts.vertices),
-        edges: counts.edges,
-        blocks: counts.blocks,
-        relabellings: counts.relabellings,
-    };
-    Inserted::Done(after, rings)
 }
 
 // A landed record goes on at the next one, a refused one stops.

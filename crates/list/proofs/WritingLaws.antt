@@ -11,7 +11,7 @@ use Rattle.model.specs.Tables.{Tables, Counts, countsOf, edgeIn, edgesIn, table
 use Rattle.model.proofs.Basics.Lists.{length-upTo}
 use Rattle.model.proofs.Registers.ReadBack.{edges-read}
 use Rattle.model.proofs.Registers.Written.{list-long}
-use Rattle.tables.specs.Steps.{tables}
+use Rattle.tables.specs.Meaning.{tables}
 use Rattle.text.specs.Pages.{Page, write}
 use Rattle.text.proofs.PageLaws.{write-two}
 use Rattle.text.proofs.Pieces.{Pieces}

@@ -5,7 +5,7 @@ use lib.ListN.{replicate}
 use Rattle.model.specs.Basics.{upTo}
 use Rattle.model.specs.Format.{edgeRecords, header}
 use Rattle.model.specs.Tables.{Counts, edgeIn}
-use Rattle.tables.specs.Steps.{tables}
+use Rattle.tables.specs.Meaning.{tables}
 
 -- the records of edges, by their numbers
 unfoldable pub recordsIn : List ℕ → List ℕ → List ℕ → List ℕ

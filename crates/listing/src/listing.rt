@@ -31,7 +31,7 @@ ghost use Rattle.listing.specs.Listing.{listingIn, headBytes, rowBytes, 
 pub const ROOM: usize = 262144;
 
 // The line of a row.
-fn put_row(out: &mut [u8], at: usize, row: Row) -> usize
+fn put_row_line(out: &mut [u8], at: usize, row: Row) -> usize
     ensures { λ r. ⌜ (page (now (out .exit)) r ≡ write (line (rowOf row)) (page (now (out .entry)) at)) × (r ≤ at + rowBytes) ⌝ }
 {
     let name = row.name;
@@ -51,7 +51,7 @@ fn put_row(out: &mut [u8], at: usize, row: Row) -> usize
 }
 
 // The sheet, one chain a line.
-fn put_sheet(
+fn put_sheet_lines(
     out: &mut [u8],
     at: usize,
     degrees: &[u16],
@@ -69,7 +69,7 @@ fn put_sheet(
     let mut edge = next_unmarked(marks, 0, edges);
     while edge < edges {
         let row = take_row(degrees, sides, ends, lengths, marks, edge, edges);
-        next = put_row(out, next, row);
+        next = put_row_line(out, next, row);
         edge = next_unmarked(marks, edge + 1, edges);
     }
     next
@@ -117,7 +117,7 @@ fn put_listing(
         chains as u64,
         relabellings as u64,
     );
-    let next = put_sheet(out, sheet, degrees, sides, ends, lengths, &mut marks, edges);
+    let next = put_sheet_lines(out, sheet, degrees, sides, ends, lengths, &mut marks, edges);
     put_stop(out, next, stop)
 }
 

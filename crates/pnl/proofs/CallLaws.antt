@@ -15,7 +15,7 @@ use Rattle.model.specs.Tables.{Tables, Counts, cleared, noCounts, storedOf}
 use Rattle.model.specs.Notions.{HeldOf}
 use Rattle.model.proofs.Registers.OnlyHeld.{held-counts, held-tables}
 use Rattle.model.proofs.Series.Landings.{reachable-grown}
-use Rattle.tables.specs.Steps.{stored, tables}
+use Rattle.tables.specs.Meaning.{stored, tables}
 use Rattle.chains.specs.Finding.{findIn, reachIn}
 use Rattle.agreement.proofs.Sheeting.{sheet-agrees, sheetOver}
 use Rattle.agreement.proofs.Finding.{reach-agrees}

@@ -1,21 +1,9 @@
--- How the contracts of the calls from C are put: the answer slice with the value, and what a question asks.
+-- How the contracts of the calls from C are put: the answer slice with the value.
 use Prim.Native.Nat.{ℕ}
 use mathlib.Core.List.{List}
 use lib.IntN.{ℤ}
-use lib.ListN.{length}
 use Rattle.model.specs.FromC.{Returned}
-use Rattle.model.specs.Register.{Register}
-use Rattle.model.specs.Queries.{Reply, listed, find, reach, measure, sheet}
-use Rattle.pnl.specs.declared.grown.Question.{Question}
-use Rattle.pnl.specs.declared.grown.Question.the-variants.{Sheet, Find, Reach, Distance}
 
 -- the answer slice afterwards, and the value
 abbrev pub returned : List ℕ → ℤ → Returned
 returned slice value = record { slice = slice; value = value }
-
--- what a question answers of a register
-abbrev pub questionMeans : Question → Register → Reply
-questionMeans Sheet = λ r. listed (length (sheet r))
-questionMeans (Find label) = λ r. find r label
-questionMeans (Reach v) = λ r. reach r v
-questionMeans (Distance v w) = λ r. measure r v w

@@ -26,7 +26,7 @@ pub fn refused(refusal: Refusal) -> i32
 }
 
 // A count of bytes. A sheet's rows are counted by a u16: at most 65,535, of 20 bytes each, and no answer has more.
-pub fn counted(n: usize) -> i32
+pub fn byte_count(n: usize) -> i32
     requires { ⌜ n ≤ 20 * 65535 ⌝ }
     ensures { λ r. ⌜ r ≡ pos n ⌝ }
 {
@@ -55,7 +55,7 @@ fn answer_numbers(answer: &mut [u8], numbers: &[u32]) -> i32
         return refused(Refusal::ShortSlice);
     }
     put_words(answer, 0, numbers);
-    counted(size)
+    byte_count(size)
 }
 
 pub fn answer_found(answer: &mut [u8], found: FoundChain) -> i32

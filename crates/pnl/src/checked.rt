@@ -12,7 +12,7 @@ ghost use mathlib.Core.List.{List};
 ghost use Prim.Native.Nat.{ℕ, _≤_};
 ghost use Rattle.model.specs.Basics.{maxVertices};
 ghost use Rattle.counters.specs.Answers.{countsIn};
-ghost use Rattle.tables.specs.Steps.{tables};
+ghost use Rattle.tables.specs.Meaning.{tables};
 ghost use Rattle.chains.specs.Finding.{reachIn};
 ghost use Rattle.questions.specs.Meaning.{measuredReply, reachedReply};
 ghost use Rattle.questions.specs.Measure.{Measurable, measureIn};

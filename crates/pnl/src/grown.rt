@@ -20,9 +20,10 @@ ghost use Rattle.model.specs.Register.{Register};
 ghost use Rattle.model.specs.FromC.{fromC, returnsReply};
 ghost use Rattle.model.specs.Notions.{HeldOf};
 ghost use Rattle.counters.specs.Answers.{countsIn};
-ghost use Rattle.tables.specs.Steps.{stored, tables};
+ghost use Rattle.tables.specs.Meaning.{stored, tables};
 ghost use Rattle.questions.specs.Measure.{Measurable};
-ghost use Rattle.pnl.specs.FromC.{returned, questionMeans};
+ghost use Rattle.pnl.specs.Questions.{questionMeans};
+ghost use Rattle.pnl.specs.FromC.{returned};
 
 // What may be asked from C.
 pub enum Question {

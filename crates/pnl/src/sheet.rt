@@ -1,5 +1,5 @@
 // The sheet as a call's answer: five numbers a chain, by rising name.
-use crate::answers::counted;
+use crate::answers::byte_count;
 use crate::answers::put_words;
 use crate::answers::refused;
 use chains::marks::next_unmarked;
@@ -22,7 +22,7 @@ ghost use Rattle.pnl.specs.FromC.{returned};
 // Four bytes a number.
 const ROW_BYTES: usize = 4 * ROW;
 
-fn put_row(out: &mut [u8], at: usize, row: Row) -> usize
+fn put_row_bytes(out: &mut [u8], at: usize, row: Row) -> usize
     ensures { λ r. ⌜ page (now (out .exit)) r ≡ write (bytesOf (rowOf row)) (page (now (out .entry)) at) ⌝ }
 {
     let numbers = [row.name, row.lower, row.other, row.inner, row.length];
@@ -30,7 +30,7 @@ fn put_row(out: &mut [u8], at: usize, row: Row) -> usize
 }
 
 // The rows of all chains; the answer is how many there are.
-fn put_sheet(
+fn put_sheet_bytes(
     out: &mut [u8],
     degrees: &[u16],
     sides: &[u16],
@@ -49,7 +49,7 @@ fn put_sheet(
     let mut edge = next_unmarked(marks, 0, edges);
     while edge < edges {
         let row = take_row(degrees, sides, ends, lengths, marks, edge, edges);
-        next = put_row(out, next, row);
+        next = put_row_bytes(out, next, row);
         count += 1;
         edge = next_unmarked(marks, edge + 1, edges);
     }
@@ -75,6 +75,6 @@ pub fn answer_sheet(
     if !has_room(degrees, sides, ends, &mut counting, edges, rows) {
         return refused(Refusal::ShortSlice);
     }
-    let count = put_sheet(answer, degrees, sides, ends, lengths, &mut marks, edges);
-    counted(ROW_BYTES * (count as usize))
+    let count = put_sheet_bytes(answer, degrees, sides, ends, lengths, &mut marks, edges);
+    byte_count(ROW_BYTES * (count as usize))
 }

@@ -16,7 +16,7 @@ use Rattle.model.specs.Calls.{Answer, answer, answers, effect, fills, finds, re
 use Rattle.model.specs.Notions.{Reachable}
 use Rattle.model.proofs.Chains.Sheet.{sheet-length}
 use Rattle.model.proofs.Registers.OnlyHeld.{held-counts, held-tables}
-use Rattle.tables.specs.Steps.{tables}
+use Rattle.tables.specs.Meaning.{tables}
 use Rattle.text.proofs.PageLaws.{write-front}
 use Rattle.chains.specs.Chains.{namesIn, sheetIn}
 use Rattle.chains.specs.Finding.{findIn, reachIn}

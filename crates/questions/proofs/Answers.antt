@@ -7,7 +7,7 @@ use Rattle.model.specs.Queries.{Reply}
 use Rattle.model.specs.Tables.{Tables, Counts}
 use Rattle.model.specs.Calls.{Call, effect}
 use Rattle.model.specs.Notions.{HeldOf}
-use Rattle.tables.specs.Steps.{stored}
+use Rattle.tables.specs.Meaning.{stored}
 
 -- what a call on the register that tables and counts hold leaves in its slice and answers; it leaves the register
 abbrev pub Answers : Call → Tables → Counts → List ℕ → Reply → Type 0

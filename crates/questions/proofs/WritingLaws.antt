@@ -10,7 +10,7 @@ use Rattle.model.specs.Queries.{Reply, refuses, wrote}
 use Rattle.model.specs.Tables.{Counts}
 use Rattle.model.specs.Calls.{answer, effect, fills, writes}
 use Rattle.model.proofs.Registers.OnlyHeld.{held-counts, held-tables}
-use Rattle.tables.specs.Steps.{tables}
+use Rattle.tables.specs.Meaning.{tables}
 use Rattle.text.specs.Pages.{page, write}
 use Rattle.text.proofs.PageLaws.{write-front}
 use Rattle.list.specs.Writing.{listIn}

@@ -11,7 +11,8 @@ ghost use Prim.Native.Nat.{ℕ, _≤_};
 ghost use lib.ListN.{length};
 ghost use Rattle.model.specs.Basics.{maxVertices};
 ghost use Rattle.counters.specs.Answers.{countsIn};
-ghost use Rattle.tables.specs.Steps.{tables, zeroed};
+ghost use Rattle.tables.specs.Meaning.{tables};
+ghost use Rattle.tables.specs.Steps.{zeroed};
 ghost use Rattle.questions.specs.Meaning.{measuredReply};
 ghost use Rattle.questions.specs.Measure.{Measurable, measureIn};
 

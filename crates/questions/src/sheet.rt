@@ -1,16 +1,23 @@
 // Sheet: five numbers a chain (document 01: run) to the front of a lent slice, or 9.
+use chains::marks::next_unmarked;
 use chains::names::has_room;
 use chains::rows::ROW;
-use chains::rows::put_rows;
+use chains::rows::Row;
+use chains::rows::take_row;
 use counters::counts::Counts;
 use counters::refusals::Refusal;
 use tables::whole::clear16;
+use text::writing::put_u32;
 ghost use mathlib.Core.Path.{_≡_};
 ghost use mathlib.Core.List.{List};
 ghost use Prim.Native.Nat.{ℕ};
 ghost use lib.ListN.{length, replicate};
+ghost use Rattle.model.specs.Queries.{concat};
 ghost use Rattle.counters.specs.Answers.{countsIn};
-ghost use Rattle.tables.specs.Steps.{tables};
+ghost use Rattle.tables.specs.Meaning.{tables};
+ghost use Rattle.text.specs.Pages.{page, write};
+ghost use Rattle.chains.specs.Answers.{rowOf};
+ghost use Rattle.chains.specs.Chains.{namesIn, sheetIn};
 ghost use Rattle.questions.specs.Meaning.{listedReply};
 ghost use Rattle.questions.specs.Answering.{answered, sheetedIn};
 
@@ -18,6 +25,44 @@ ghost use Rattle.questions.specs.Answering.{answered, sheetedIn};
 pub enum Listed {
     Chains(u16),
     Refused(Refusal),
+}
+
+// The five numbers of a row, one after the other.
+fn put_row(out: &mut [u32], at: usize, row: Row) -> usize
+    ensures { λ r. ⌜ page (now (out .exit)) r ≡ write (rowOf row) (page (now (out .entry)) at) ⌝ }
+{
+    let second = put_u32(out, at, row.name);
+    let third = put_u32(out, second, row.lower);
+    let fourth = put_u32(out, third, row.other);
+    let fifth = put_u32(out, fourth, row.inner);
+    put_u32(out, fifth, row.length)
+}
+
+// The rows of all chains by rising name, five numbers each, from the front of the slice on; the answer is how many there are.
+fn put_rows(
+    out: &mut [u32],
+    degrees: &[u16],
+    sides: &[u16],
+    ends: &[u16],
+    lengths: &[u32],
+    marks: &mut [u16],
+    edges: u16,
+) -> u16
+    ensures { λ r. ⌜ (r ≡ length (namesIn (now (degrees .entry)) (now (sides .entry)) (now (ends .entry)) edges (now (marks .entry))))
+        × (now (out .exit)
+        ≡ (write (concat (sheetIn (now (degrees .entry)) (now (sides .entry)) (now (ends .entry)) (now (lengths .entry)) edges (now (marks .entry))))
+        (page (now (out .entry)) 0)) .slice) ⌝ }
+{
+    let mut next: usize = 0;
+    let mut count: u16 = 0;
+    let mut edge = next_unmarked(marks, 0, edges);
+    while edge < edges {
+        let row = take_row(degrees, sides, ends, lengths, marks, edge, edges);
+        next = put_row(out, next, row);
+        count += 1;
+        edge = next_unmarked(marks, edge + 1, edges);
+    }
+    count
 }
 
 // Nothing is written to a slice that is too short: where it may be, the chains are counted first, over marks of their own.

@@ -12,8 +12,10 @@ use Rattle.model.specs.Basics.{maxVertices}
 use Rattle.model.specs.Distance.{Way, IsDistance, distance}
 use Rattle.model.specs.Tables.{edgesIn}
 use Rattle.model.proofs.Distances.Distance.{only-distance}
-use Rattle.tables.specs.Steps.{edgesOf, tables}
-use Rattle.search.specs.Search.{unreached, Searchable, Reason, is-goal, Grounded, Started, Settled, distanceIn}
+use Rattle.tables.specs.Meaning.{tables}
+use Rattle.tables.specs.Steps.{edgesOf}
+use Rattle.search.specs.Meaning.{distanceIn}
+use Rattle.search.specs.Search.{unreached, Searchable, Reason, is-goal, Grounded, Started, Settled}
 use Rattle.search.specs.declared.shortest.Distance.{Distance}
 use Rattle.search.specs.declared.shortest.Distance.the-variants.{Joined, NotJoined}
 use Rattle.search.proofs.Edges.{edges-only}

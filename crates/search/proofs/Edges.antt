@@ -9,7 +9,8 @@ use Rattle.model.specs.Graph.{edgeAt, noEdge}
 use Rattle.model.specs.Distance.{Joins, forth, back}
 use Rattle.model.specs.Tables.{edgeIn, edgesIn}
 use Rattle.model.proofs.Basics.Lists.{length-upTo, getD-counted}
-use Rattle.tables.specs.Steps.{edgeOf, edgesOf, tables}
+use Rattle.tables.specs.Meaning.{tables}
+use Rattle.tables.specs.Steps.{edgeOf, edgesOf}
 use Rattle.search.specs.Search.{Searchable}
 
 pub edges-length : (ends lengths : List ℕ) (m : ℕ) → length (edgesOf ends lengths m) ≡ m

@@ -51,7 +51,7 @@ fn other_end(one: u16, two: u16, j: u16) -> u16 {
 }
 
 // Where a walk along a chain goes on: the list entry of the next edge end, or 0 where it stops. A branch that it stops at is to be queued.
-pub struct Step {
+pub struct Onward {
     pub entry: u16,
     pub branch: u16,
 }
@@ -66,14 +66,14 @@ fn advance(
     distances: &mut [u32],
     from: u16,
     j: u16,
-) -> Step
+) -> Onward
     requires { ⌜ Bounded (now ends) (now lengths) edges (now distances) ⌝ }
     ensures { λ _. ⌜ Keeps (now (ends .entry)) (now (lengths .entry)) edges (now (distances .entry)) (now (distances .exit)) ⌝ }
 {
     let best = of32(distances, from);
     let v = relax_end(ends, lengths, edges, distances, j, best);
     if v == NO_VERTEX {
-        return Step {
+        return Onward {
             entry: 0,
             branch: NO_VERTEX,
         };
@@ -81,12 +81,12 @@ fn advance(
     let one = of16(heads, v);
     let two = of16(next, one);
     if of16(next, two) != 0 {
-        return Step {
+        return Onward {
             entry: 0,
             branch: v,
         };
     }
-    Step {
+    Onward {
         entry: other_end(one, two, j),
         branch: NO_VERTEX,
     }

@@ -10,8 +10,9 @@ ghost use lib.ListN.{length};
 ghost use Rattle.model.specs.Basics.{maxVertices};
 ghost use Rattle.model.specs.Tables.{edgesIn};
 ghost use Rattle.model.specs.Distance.{distance};
-ghost use Rattle.tables.specs.Steps.{tables};
-ghost use Rattle.search.specs.Search.{Searchable, Started, unreached, distanceIn};
+ghost use Rattle.tables.specs.Meaning.{tables};
+ghost use Rattle.search.specs.Meaning.{distanceIn};
+ghost use Rattle.search.specs.Search.{Searchable, Started, unreached};
 
 // A distance in millimetres, or that there is no way.
 pub enum Distance {

@@ -1,12 +1,11 @@
 // Single steps on the tables.
 use crate::access::at16;
 use crate::access::one_more16;
-use crate::access::one_more32;
 use crate::access::put16;
 ghost use mathlib.Core.Path.{_≡_};
 ghost use Prim.Native.Nat.{_*_};
 ghost use lib.ListN.{getD};
-ghost use Rattle.tables.specs.Steps.{farIn, turnIn, setPair, nextIn, raiseIn, raiseBothIn};
+ghost use Rattle.tables.specs.Steps.{farIn, turnIn, setPair, raiseIn, raiseBothIn};
 
 // The end of edge d that is not v.
 pub fn far_end(ends: &[u16], d: u16, v: u16) -> u16
@@ -40,16 +39,6 @@ pub fn put_pair(narrow: &mut [u16], i: u16, a: u16, b: u16)
     let at = 2 * (i as usize);
     put16(narrow, at, a);
     put16(narrow, at + 1, b);
-}
-
-// The label after this one, upwards or downwards.
-pub fn next_label(label: u32, up: bool) -> u32
-    ensures { λ r. ⌜ r ≡ nextIn up label ⌝ }
-{
-    if up {
-        return one_more32(label);
-    }
-    if label == 0 { 0 } else { label - 1 }
 }
 
 // One more edge end at vertex v.

@@ -2,7 +2,7 @@ use Rattle.holding.proofs.ReplayLaws.{replay-end, replay-on, replay-ref
 use Rattle.tables.proofs.SameLengths.{SameLengths, same-refl, same-on}
 use Rattle.holding.specs.Replay.{replayIn}
 use Rattle.insertion.specs.Meaning.{answerIn}
-use Rattle.tables.specs.Steps.{tables}
+use Rattle.tables.specs.Meaning.{tables}
 use Rattle.counters.specs.Answers.{countsIn}
 use native.Mathlib.Omega.{arith}
 use Prim.Native.Nat.{_+_, _*_, _≤_}

@@ -7,7 +7,7 @@ use Rattle.labels.proofs.labelling.label_beyond.Lts as lts
 use Rattle.labels.proofs.labelling.label_vertex.Reads as label-vertex-reads
 use Rattle.labels.proofs.labelling.rises.Reads as rises-reads
 use Rattle.tables.proofs.access.of32.Reads as of32-reads
-use Rattle.tables.proofs.steps.next_label.Reads as next-label-reads
+use Rattle.labels.proofs.labelling.next_label.Reads as next-label-reads
 
 -- src/labelling.rt:121:9
 rises-requires : tie.Need-rises-requires

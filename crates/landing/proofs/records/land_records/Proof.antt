@@ -2,7 +2,7 @@ use Rattle.landing.proofs.RecordLaws.{records-none, records-end, record
 use Rattle.tables.proofs.SameLengths.{SameLengths, same-refl, same-on}
 use Rattle.landing.specs.Meaning.{stepMeans}
 use Rattle.landing.specs.Records.{steppedIn, landRecordsIn}
-use Rattle.tables.specs.Steps.{tables}
+use Rattle.tables.specs.Meaning.{tables}
 use Rattle.counters.specs.Answers.{counts}
 use native.Mathlib.Omega.{arith}
 use Prim.Native.Nat.{_+_, _<_}

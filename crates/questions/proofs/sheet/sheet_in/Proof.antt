@@ -1,5 +1,5 @@
 use Rattle.questions.proofs.TableLaws.{sheet-short, sheet-whole}
-use Rattle.tables.specs.Steps.{tables}
+use Rattle.tables.specs.Meaning.{tables}
 use borrow.Author.Tests.{not-true, not-false}
 use borrow.Author.Needs.{needs}
 use Rattle.questions.proofs.sheet.sheet_in.Statement.{statement}
