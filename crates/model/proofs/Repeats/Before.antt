@@ -48,8 +48,8 @@ module _ (es : List Edge) (p : Edge) (pr : Proper es) (ne : p .first ≢ p .seco
   abbrev new : List Edge
   new = es ++ (p ∷ [])
 
-  -- at the first end of the edge on its way, or at its own leaf, the walk ended
-  pub shorter : {d v q z : ℕ} {ss : List Pass} → At es v d → Trail new d v ss q z → degree new z ≡ 1 → (b : ToLeaf es d v) × (length (b .passes) ≤ length ss)
+  -- it ended where it first meets an end of the edge, or at its leaf
+  shorter : {d v q z : ℕ} {ss : List Pass} → At es v d → Trail new d v ss q z → degree new z ≡ 1 → (b : ToLeaf es d v) × (length (b .passes) ≤ length ss)
   shorter {d} {v} a done c =
       (record { passes = []; onto = d; to = v; trail = done; leaf = omega (arith, degree-snoc es p v, at-degree es v d a) }, omega arith)
   shorter {d} {v} {q} {z} a (pass {ss = ss} t r tn u) c = go (zero-or-one (endsAt v p) (endsAt-le v p ne)) (λ b. shorter b u c)
