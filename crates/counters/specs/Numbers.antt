@@ -4,6 +4,7 @@ use mathlib.Core.Bool.{_&&_}
 use mathlib.Core.Option.{Option, none, some}
 use lib.Dec.{leb, ltb}
 use Rattle.model.specs.Basics.{if_then_else_}
+use Rattle.counters.specs.declared.numbers.Vertex.{Vertex}
 use Rattle.counters.specs.declared.numbers.CheckedVertex.{CheckedVertex}
 use Rattle.counters.specs.declared.numbers.CheckedVertex.the-variants as vertex
 use Rattle.counters.specs.declared.numbers.CheckedEdge.{CheckedEdge}
@@ -12,6 +13,10 @@ use Rattle.counters.specs.declared.numbers.CheckedLabel.{CheckedLabel}
 use Rattle.counters.specs.declared.numbers.CheckedLabel.the-variants as label
 use Rattle.counters.specs.declared.numbers.CheckedMillimetres.{CheckedMillimetres}
 use Rattle.counters.specs.declared.numbers.CheckedMillimetres.the-variants as millimetres
+
+-- the vertex of a number
+abbrev pub vertexOf : ℕ → Vertex
+vertexOf n = record { 0 = n }
 
 unfoldable pub within : ℕ → ℕ → ℕ → Option ℕ
 within low high n = if leb low n && leb n high then some n else none
