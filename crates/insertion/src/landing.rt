@@ -57,7 +57,14 @@ fn check_edge(counts: Counts, first: u16, second: u16, length: u32) -> Checked
 }
 
 // Edge e is written down, and nothing that another edge wrote is touched.
-fn record_edge(ends: &mut [u16], lengths: &mut [u32], e: Edge, a: Vertex, b: Vertex, length: Millimetres)
+fn record_edge(
+    ends: &mut [u16],
+    lengths: &mut [u32],
+    e: Edge,
+    a: Vertex,
+    b: Vertex,
+    length: Millimetres,
+)
     ensures { λ _. ⌜ (now (ends .exit) ≡ setPair (now (ends .entry)) (e .0) (a .0) (b .0))
         × (now (lengths .exit) ≡ set (now (lengths .entry)) (e .0) (length .0)) ⌝ }
 {

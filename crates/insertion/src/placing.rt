@@ -70,7 +70,18 @@ fn open_both(
     ensures { λ r. ⌜ placed (now (degrees .exit)) (now (sides .exit)) (now (labels .exit)) (r .blocks) (r .relabellings) (r .ring)
         ≡ openedIn splits (now (degrees .entry)) (now (sides .entry)) (now (ends .entry)) (now (labels .entry)) blocks (a .0) (b .0) (e .0) rings ⌝ }
 {
-    let c = split_ends(splits, degrees, sides, ends, labels, blocks, a, b, e.0, rings);
+    let c = split_ends(
+        splits,
+        degrees,
+        sides,
+        ends,
+        labels,
+        blocks,
+        a,
+        b,
+        e.0,
+        rings,
+    );
     meet_end(degrees, sides, a, e);
     meet_end(degrees, sides, b, e);
     raise_both(degrees, a, b);

@@ -94,7 +94,15 @@ fn begin_chain(
 {
     let low = base(k);
     label_vertex(sides, labels, a, low, before, between, true);
-    label_vertex(sides, labels, b, next_label(low, true), between, after, true);
+    label_vertex(
+        sides,
+        labels,
+        b,
+        next_label(low, true),
+        between,
+        after,
+        true,
+    );
 }
 
 // Edge e closes a ring: a and b are the leaves of one chain, which `first` and `second` have left. Each end gets the next label beyond
