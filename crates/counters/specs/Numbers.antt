@@ -2,21 +2,35 @@
 use Prim.Native.Nat.{ℕ}
 use mathlib.Core.Bool.{_&&_}
 use mathlib.Core.Option.{Option, none, some}
-use lib.Dec.{leb}
+use lib.Dec.{leb, ltb}
 use Rattle.model.specs.Basics.{if_then_else_}
+use Rattle.counters.specs.declared.numbers.Vertex.{Vertex}
 use Rattle.counters.specs.declared.numbers.CheckedVertex.{CheckedVertex}
 use Rattle.counters.specs.declared.numbers.CheckedVertex.the-variants as vertex
+use Rattle.counters.specs.declared.numbers.CheckedEdge.{CheckedEdge}
+use Rattle.counters.specs.declared.numbers.CheckedEdge.the-variants as edge
 use Rattle.counters.specs.declared.numbers.CheckedLabel.{CheckedLabel}
 use Rattle.counters.specs.declared.numbers.CheckedLabel.the-variants as label
 use Rattle.counters.specs.declared.numbers.CheckedMillimetres.{CheckedMillimetres}
 use Rattle.counters.specs.declared.numbers.CheckedMillimetres.the-variants as millimetres
 
+-- the vertex of a number
+abbrev pub vertexOf : ℕ → Vertex
+vertexOf n = record { 0 = n }
+
 unfoldable pub within : ℕ → ℕ → ℕ → Option ℕ
 within low high n = if leb low n && leb n high then some n else none
+
+unfoldable pub below : ℕ → ℕ → Option ℕ
+below count n = if ltb n count then some n else none
 
 abbrev pub vertexIn : CheckedVertex → Option ℕ
 vertexIn (vertex.Is v) = some (v .0)
 vertexIn vertex.OutOfRange = none
+
+abbrev pub edgeIn : CheckedEdge → Option ℕ
+edgeIn (edge.Is e) = some (e .0)
+edgeIn edge.OutOfRange = none
 
 abbrev pub labelIn : CheckedLabel → Option ℕ
 labelIn (label.Is l) = some (l .0)

@@ -1,9 +1,10 @@
-// A fitting number, a tag and a length in millimetres: three types, so that none stands where another is expected. Each has its
-// bounds, and a constructor that tests them, on a number that is wide enough to be out of them.
+// A fitting number, a tag and a length in millimetres: three types, so that none stands where another is expected; and a pipe's number.
+// Each has its bounds, and a constructor that tests them, on a number that is wide enough to be out of them. What a list or a caller says
+// becomes one of them by such a constructor alone. What is read from a lent table is of the kind that the table holds (tables::kinds).
 ghost use mathlib.Core.Path.{_≡_};
 ghost use Prim.Native.Nat.{_-_, _^_};
-ghost use Rattle.counters.specs.Numbers.{within, vertexIn, labelIn, millimetresIn};
-ghost use Rattle.model.specs.Basics.{maxVertices, maxLength};
+ghost use Rattle.counters.specs.Numbers.{within, below, vertexIn, edgeIn, labelIn, millimetresIn};
+ghost use Rattle.model.specs.Basics.{maxVertices, maxEdges, maxLength};
 
 // Document 01's fitting number, from 0.
 pub struct Vertex(pub u16);
@@ -26,6 +27,40 @@ impl Vertex {
             return CheckedVertex::Is(Vertex(n as u16));
         }
         CheckedVertex::OutOfRange
+    }
+
+    // The stricter test: one of so many that are landed.
+    pub fn landed(n: u16, count: u16) -> CheckedVertex
+        ensures { λ r. ⌜ vertexIn r ≡ below count n ⌝ }
+    {
+        if n < count {
+            return CheckedVertex::Is(Vertex(n));
+        }
+        CheckedVertex::OutOfRange
+    }
+}
+
+// Document 01's pipe number, from 0.
+pub struct Edge(pub u16);
+
+pub enum CheckedEdge {
+    Is(Edge),
+    OutOfRange,
+}
+
+impl Edge {
+    pub const MAX: u16 = 4095;
+
+    // "At most 4,096 of each": a 4,097th is refused.
+    pub const COUNT: u16 = Edge::MAX + 1;
+
+    pub fn new(n: u32) -> CheckedEdge
+        ensures { λ r. ⌜ edgeIn r ≡ within 0 (maxEdges - 1) n ⌝ }
+    {
+        if n <= (Edge::MAX as u32) {
+            return CheckedEdge::Is(Edge(n as u16));
+        }
+        CheckedEdge::OutOfRange
     }
 }
 

@@ -97,12 +97,12 @@ module _ (c : Counts) (a b n : ℕ) where
   check-edges m h g e l o =
       rw (lt-ltb _ _ h, lt-ltb _ _ g, ne-eqb _ _ e, if-some (eqb n 0 || ltb maxLength n) m n (l ∙ length-test n) .0, le-leb _ _ o)
 
-  pub check-passed : (m : ℕ) → a < c .vertices → b < c .vertices → (a ≡ b → ⊥)
-      → some m ≡ within 1 maxLength n → c .edges < maxEdges → passed m ≡ checkIn c edge
+  pub check-passed : (a′ b′ m : ℕ) → (a < c .vertices) × (a′ ≡ a) → (b < c .vertices) × (b′ ≡ b) → (a ≡ b → ⊥)
+      → some m ≡ within 1 maxLength n → c .edges < maxEdges → passed a′ b′ m ≡ checkIn c edge
   unfolding checkIn
-  check-passed m h g e l o =
+  check-passed a′ b′ m h g e l o =
       let q = if-some (eqb n 0 || ltb maxLength n) m n (l ∙ length-test n) in
-      rw (lt-ltb _ _ h, lt-ltb _ _ g, ne-eqb _ _ e, q .0, lt-leb _ _ o, q .1)
+      rw (lt-ltb _ _ (h .0), lt-ltb _ _ (g .0), ne-eqb _ _ e, q .0, lt-leb _ _ o, q .1, h .1, g .1)
 
 -- landing goes on as the check's answer says
 pub checked-given : (t : Tables) (c : Counts) (rings : Bool) (e : Edge) (k k′ : Checked) → k ≡ k′ → checkedIn k ≡ checkIn c e

@@ -39,9 +39,9 @@ insertIn t c rings e =
     (tables (p .degrees) (p .sides) (setPair (t .ends) new (e .first) (e .second)) (set (t .lengths) new (e .len)) (p .labels))
     (done (counts (c .vertices) (more16 new) (p .blocks) (sum32 (c .relabellings) (p .relabellings))) (rings || p .ring))
 
--- the length of an edge that passed, or the first of refusals 5, 6, 7 and 23 that holds of it
+-- the ends and the length of an edge that passed, or the first of refusals 5, 6, 7 and 23 that holds of it
 pub data CheckIn : Type 0 where
-  passed : ℕ → CheckIn
+  passed : ℕ → ℕ → ℕ → CheckIn
   failed : ℕ → CheckIn
 
 unfoldable pub checkIn : Counts → Edge → CheckIn
@@ -50,11 +50,11 @@ checkIn c e =
     else if eqb (e .first) (e .second) then failed 6
     else if eqb (e .len) 0 || ltb maxLength (e .len) then failed 7
     else if leb maxEdges (c .edges) then failed 23
-    else passed (e .len)
+    else passed (e .first) (e .second) (e .len)
 
 -- what landing comes to, once the edge was checked; a refused edge leaves the tables
 abbrev pub landChecked : Tables → Counts → Bool → Edge → CheckIn → LandingIn
-landChecked t c rings e (passed n) = insertIn t c rings (record { first = e .first; second = e .second; len = n })
+landChecked t c rings e (passed a b n) = insertIn t c rings (record { first = a; second = b; len = n })
 landChecked t c rings e (failed x) = landingIn t (refusedIn x)
 
 unfoldable pub landIn : Tables → Counts → Bool → Edge → LandingIn

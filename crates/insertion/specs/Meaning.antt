@@ -41,5 +41,5 @@ answerIn (inserted.Done c rings) = done (countsIn c) rings
 answerIn (inserted.Refused x) = refusedIn (numberOf x)
 
 abbrev pub checkedIn : Checked → CheckIn
-checkedIn (checked.Passed l) = passed (l .0)
+checkedIn (checked.Passed a b l) = passed (a .0) (b .0) (l .0)
 checkedIn (checked.Refused x) = failed (numberOf x)

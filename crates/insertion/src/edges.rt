@@ -4,15 +4,17 @@ use crate::cases::class_of;
 use crate::placing::place_edge;
 use counters::counts::Counts;
 use counters::numbers::CheckedMillimetres;
+use counters::numbers::CheckedVertex;
+use counters::numbers::Edge;
 use counters::numbers::Millimetres;
 use counters::numbers::Vertex;
 use counters::refusals::Refusal;
 use counters::sizes::MAX_EDGES;
 use tables::access::add32;
-use tables::access::of16;
 use tables::access::one_more16;
-use tables::access::put32;
-use tables::steps::put_pair;
+use tables::kinds::degree_of;
+use tables::kinds::put_ends;
+use tables::kinds::put_length;
 ghost use mathlib.Core.Path.{_≡_};
 ghost use lib.ListN.{set};
 ghost use Rattle.counters.specs.Answers.{countsIn};
@@ -27,22 +29,22 @@ pub enum Inserted {
     Refused(Refusal),
 }
 
-// The first of refusals 5, 6, 7 and 23 that holds of an edge (document 01: pipe), or its length where none does.
+// The first of refusals 5, 6, 7 and 23 that holds of an edge (document 01: pipe), or its ends and its length where none does.
 pub enum Checked {
-    Passed(Millimetres),
+    Passed(Vertex, Vertex, Millimetres),
     Refused(Refusal),
 }
 
-// Document 01's order. These refusals look at no table.
+// Document 01's order. These refusals look at no table. What a record says is a plain number until it is tested here.
 fn check_edge(counts: Counts, first: u16, second: u16, length: u32) -> Checked
     ensures { λ r. ⌜ checkedIn r ≡ checkIn (countsIn counts) (record { first = first; second = second; len = length }) ⌝ }
 {
-    if counts.vertices <= first {
+    let CheckedVertex::Is(a) = Vertex::landed(first, counts.vertices) else {
         return Checked::Refused(Refusal::NotLanded);
-    }
-    if counts.vertices <= second {
+    };
+    let CheckedVertex::Is(b) = Vertex::landed(second, counts.vertices) else {
         return Checked::Refused(Refusal::NotLanded);
-    }
+    };
     if first == second {
         return Checked::Refused(Refusal::SameVertex);
     }
@@ -52,16 +54,23 @@ fn check_edge(counts: Counts, first: u16, second: u16, length: u32) -> Checked
     if MAX_EDGES <= counts.edges {
         return Checked::Refused(Refusal::TooManyEdges);
     }
-    Checked::Passed(millimetres)
+    Checked::Passed(a, b, millimetres)
 }
 
 // Edge e is written down, and nothing that another edge wrote is touched.
-fn record_edge(ends: &mut [u16], lengths: &mut [u32], e: u16, a: u16, b: u16, length: u32)
-    ensures { λ _. ⌜ (now (ends .exit) ≡ setPair (now (ends .entry)) e a b)
-        × (now (lengths .exit) ≡ set (now (lengths .entry)) e length) ⌝ }
+fn record_edge(
+    ends: &mut [u16],
+    lengths: &mut [u32],
+    e: Edge,
+    a: Vertex,
+    b: Vertex,
+    length: Millimetres,
+)
+    ensures { λ _. ⌜ (now (ends .exit) ≡ setPair (now (ends .entry)) (e .0) (a .0) (b .0))
+        × (now (lengths .exit) ≡ set (now (lengths .entry)) (e .0) (length .0)) ⌝ }
 {
-    put_pair(ends, e, a, b);
-    put32(lengths, e as usize, length);
+    put_ends(ends, e, a, b);
+    put_length(lengths, e, length);
 }
 
 // An edge that no refusal of `check_edge` holds of. Whether a ring may stand is carried along: a ring comes by a closing alone, so that
@@ -84,10 +93,12 @@ fn insert_edge(
         (tables (now (degrees .entry)) (now (sides .entry)) (now (ends .entry)) (now (lengths .entry)) (now (labels .entry)))
         (countsIn counts) rings (record { first = first .0; second = second .0; len = length .0 }) ⌝ }
 {
-    let a = first.0;
-    let b = second.0;
-    let e = counts.edges;
-    let case = case_of(class_of(of16(degrees, a)), class_of(of16(degrees, b)));
+    // below MAX_EDGES: 23 was tested
+    let e = Edge(counts.edges);
+    let case = case_of(
+        class_of(degree_of(degrees, first)),
+        class_of(degree_of(degrees, second)),
+    );
     let p = place_edge(
         case,
         degrees,
@@ -95,15 +106,15 @@ fn insert_edge(
         ends,
         labels,
         counts.blocks,
-        a,
-        b,
+        first,
+        second,
         e,
         rings,
     );
-    record_edge(ends, lengths, e, a, b, length.0);
+    record_edge(ends, lengths, e, first, second, length);
     let after = Counts {
         vertices: counts.vertices,
-        edges: one_more16(e),
+        edges: one_more16(counts.edges),
         blocks: p.blocks,
         relabellings: add32(counts.relabellings, p.relabellings),
     };
@@ -132,23 +143,18 @@ pub fn land_edge(
 {
     let checked = check_edge(counts, first, second, length);
     match checked {
-        Checked::Passed(millimetres) => {
-            // below counts.vertices, so within Vertex::MAX in every register
-            let v = Vertex(first);
-            let w = Vertex(second);
-            insert_edge(
-                degrees,
-                sides,
-                ends,
-                lengths,
-                labels,
-                counts,
-                v,
-                w,
-                millimetres,
-                rings,
-            )
-        }
+        Checked::Passed(a, b, millimetres) => insert_edge(
+            degrees,
+            sides,
+            ends,
+            lengths,
+            labels,
+            counts,
+            a,
+            b,
+            millimetres,
+            rings,
+        ),
         Checked::Refused(refusal) => Inserted::Refused(refusal),
     }
 }

@@ -3,48 +3,34 @@ use Rattle.insertion.proofs.Answers.{checked-given}
 use borrow.Author.Needs.{needs}
 use Rattle.insertion.proofs.edges.land_edge.Statement.{statement}
 use Rattle.insertion.proofs.edges.land_edge.Tie as tie
-use Rattle.insertion.proofs.edges.land_edge.Reads as reads
-use Rattle.insertion.proofs.edges.land_edge.Lts as lts
-use Rattle.insertion.proofs.edges.check_edge.Reads as check-edge-reads
-use Rattle.insertion.proofs.edges.insert_edge.Reads as insert-edge-reads
 
--- src/edges.rt:131:9
 check-edge-requires : tie.Need-check-edge-requires
 check-edge-requires c κs = search needs
 
--- src/edges.rt:133:25
 enum-known-checked : tie.Need-enum-known-checked
 enum-known-checked c = search needs
 
--- src/edges.rt:137:13
 insert-edge-requires : tie.Need-insert-edge-requires
 insert-edge-requires c κs = search needs
 
--- src/edges.rt:150:26
 enum-known-checked-2 : tie.Need-enum-known-checked-2
 enum-known-checked-2 c = search needs
 
--- src/edges.rt:113:1
 same-length : tie.Need-same-length
 same-length c = search needs
 
--- src/edges.rt:113:1
 same-length-2 : tie.Need-same-length-2
 same-length-2 c = search needs
 
--- src/edges.rt:113:1
 same-length-3 : tie.Need-same-length-3
 same-length-3 c = search needs
 
--- src/edges.rt:113:1
 same-length-4 : tie.Need-same-length-4
 same-length-4 c = search needs
 
--- src/edges.rt:113:1
 same-length-5 : tie.Need-same-length-5
 same-length-5 c = search needs
 
--- src/edges.rt:113:1
 returns : tie.Need-returns
 returns c =
     let at-insert-edge = c .before .before .before .before .before .before .before .before .before .before in
@@ -52,7 +38,6 @@ returns c =
     let at-check-edge = at-checked .before .before in
     at-insert-edge .insert-edge .ensures ∙ checked-given _ _ _ _ _ _ (at-checked .checked .given .1) (at-check-edge .check-edge .ensures)
 
--- src/edges.rt:113:1
 returns-2 : tie.Need-returns-2
 returns-2 c = checked-given _ _ _ _ _ _ (c .before .checked2 .given .1) (c .before .before .before .check-edge .ensures)
 

@@ -1,7 +1,7 @@
 use borrow.Author.Needs.{needs}
 use Rattle.tables.specs.Steps.{setPair}
-use Rattle.tables.proofs.steps.put_pair.Statement.{statement}
-use Rattle.tables.proofs.steps.put_pair.Tie as tie
+use Rattle.tables.proofs.kinds.put_pair.Statement.{statement}
+use Rattle.tables.proofs.kinds.put_pair.Tie as tie
 
 mul-at : tie.Need-mul-at
 mul-at c = search needs
