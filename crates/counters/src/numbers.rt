@@ -2,7 +2,7 @@
 // bounds, and a constructor that tests them, on a number that is wide enough to be out of them.
 ghost use mathlib.Core.Path.{_≡_};
 ghost use Prim.Native.Nat.{_-_, _^_};
-ghost use Rattle.counters.specs.Numbers.{within, vertexIn, labelIn, millimetresIn};
+ghost use Rattle.counters.specs.Numbers.{within, asVertex, asLabel, asMillimetres};
 ghost use Rattle.model.specs.Basics.{maxVertices, maxLength};
 
 // Document 01's fitting number, from 0.
@@ -20,7 +20,7 @@ impl Vertex {
     pub const COUNT: u16 = Vertex::MAX + 1;
 
     pub fn new(n: u32) -> CheckedVertex
-        ensures { λ r. ⌜ vertexIn r ≡ within 0 (maxVertices - 1) n ⌝ }
+        ensures { λ r. ⌜ asVertex r ≡ within 0 (maxVertices - 1) n ⌝ }
     {
         if n <= (Vertex::MAX as u32) {
             return CheckedVertex::Is(Vertex(n as u16));
@@ -42,7 +42,7 @@ impl Label {
 
     // Document 01 asks a checked constructor of each counter; no call here needs it.
     pub fn new(n: u64) -> CheckedLabel
-        ensures { λ r. ⌜ labelIn r ≡ within 0 (2 ^ 32 - 1) n ⌝ }
+        ensures { λ r. ⌜ asLabel r ≡ within 0 (2 ^ 32 - 1) n ⌝ }
     {
         if n <= (Label::MAX as u64) {
             return CheckedLabel::Is(Label(n as u32));
@@ -65,7 +65,7 @@ impl Millimetres {
     pub const MAX: u32 = 100000;
 
     pub fn new(n: u32) -> CheckedMillimetres
-        ensures { λ r. ⌜ millimetresIn r ≡ within 1 maxLength n ⌝ }
+        ensures { λ r. ⌜ asMillimetres r ≡ within 1 maxLength n ⌝ }
     {
         if n < Millimetres::MIN {
             return CheckedMillimetres::OutOfRange;

@@ -11,7 +11,7 @@ use tables::steps::put_pair;
 use tables::steps::raise_both;
 ghost use mathlib.Core.Path.{_≡_};
 ghost use Rattle.insertion.specs.Placing.{meetIn, placed, openedIn, openIn, mergedIn, workFor, placeIn};
-ghost use Rattle.insertion.specs.Meaning.{caseIn};
+ghost use Rattle.insertion.specs.Meaning.{asCase};
 
 // The leaf whose chain goes on over the edge, if one does.
 pub enum Extension {
@@ -28,7 +28,7 @@ pub enum Work {
 
 // Document 01's cases. Document 02's ring is closed where chains are merged, and tapped where one is split.
 fn work_of(case: Case, a: u16, b: u16) -> Work
-    ensures { λ r. ⌜ r ≡ workFor (caseIn case) a b ⌝ }
+    ensures { λ r. ⌜ r ≡ workFor (asCase case) a b ⌝ }
 {
     match case {
         Case::New => Work::Open(Splits::Neither, Extension::Nothing),
@@ -136,7 +136,7 @@ pub fn place_edge(
     rings: bool,
 ) -> ChainChange
     ensures { λ r. ⌜ placed (now (degrees .exit)) (now (sides .exit)) (now (labels .exit)) (r .blocks) (r .relabellings) (r .ring)
-        ≡ placeIn (caseIn case) (now (degrees .entry)) (now (sides .entry)) (now (ends .entry)) (now (labels .entry)) blocks a b e rings ⌝ }
+        ≡ placeIn (asCase case) (now (degrees .entry)) (now (sides .entry)) (now (ends .entry)) (now (labels .entry)) blocks a b e rings ⌝ }
 {
     let work = work_of(case, a, b);
     match work {

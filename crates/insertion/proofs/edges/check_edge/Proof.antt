@@ -1,6 +1,6 @@
 use mathlib.Core.Path.{ap, sym, _∙_}
 use borrow.Author.Needs.{needs}
-use Rattle.counters.specs.Numbers.{millimetresIn}
+use Rattle.counters.specs.Numbers.{asMillimetres}
 use Rattle.insertion.proofs.Answers.{check-first, check-second, check-same, check-length, check-edges, check-passed}
 use Rattle.insertion.proofs.edges.check_edge.Statement.{statement}
 use Rattle.insertion.proofs.edges.check_edge.Tie as tie
@@ -28,7 +28,7 @@ returns-4 c =
     let at-if2 = c .before .before .before .before in
     let at-if1 = at-if2 .before .before in
     check-length _ _ _ _ (at-if1 .if1 .left) (at-if2 .if2 .left) (c .before .before .before .if3 .left)
-    (ap millimetresIn (sym (c .enum-told .given .1)) ∙ c .before .before .new .ensures)
+    (ap asMillimetres (sym (c .enum-told .given .1)) ∙ c .before .before .new .ensures)
 
 returns-5 : tie.Need-returns-5
 returns-5 c =
@@ -37,7 +37,7 @@ returns-5 c =
     let at-if2 = at-if3 .before in
     let at-if1 = at-if2 .before .before in
     check-edges _ _ _ _ _ (at-if1 .if1 .left) (at-if2 .if2 .left) (at-if3 .if3 .left)
-    (ap millimetresIn (sym (c .before .before .before .millimetres .given .1)) ∙ at-new .new .ensures) (c .if4 .taken)
+    (ap asMillimetres (sym (c .before .before .before .millimetres .given .1)) ∙ at-new .new .ensures) (c .if4 .taken)
 
 returns-6 : tie.Need-returns-6
 returns-6 c =
@@ -46,7 +46,7 @@ returns-6 c =
     let at-if2 = at-if3 .before in
     let at-if1 = at-if2 .before .before in
     check-passed _ _ _ _ _ (at-if1 .if1 .left) (at-if2 .if2 .left) (at-if3 .if3 .left)
-    (ap millimetresIn (sym (c .before .before .before .millimetres .given .1)) ∙ at-new .new .ensures) (c .if4 .left)
+    (ap asMillimetres (sym (c .before .before .before .millimetres .given .1)) ∙ at-new .new .ensures) (c .if4 .left)
 
 pub check-edge-spec : {M : Type 1} → statement M
 check-edge-spec =
