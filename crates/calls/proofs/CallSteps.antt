@@ -19,7 +19,7 @@ use Rattle.model.specs.Tables.{Tables}
 use Rattle.model.specs.Calls.{Call, finds, grows, lands, measures, reaches, sheets, step, writes}
 use Rattle.counters.specs.declared.counts.Counts.{Counts}
 use Rattle.counters.specs.declared.answers.ListAnswer.{ListAnswer}
-use Rattle.counters.specs.Answers.{countsIn, listReply}
+use Rattle.counters.specs.Answers.{asCounts, listReply}
 use Rattle.tables.specs.Meaning.{tables}
 use Rattle.admission.specs.Lent.{lent, outcome}
 use Rattle.questions.specs.Meaning.{foundReply, listedReply, measuredReply, reachedReply, writtenReply}
@@ -68,7 +68,7 @@ module _ {M : Type 1} (𝓤 : URA M) (H : Heap 𝓤) (A : Atoms 𝓤) (mem : Mem
   abbrev Steps : {R S : Type 0} → Query R → Query S → List ℕ → Reply → Call → SProp 𝓤
   Steps a z slice reply c =
       let before = tablesIn a in
-      let counts = countsIn (past a .0) in
+      let counts = asCounts (past a .0) in
       fact 𝓤 (outcome before counts (tablesIn (past z .1)) slice reply ≡ step c (lent before counts (tablesIn (past a .1))))
 
   pub find-steps : (κs : Lfts 10) (a : Args find.signature κs)
@@ -95,8 +95,8 @@ module _ {M : Type 1} (𝓤 : URA M) (H : Heap 𝓤) (A : Atoms 𝓤) (mem : Mem
   -- with the arguments a, and z at its end, a landing leaves and answers what `step` has at call c
   abbrev LandSteps : {R S : Type 0} → Lands R → Lands S → ListAnswer → Call → SProp 𝓤
   LandSteps a z r c =
-      fact 𝓤 (outcome (tablesIn (z .1)) (countsIn (now (z .0))) (tablesIn (past (z .1))) [] (listReply r)
-      ≡ step c (lent (tablesIn (a .1)) (countsIn (now (a .0))) (tablesIn (past (a .1)))))
+      fact 𝓤 (outcome (tablesIn (z .1)) (asCounts (now (z .0))) (tablesIn (past (z .1))) [] (listReply r)
+      ≡ step c (lent (tablesIn (a .1)) (asCounts (now (a .0))) (tablesIn (past (a .1)))))
 
   pub grow-steps : (κs : Lfts 12) (a : Args grow.signature κs)
       → grow.clauses 𝓤 H A mem run κs a ≡ Ensures grow.ended κs (λ r z. LandSteps a z r (grows (now (past (past (a .1)) .0))))

@@ -10,6 +10,6 @@ use Rattle.chains.specs.declared.lookup.Found.the-variants.{At, Nothing}
 abbrev pub rowOf : Row → List ℕ
 rowOf r = r .name ∷ r .lower ∷ r .other ∷ r .inner ∷ r .length ∷ []
 
-abbrev pub foundIn : Found → Option ℕ
-foundIn (At v) = some v
-foundIn Nothing = none
+abbrev pub asFound : Found → Option ℕ
+asFound (At v) = some v
+asFound Nothing = none

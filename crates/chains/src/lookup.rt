@@ -11,7 +11,7 @@ ghost use mathlib.Core.Path.{_≡_};
 ghost use lib.ListN.{take};
 ghost use Rattle.model.specs.Basics.{maxVertices};
 ghost use Rattle.chains.specs.Chains.{firstAt, lowEnd, lowestIn, nameIn};
-ghost use Rattle.chains.specs.Answers.{foundIn};
+ghost use Rattle.chains.specs.Answers.{asFound};
 
 pub enum Found {
     At(u16),
@@ -20,7 +20,7 @@ pub enum Found {
 
 // The first of at most 4,096 labels that is this one. A read past the end gives 0, which may be the label, so the length is tested.
 pub fn find_label(labels: &[u32], label: u32) -> Found
-    ensures { λ r. ⌜ foundIn r ≡ firstAt label (take maxVertices (now (labels .entry))) ⌝ }
+    ensures { λ r. ⌜ asFound r ≡ firstAt label (take maxVertices (now (labels .entry))) ⌝ }
 {
     let mut v: u16 = 0;
     while v < Vertex::COUNT {

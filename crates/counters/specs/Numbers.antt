@@ -24,18 +24,18 @@ within low high n = if leb low n && leb n high then some n else none
 unfoldable pub below : ℕ → ℕ → Option ℕ
 below count n = if ltb n count then some n else none
 
-abbrev pub vertexIn : CheckedVertex → Option ℕ
-vertexIn (vertex.Is v) = some (v .0)
-vertexIn vertex.OutOfRange = none
+abbrev pub asVertex : CheckedVertex → Option ℕ
+asVertex (vertex.Is v) = some (v .0)
+asVertex vertex.OutOfRange = none
 
-abbrev pub edgeIn : CheckedEdge → Option ℕ
-edgeIn (edge.Is e) = some (e .0)
-edgeIn edge.OutOfRange = none
+abbrev pub asEdge : CheckedEdge → Option ℕ
+asEdge (edge.Is e) = some (e .0)
+asEdge edge.OutOfRange = none
 
-abbrev pub labelIn : CheckedLabel → Option ℕ
-labelIn (label.Is l) = some (l .0)
-labelIn label.OutOfRange = none
+abbrev pub asLabel : CheckedLabel → Option ℕ
+asLabel (label.Is l) = some (l .0)
+asLabel label.OutOfRange = none
 
-abbrev pub millimetresIn : CheckedMillimetres → Option ℕ
-millimetresIn (millimetres.Is l) = some (l .0)
-millimetresIn millimetres.OutOfRange = none
+abbrev pub asMillimetres : CheckedMillimetres → Option ℕ
+asMillimetres (millimetres.Is l) = some (l .0)
+asMillimetres millimetres.OutOfRange = none

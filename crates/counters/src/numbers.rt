@@ -3,7 +3,7 @@
 // becomes one of them by such a constructor alone. What is read from a lent table is of the kind that the table holds (tables::kinds).
 ghost use mathlib.Core.Path.{_≡_};
 ghost use Prim.Native.Nat.{_-_, _^_};
-ghost use Rattle.counters.specs.Numbers.{within, below, vertexIn, edgeIn, labelIn, millimetresIn};
+ghost use Rattle.counters.specs.Numbers.{within, below, asVertex, asEdge, asLabel, asMillimetres};
 ghost use Rattle.model.specs.Basics.{maxVertices, maxEdges, maxLength};
 
 // Document 01's fitting number, from 0.
@@ -21,7 +21,7 @@ impl Vertex {
     pub const COUNT: u16 = Vertex::MAX + 1;
 
     pub fn new(n: u32) -> CheckedVertex
-        ensures { λ r. ⌜ vertexIn r ≡ within 0 (maxVertices - 1) n ⌝ }
+        ensures { λ r. ⌜ asVertex r ≡ within 0 (maxVertices - 1) n ⌝ }
     {
         if n <= (Vertex::MAX as u32) {
             return CheckedVertex::Is(Vertex(n as u16));
@@ -31,7 +31,7 @@ impl Vertex {
 
     // The stricter test: one of so many that are landed.
     pub fn landed(n: u16, count: u16) -> CheckedVertex
-        ensures { λ r. ⌜ vertexIn r ≡ below count n ⌝ }
+        ensures { λ r. ⌜ asVertex r ≡ below count n ⌝ }
     {
         if n < count {
             return CheckedVertex::Is(Vertex(n));
@@ -55,7 +55,7 @@ impl Edge {
     pub const COUNT: u16 = Edge::MAX + 1;
 
     pub fn new(n: u32) -> CheckedEdge
-        ensures { λ r. ⌜ edgeIn r ≡ within 0 (maxEdges - 1) n ⌝ }
+        ensures { λ r. ⌜ asEdge r ≡ within 0 (maxEdges - 1) n ⌝ }
     {
         if n <= (Edge::MAX as u32) {
             return CheckedEdge::Is(Edge(n as u16));
@@ -77,7 +77,7 @@ impl Label {
 
     // Document 01 asks a checked constructor of each counter; no call here needs it.
     pub fn new(n: u64) -> CheckedLabel
-        ensures { λ r. ⌜ labelIn r ≡ within 0 (2 ^ 32 - 1) n ⌝ }
+        ensures { λ r. ⌜ asLabel r ≡ within 0 (2 ^ 32 - 1) n ⌝ }
     {
         if n <= (Label::MAX as u64) {
             return CheckedLabel::Is(Label(n as u32));
@@ -100,7 +100,7 @@ impl Millimetres {
     pub const MAX: u32 = 100000;
 
     pub fn new(n: u32) -> CheckedMillimetres
-        ensures { λ r. ⌜ millimetresIn r ≡ within 1 maxLength n ⌝ }
+        ensures { λ r. ⌜ asMillimetres r ≡ within 1 maxLength n ⌝ }
     {
         if n < Millimetres::MIN {
             return CheckedMillimetres::OutOfRange;

@@ -11,7 +11,7 @@ use borrow.Author.Tests.{le-leb, lt-leb}
 use Rattle.model.specs.Basics.{countFrom, maxVertices, upTo}
 use Rattle.model.specs.Graph.{Edge}
 use Rattle.model.specs.Register.{Landed, Register, empty, landEdge, landVertex, landed, refused, withVertex}
-use Rattle.model.specs.Tables.{Counts, Stored, Tables, cleared, countsOf, edgeIn, edgesIn, growFrom, held, landEdges, landVertices, storedOf, tablesOf}
+use Rattle.model.specs.Tables.{Counts, Stored, Tables, cleared, countsOf, storedEdge, storedEdges, growFrom, held, landEdges, landVertices, storedOf, tablesOf}
 use Rattle.model.specs.Notions.{Reachable, with-edge}
 use Rattle.model.proofs.Computing.{computing}
 use Rattle.tables.specs.Meaning.{stored}
@@ -36,32 +36,32 @@ Agrees (landed r) l = leftBy l ≡ some (stored (tablesOf r) (countsOf r))
 Agrees (refused x) l = l .answer ≡ refusedIn x
 
 module _ (own : Tables) where
-  own-is : (e : ℕ) → edgeOf (own .ends) (own .lengths) e ≡ edgeIn own e
-  unfolding edgeIn
+  own-is : (e : ℕ) → edgeOf (own .ends) (own .lengths) e ≡ storedEdge own e
+  unfolding storedEdge
   own-is e = refl
 
   -- n edges from number e on
   abbrev edgesFrom : ℕ → ℕ → List Edge
-  edgesFrom n e = map (edgeIn own) (countFrom e n)
+  edgesFrom n e = map (storedEdge own) (countFrom e n)
 
   replay-agrees : (n e : ℕ) (r : Register) (rings : Bool) → Reachable r → Warns rings (r .edges)
       → Agrees (landEdges (edgesFrom n e) r) (replayIn (own .ends) (own .lengths) n e (tablesOf r) (countsOf r) rings)
   unfolding replayIn landEdges countFrom shownIn
   replay-agrees zero e r rings g w = refl
-  replay-agrees (suc n) e r rings g w = go (landEdge r (edgeIn own e)) refl (λ r′ rings′ h w′. replay-agrees n (e + 1) r′ rings′ h w′)
+  replay-agrees (suc n) e r rings g w = go (landEdge r (storedEdge own e)) refl (λ r′ rings′ h w′. replay-agrees n (e + 1) r′ rings′ h w′)
     where
       next : e + 1 ≡ suc e
       next = omega arith
 
-      go : (l : Landed) → landEdge r (edgeIn own e) ≡ l
+      go : (l : Landed) → landEdge r (storedEdge own e) ≡ l
           → ((r′ : Register) (rings′ : Bool) → Reachable r′ → Warns rings′ (r′ .edges)
           → Agrees (landEdges (edgesFrom n (e + 1)) r′) (replayIn (own .ends) (own .lengths) n (e + 1) (tablesOf r′) (countsOf r′) rings′))
           → Agrees (landEdges (edgesFrom (suc n) e) r) (replayIn (own .ends) (own .lengths) (suc n) e (tablesOf r) (countsOf r) rings)
       go (landed r′) q ih =
-          let p = edge-parts r (edgeIn own e) rings g w (landed r′) q in
-          rw (q, own-is e, p .0, replayIn, landEdges, own-is e, p .1, ← next) (ih r′ _ (with-edge (edgeIn own e) g q) (warns-edge r (edgeIn own e) r′ rings g q w))
+          let p = edge-parts r (storedEdge own e) rings g w (landed r′) q in
+          rw (q, own-is e, p .0, replayIn, landEdges, own-is e, p .1, ← next) (ih r′ _ (with-edge (storedEdge own e) g q) (warns-edge r (storedEdge own e) r′ rings g q w))
       go (refused x) q ih =
-          let p = edge-parts r (edgeIn own e) rings g w (refused x) q in
+          let p = edge-parts r (storedEdge own e) rings g w (refused x) q in
           rw (q, own-is e, p .0, replayIn, landEdges, own-is e) (p .0)
 
 -- ---- vertices alone
@@ -113,23 +113,23 @@ grow-over n es h = rw (vertices-over n empty (omega (arith, no-vertices)) (omega
 -- ---- growing again, on the tables and by the definition
 
 abbrev growing : Tables → Counts → Landed
-growing t c = growFrom (c .vertices) (edgesIn t (c .edges))
+growing t c = growFrom (c .vertices) (storedEdges t (c .edges))
 
 abbrev regrown : Tables → Counts → LandingIn
 regrown t c = regrowIn (t .ends) (t .lengths) c cleared
 
 regrow-agrees : (t : Tables) (c : Counts) → Agrees (growing t c) (regrown t c)
-unfolding regrowIn edgesIn upTo
+unfolding regrowIn storedEdges upTo
 regrow-agrees t c = go (decLe (c .vertices) maxVertices)
   where
     go : Dec (c .vertices ≤ maxVertices) → Agrees (growing t c) (regrown t c)
     go (yes q) =
         let n = c .vertices in
         let r = onVertices n in
-        let es = edgesIn t (c .edges) in
+        let es = storedEdges t (c .edges) in
         let a = replay-agrees t (c .edges) 0 r false (on-reachable n q) (on-warns n) in
         rw (grown-from n es r (landEdges es r) (vertices-grow n q) refl, le-leb n maxVertices q, ← on-tables n, ← on-counts n) a
-    go (no q) = rw (grow-over (c .vertices) (edgesIn t (c .edges)) (omega arith), lt-leb (c .vertices) maxVertices (omega arith)) refl
+    go (no q) = rw (grow-over (c .vertices) (storedEdges t (c .edges)) (omega arith), lt-leb (c .vertices) maxVertices (omega arith)) refl
 
 -- ---- the claim
 
@@ -142,7 +142,7 @@ replay-held t c e = go (growing t c) refl (regrow-agrees t c)
     go (landed r) q a =
         let a′ : leftBy (regrown t c) ≡ some (stored (tablesOf r) (countsOf r)) = rw q at a in
         let i = stored-is (stored (tablesOf r) (countsOf r)) (stored t c) (sym a′ ∙ e) in
-        let g : Reachable r = grow-reaches (c .vertices) (edgesIn t (c .edges)) r q in
+        let g : Reachable r = grow-reaches (c .vertices) (storedEdges t (c .edges)) r q in
         (r, subst (λ (s : Stored). held s ≡ some r) i (stored-held r g))
     go (refused x) q a =
         let a′ : (regrown t c) .answer ≡ refusedIn x = rw q at a in

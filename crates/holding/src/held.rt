@@ -5,13 +5,13 @@ use insertion::edges::Inserted;
 use tables::whole::clear_tables;
 use tables::whole::same_tables;
 ghost use mathlib.Core.Path.{_≡_};
-ghost use Rattle.counters.specs.Answers.{countsIn};
+ghost use Rattle.counters.specs.Answers.{asCounts};
 ghost use Rattle.tables.specs.Meaning.{tables};
 ghost use Rattle.tables.specs.Steps.{zeroed, Tells};
 ghost use Rattle.holding.specs.Replay.{Regrows};
 
 fn same_counts(a: Counts, b: Counts) -> bool
-    ensures { λ r. ⌜ Tells r (countsIn a) (countsIn b) ⌝ }
+    ensures { λ r. ⌜ Tells r (asCounts a) (asCounts b) ⌝ }
 {
     if a.vertices != b.vertices {
         return false;
@@ -39,7 +39,7 @@ fn leaves_same(
     slengths: &mut [u32],
     slabels: &mut [u32],
 ) -> bool
-    ensures { λ r. ⌜ Regrows r (tables (now (degrees .entry)) (now (sides .entry)) (now (ends .entry)) (now (lengths .entry)) (now (labels .entry))) (countsIn own)
+    ensures { λ r. ⌜ Regrows r (tables (now (degrees .entry)) (now (sides .entry)) (now (ends .entry)) (now (lengths .entry)) (now (labels .entry))) (asCounts own)
         (tables (now (sdegrees .entry)) (now (ssides .entry)) (now (sends .entry)) (now (slengths .entry)) (now (slabels .entry))) ⌝ }
 {
     let inserted = regrow(
@@ -90,7 +90,7 @@ pub fn is_held(
 ) -> bool
     ensures { λ r. ⌜ (tables (now (sdegrees .exit)) (now (ssides .exit)) (now (sends .exit)) (now (slengths .exit)) (now (slabels .exit))
         ≡ zeroed (tables (now (sdegrees .entry)) (now (ssides .entry)) (now (sends .entry)) (now (slengths .entry)) (now (slabels .entry))))
-        × (Regrows r (tables (now (degrees .entry)) (now (sides .entry)) (now (ends .entry)) (now (lengths .entry)) (now (labels .entry))) (countsIn own)
+        × (Regrows r (tables (now (degrees .entry)) (now (sides .entry)) (now (ends .entry)) (now (lengths .entry)) (now (labels .entry))) (asCounts own)
         (zeroed (tables (now (sdegrees .entry)) (now (ssides .entry)) (now (sends .entry)) (now (slengths .entry)) (now (slabels .entry))))) ⌝ }
 {
     clear_tables(sdegrees, ssides, sends, slengths, slabels);

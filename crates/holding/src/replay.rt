@@ -7,10 +7,10 @@ use insertion::edges::land_edge;
 use tables::access::at16;
 use tables::access::at32;
 ghost use mathlib.Core.Path.{_≡_};
-ghost use Rattle.counters.specs.Answers.{countsIn};
+ghost use Rattle.counters.specs.Answers.{asCounts};
 ghost use Rattle.tables.specs.Meaning.{tables};
 ghost use Rattle.insertion.specs.Insertion.{landingIn};
-ghost use Rattle.insertion.specs.Meaning.{answerIn};
+ghost use Rattle.insertion.specs.Meaning.{asAnswer};
 ghost use Rattle.holding.specs.Replay.{replayIn, regrowIn};
 
 // So many edges of the tables of ends and lengths, from number `first` on, landed on other tables; rings: a ring may stand on these.
@@ -27,9 +27,9 @@ pub fn replay(
     lengths: &mut [u32],
     labels: &mut [u32],
 ) -> Inserted
-    ensures { λ r. ⌜ landingIn (tables (now (degrees .exit)) (now (sides .exit)) (now (ends .exit)) (now (lengths .exit)) (now (labels .exit))) (answerIn r)
+    ensures { λ r. ⌜ landingIn (tables (now (degrees .exit)) (now (sides .exit)) (now (ends .exit)) (now (lengths .exit)) (now (labels .exit))) (asAnswer r)
         ≡ replayIn (now (ownends .entry)) (now (ownlengths .entry)) number first
-        (tables (now (degrees .entry)) (now (sides .entry)) (now (ends .entry)) (now (lengths .entry)) (now (labels .entry))) (countsIn from) rings ⌝ }
+        (tables (now (degrees .entry)) (now (sides .entry)) (now (ends .entry)) (now (lengths .entry)) (now (labels .entry))) (asCounts from) rings ⌝ }
 {
     let mut counts = from;
     let mut ringed = rings;
@@ -76,8 +76,8 @@ pub fn regrow(
     lengths: &mut [u32],
     labels: &mut [u32],
 ) -> Inserted
-    ensures { λ r. ⌜ landingIn (tables (now (degrees .exit)) (now (sides .exit)) (now (ends .exit)) (now (lengths .exit)) (now (labels .exit))) (answerIn r)
-        ≡ regrowIn (now (ownends .entry)) (now (ownlengths .entry)) (countsIn own)
+    ensures { λ r. ⌜ landingIn (tables (now (degrees .exit)) (now (sides .exit)) (now (ends .exit)) (now (lengths .exit)) (now (labels .exit))) (asAnswer r)
+        ≡ regrowIn (now (ownends .entry)) (now (ownlengths .entry)) (asCounts own)
         (tables (now (degrees .entry)) (now (sides .entry)) (now (ends .entry)) (now (lengths .entry)) (now (labels .entry))) ⌝ }
 {
     if Vertex::COUNT < own.vertices {

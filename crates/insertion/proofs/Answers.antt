@@ -20,7 +20,7 @@ use Rattle.tables.specs.Meaning.{tables}
 use Rattle.tables.specs.Steps.{setPair, more16, sum32}
 use Rattle.insertion.specs.Placing.{placed, placeIn}
 use Rattle.insertion.specs.Insertion.{done, refusedIn, landingIn, landVertexIn, insertIn, passed, failed, checkIn, landChecked, landIn}
-use Rattle.insertion.specs.Meaning.{checkedIn}
+use Rattle.insertion.specs.Meaning.{asChecked}
 use Rattle.insertion.specs.declared.edges.Checked.{Checked}
 
 module _ (c : Counts) (rings : Bool) where
@@ -105,7 +105,7 @@ module _ (c : Counts) (a b n : ℕ) where
       rw (lt-ltb _ _ (h .0), lt-ltb _ _ (g .0), ne-eqb _ _ e, q .0, lt-leb _ _ o, q .1, h .1, g .1)
 
 -- landing goes on as the check's answer says
-pub checked-given : (t : Tables) (c : Counts) (rings : Bool) (e : Edge) (k k′ : Checked) → k ≡ k′ → checkedIn k ≡ checkIn c e
-    → landChecked t c rings e (checkedIn k′) ≡ landIn t c rings e
+pub checked-given : (t : Tables) (c : Counts) (rings : Bool) (e : Edge) (k k′ : Checked) → k ≡ k′ → asChecked k ≡ checkIn c e
+    → landChecked t c rings e (asChecked k′) ≡ landIn t c rings e
 unfolding landIn
 checked-given t c rings e k k′ q h = rw (← h, q)

@@ -17,11 +17,11 @@ use tables::kinds::put_ends;
 use tables::kinds::put_length;
 ghost use mathlib.Core.Path.{_≡_};
 ghost use lib.ListN.{set};
-ghost use Rattle.counters.specs.Answers.{countsIn};
+ghost use Rattle.counters.specs.Answers.{asCounts};
 ghost use Rattle.tables.specs.Meaning.{tables};
 ghost use Rattle.tables.specs.Steps.{setPair};
 ghost use Rattle.insertion.specs.Insertion.{landingIn, insertIn, checkIn, landIn};
-ghost use Rattle.insertion.specs.Meaning.{answerIn, checkedIn};
+ghost use Rattle.insertion.specs.Meaning.{asAnswer, asChecked};
 
 // The counts after the edge (document 01: the head) and whether a ring may stand then; or the edge's refusal.
 pub enum Inserted {
@@ -37,7 +37,7 @@ pub enum Checked {
 
 // Document 01's order. These refusals look at no table. What a record says is a plain number until it is tested here.
 fn check_edge(counts: Counts, first: u16, second: u16, length: u32) -> Checked
-    ensures { λ r. ⌜ checkedIn r ≡ checkIn (countsIn counts) (record { first = first; second = second; len = length }) ⌝ }
+    ensures { λ r. ⌜ asChecked r ≡ checkIn (asCounts counts) (record { first = first; second = second; len = length }) ⌝ }
 {
     let CheckedVertex::Is(a) = Vertex::landed(first, counts.vertices) else {
         return Checked::Refused(Refusal::NotLanded);
@@ -88,10 +88,10 @@ fn insert_edge(
     rings: bool,
 ) -> Inserted
     ensures { λ r. ⌜ landingIn
-        (tables (now (degrees .exit)) (now (sides .exit)) (now (ends .exit)) (now (lengths .exit)) (now (labels .exit))) (answerIn r)
+        (tables (now (degrees .exit)) (now (sides .exit)) (now (ends .exit)) (now (lengths .exit)) (now (labels .exit))) (asAnswer r)
         ≡ insertIn
         (tables (now (degrees .entry)) (now (sides .entry)) (now (ends .entry)) (now (lengths .entry)) (now (labels .entry)))
-        (countsIn counts) rings (record { first = first .0; second = second .0; len = length .0 }) ⌝ }
+        (asCounts counts) rings (record { first = first .0; second = second .0; len = length .0 }) ⌝ }
 {
     // below MAX_EDGES: 23 was tested
     let e = Edge(counts.edges);
@@ -136,10 +136,10 @@ pub fn land_edge(
     rings: bool,
 ) -> Inserted
     ensures { λ r. ⌜ landingIn
-        (tables (now (degrees .exit)) (now (sides .exit)) (now (ends .exit)) (now (lengths .exit)) (now (labels .exit))) (answerIn r)
+        (tables (now (degrees .exit)) (now (sides .exit)) (now (ends .exit)) (now (lengths .exit)) (now (labels .exit))) (asAnswer r)
         ≡ landIn
         (tables (now (degrees .entry)) (now (sides .entry)) (now (ends .entry)) (now (lengths .entry)) (now (labels .entry)))
-        (countsIn counts) rings (record { first = first; second = second; len = length }) ⌝ }
+        (asCounts counts) rings (record { first = first; second = second; len = length }) ⌝ }
 {
     let checked = check_edge(counts, first, second, length);
     match checked {

@@ -13,7 +13,7 @@ use tables::kinds::put_sides;
 use tables::steps::raise_both;
 ghost use mathlib.Core.Path.{_≡_};
 ghost use Rattle.insertion.specs.Placing.{meetIn, placed, openedIn, openIn, mergedIn, workFor, placeIn};
-ghost use Rattle.insertion.specs.Meaning.{caseIn};
+ghost use Rattle.insertion.specs.Meaning.{asCase};
 
 // The leaf whose chain goes on over the edge, if one does.
 pub enum Extension {
@@ -30,7 +30,7 @@ pub enum Work {
 
 // Document 01's cases. Document 02's ring is closed where chains are merged, and tapped where one is split.
 fn work_of(case: Case, a: Vertex, b: Vertex) -> Work
-    ensures { λ r. ⌜ r ≡ workFor (caseIn case) (a .0) (b .0) ⌝ }
+    ensures { λ r. ⌜ r ≡ workFor (asCase case) (a .0) (b .0) ⌝ }
 {
     match case {
         Case::New => Work::Open(Splits::Neither, Extension::Nothing),
@@ -149,7 +149,7 @@ pub fn place_edge(
     rings: bool,
 ) -> ChainChange
     ensures { λ r. ⌜ placed (now (degrees .exit)) (now (sides .exit)) (now (labels .exit)) (r .blocks) (r .relabellings) (r .ring)
-        ≡ placeIn (caseIn case) (now (degrees .entry)) (now (sides .entry)) (now (ends .entry)) (now (labels .entry)) blocks (a .0) (b .0) (e .0) rings ⌝ }
+        ≡ placeIn (asCase case) (now (degrees .entry)) (now (sides .entry)) (now (ends .entry)) (now (labels .entry)) blocks (a .0) (b .0) (e .0) rings ⌝ }
 {
     let work = work_of(case, a, b);
     match work {

@@ -5,12 +5,12 @@ use counters::numbers::Vertex;
 use counters::refusals::Refusal;
 use tables::access::one_more16;
 ghost use mathlib.Core.Path.{_≡_};
-ghost use Rattle.counters.specs.Answers.{countsIn};
+ghost use Rattle.counters.specs.Answers.{asCounts};
 ghost use Rattle.insertion.specs.Insertion.{landVertexIn};
-ghost use Rattle.insertion.specs.Meaning.{answerIn};
+ghost use Rattle.insertion.specs.Meaning.{asAnswer};
 
 pub fn land_vertex(counts: Counts, rings: bool) -> Inserted
-    ensures { λ r. ⌜ answerIn r ≡ landVertexIn (countsIn counts) rings ⌝ }
+    ensures { λ r. ⌜ asAnswer r ≡ landVertexIn (asCounts counts) rings ⌝ }
 {
     if Vertex::COUNT <= counts.vertices {
         return Inserted::Refused(Refusal::TooManyVertices);

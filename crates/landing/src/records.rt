@@ -14,12 +14,12 @@ ghost use mathlib.Core.Path.{_≡_};
 ghost use lib.ListN.{length};
 ghost use lib.Dec.{ltb};
 ghost use Rattle.model.specs.Tables.{noCounts};
-ghost use Rattle.counters.specs.Answers.{counts, countsIn, stopIn};
+ghost use Rattle.counters.specs.Answers.{counts, asCounts, asStop};
 ghost use Rattle.tables.specs.Meaning.{tables};
-ghost use Rattle.insertion.specs.Meaning.{answerIn};
+ghost use Rattle.insertion.specs.Meaning.{asAnswer};
 ghost use Rattle.list.specs.Reading.{recordAt};
 ghost use Rattle.landing.specs.Records.{stepOf, steppedIn, landRecordIn, readingIn, landRecordsIn, landListIn};
-ghost use Rattle.landing.specs.Meaning.{stepMeans, readingMeans};
+ghost use Rattle.landing.specs.Meaning.{asStep, asReading};
 
 // What stands behind a record: the end of the list; the counts, whether a ring may stand, and the next record; or the record's refusal.
 pub enum Step {
@@ -36,7 +36,7 @@ pub struct Reading {
 
 // A landed record goes on at the next one, a refused one stops.
 fn step_of(inserted: Inserted, next: Cursor) -> Step
-    ensures { λ r. ⌜ stepMeans r ≡ stepOf (next .at) (answerIn inserted) ⌝ }
+    ensures { λ r. ⌜ asStep r ≡ stepOf (next .at) (asAnswer inserted) ⌝ }
 {
     match inserted {
         Inserted::Done(counts, rings) => Step::Landed(counts, rings, next),
@@ -55,9 +55,9 @@ fn land_record(
     at: Cursor,
     rings: bool,
 ) -> Step
-    ensures { λ r. ⌜ steppedIn (tables (now (degrees .exit)) (now (sides .exit)) (now (ends .exit)) (now (lengths .exit)) (now (labels .exit))) (stepMeans r)
+    ensures { λ r. ⌜ steppedIn (tables (now (degrees .exit)) (now (sides .exit)) (now (ends .exit)) (now (lengths .exit)) (now (labels .exit))) (asStep r)
         ≡ landRecordIn (tables (now (degrees .entry)) (now (sides .entry)) (now (ends .entry)) (now (lengths .entry)) (now (labels .entry)))
-        (countsIn counts) rings (recordAt (now (list .entry)) (at .at)) ⌝ }
+        (asCounts counts) rings (recordAt (now (list .entry)) (at .at)) ⌝ }
 {
     let found = record_at(list, at);
     match found {
@@ -99,7 +99,7 @@ fn land_records(
     from: Cursor,
 ) -> Stop
     ensures { λ r. ⌜ readingIn (tables (now (degrees .exit)) (now (sides .exit)) (now (ends .exit)) (now (lengths .exit)) (now (labels .exit)))
-        (counts (now (vertices .exit)) (now (edges .exit)) (now (blocks .exit)) (now (relabellings .exit))) (stopIn r)
+        (counts (now (vertices .exit)) (now (edges .exit)) (now (blocks .exit)) (now (relabellings .exit))) (asStop r)
         ≡ landRecordsIn (now (list .entry)) (length (now (list .entry))) 0
         (tables (now (degrees .entry)) (now (sides .entry)) (now (ends .entry)) (now (lengths .entry)) (now (labels .entry)))
         (counts (now (vertices .entry)) (now (edges .entry)) (now (blocks .entry)) (now (relabellings .entry)))
@@ -153,7 +153,7 @@ pub fn land_list(
     list: &[u8],
 ) -> Stop
     ensures { λ r. ⌜ readingIn (tables (now (degrees .exit)) (now (sides .exit)) (now (ends .exit)) (now (lengths .exit)) (now (labels .exit)))
-        (counts (now (vertices .exit)) (now (edges .exit)) (now (blocks .exit)) (now (relabellings .exit))) (stopIn r)
+        (counts (now (vertices .exit)) (now (edges .exit)) (now (blocks .exit)) (now (relabellings .exit))) (asStop r)
         ≡ landListIn (tables (now (degrees .entry)) (now (sides .entry)) (now (ends .entry)) (now (lengths .entry)) (now (labels .entry)))
         (counts (now (vertices .entry)) (now (edges .entry)) (now (blocks .entry)) (now (relabellings .entry))) (now (list .entry)) ⌝ }
 {
@@ -185,7 +185,7 @@ pub fn grow_list(
     labels: &mut [u32],
     list: &[u8],
 ) -> Reading
-    ensures { λ r. ⌜ readingMeans (tables (now (degrees .exit)) (now (sides .exit)) (now (ends .exit)) (now (lengths .exit)) (now (labels .exit))) r
+    ensures { λ r. ⌜ asReading (tables (now (degrees .exit)) (now (sides .exit)) (now (ends .exit)) (now (lengths .exit)) (now (labels .exit))) r
         ≡ landListIn (tables (now (degrees .entry)) (now (sides .entry)) (now (ends .entry)) (now (lengths .entry)) (now (labels .entry)))
         noCounts (now (list .entry)) ⌝ }
 {

@@ -35,12 +35,12 @@ recordOf i (kind ∷ bs) =
 unfoldable pub recordAt : List ℕ → ℕ → RecordAt
 recordAt bs i = recordOf i (drop i bs)
 
-abbrev pub headerIn : Header → HeaderAt
-headerIn (header.Good c) = good (c .at)
-headerIn (header.Refused x) = badHeader (numberOf x)
+abbrev pub asHeader : Header → HeaderAt
+asHeader (header.Good c) = good (c .at)
+asHeader (header.Refused x) = badHeader (numberOf x)
 
-abbrev pub recordIn : Record → RecordAt
-recordIn record′.End = ends
-recordIn (record′.Vertex c) = vertexTo (c .at)
-recordIn (record′.Edge a b len c) = edgeTo (record { first = a; second = b; len = len }) (c .at)
-recordIn (record′.Refused x) = badRecord (numberOf x)
+abbrev pub asRecord : Record → RecordAt
+asRecord record′.End = ends
+asRecord (record′.Vertex c) = vertexTo (c .at)
+asRecord (record′.Edge a b len c) = edgeTo (record { first = a; second = b; len = len }) (c .at)
+asRecord (record′.Refused x) = badRecord (numberOf x)

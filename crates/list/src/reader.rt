@@ -4,7 +4,7 @@ use crate::records::Cursor;
 use crate::records::Record;
 use crate::records::next_record;
 ghost use mathlib.Core.Path.{_≡_};
-ghost use Rattle.list.specs.Reading.{recordIn, recordAt};
+ghost use Rattle.list.specs.Reading.{asRecord, recordAt};
 
 pub struct Reader<'a> {
     pub list: &'a [u8],
@@ -20,14 +20,14 @@ impl<'a> Reader<'a> {
 
     // The record at the index, which says where the next one stands.
     pub fn next(self) -> Record
-        ensures { λ r. ⌜ recordIn r ≡ recordAt (now (self .entry .list)) (self .entry .at) ⌝ }
+        ensures { λ r. ⌜ asRecord r ≡ recordAt (now (self .entry .list)) (self .entry .at) ⌝ }
     {
         next_record(self.list, Cursor { at: self.at })
     }
 }
 
 pub fn record_at(list: &[u8], c: Cursor) -> Record
-    ensures { λ r. ⌜ recordIn r ≡ recordAt (now (list .entry)) (c .at) ⌝ }
+    ensures { λ r. ⌜ asRecord r ≡ recordAt (now (list .entry)) (c .at) ⌝ }
 {
     Reader::new(list, c.at).next()
 }

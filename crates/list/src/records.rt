@@ -5,7 +5,7 @@ use counters::refusals::Refusal;
 ghost use mathlib.Core.Path.{_≡_};
 ghost use Prim.Native.Nat.{_+_};
 ghost use Rattle.model.specs.Format.{hasMark};
-ghost use Rattle.list.specs.Reading.{headerIn, headerAt, recordIn, recordAt};
+ghost use Rattle.list.specs.Reading.{asHeader, headerAt, asRecord, recordAt};
 
 const VERTEX_KIND: u8 = 0x46;
 
@@ -55,7 +55,7 @@ fn has_mark(list: &[u8]) -> bool
 }
 
 pub fn read_header(list: &[u8]) -> Header
-    ensures { λ r. ⌜ headerIn r ≡ headerAt (now (list .entry)) ⌝ }
+    ensures { λ r. ⌜ asHeader r ≡ headerAt (now (list .entry)) ⌝ }
 {
     if !has_mark(list) {
         return Header::Refused(Refusal::NoMark);
@@ -71,7 +71,7 @@ pub fn read_header(list: &[u8]) -> Header
 
 // The kind comes before the cut: a last byte of no kind is refused as such.
 pub fn next_record(list: &[u8], c: Cursor) -> Record
-    ensures { λ r. ⌜ recordIn r ≡ recordAt (now (list .entry)) (c .at) ⌝ }
+    ensures { λ r. ⌜ asRecord r ≡ recordAt (now (list .entry)) (c .at) ⌝ }
 {
     let at = c.at;
     if list.len() <= at {

@@ -20,7 +20,7 @@ ghost use Prim.Native.Nat.{_+_, _*_, _≤_};
 ghost use lib.ListN.{length, replicate, take};
 ghost use Rattle.model.specs.Basics.{maxEdges};
 ghost use Rattle.model.specs.Printing.{line, lines, printed, stopLine};
-ghost use Rattle.counters.specs.Answers.{countsIn, stopIn};
+ghost use Rattle.counters.specs.Answers.{asCounts, asStop};
 ghost use Rattle.chains.specs.Answers.{rowOf};
 ghost use Rattle.chains.specs.Chains.{sheetIn};
 ghost use Rattle.io.specs.Counts.{Counts as Counted};
@@ -77,7 +77,7 @@ fn put_sheet_lines(
 
 // The line of a list that stopped.
 fn put_stop(out: &mut [u8], at: usize, stop: Stop) -> usize
-    ensures { λ r. ⌜ (page (now (out .exit)) r ≡ write (stopLine (stopIn stop)) (page (now (out .entry)) at)) × (r ≤ at + stopBytes) ⌝ }
+    ensures { λ r. ⌜ (page (now (out .exit)) r ≡ write (stopLine (asStop stop)) (page (now (out .entry)) at)) × (r ≤ at + stopBytes) ⌝ }
 {
     match stop {
         Stop::Whole => at,
@@ -99,9 +99,9 @@ fn put_listing(
     stop: Stop,
 ) -> usize
     ensures { λ r. ⌜ (page (now (out .exit)) r
-        ≡ write (listingIn (countsIn counts)
+        ≡ write (listingIn (asCounts counts)
         (sheetIn (now (degrees .entry)) (now (sides .entry)) (now (ends .entry)) (now (lengths .entry)) (counts .edges) (replicate maxEdges 0))
-        (stopIn stop)) (page (now (out .entry)) 0)) × (r ≤ headBytes + rowBytes * counts .edges + stopBytes) ⌝ }
+        (asStop stop)) (page (now (out .entry)) 0)) × (r ≤ headBytes + rowBytes * counts .edges + stopBytes) ⌝ }
 {
     let mut counting = [0u16; EDGES];
     let mut marks = [0u16; EDGES];

@@ -6,8 +6,8 @@ use Rattle.pnl.specs.declared.grown.Question.{Question}
 use Rattle.pnl.specs.declared.grown.Question.the-variants.{Sheet, Find, Reach, Distance}
 
 -- what a question answers of a register
-abbrev pub questionMeans : Question → Register → Reply
-questionMeans Sheet = λ r. listed (length (sheet r))
-questionMeans (Find label) = λ r. find r label
-questionMeans (Reach v) = λ r. reach r v
-questionMeans (Distance v w) = λ r. measure r v w
+abbrev pub asQuestion : Question → Register → Reply
+asQuestion Sheet = λ r. listed (length (sheet r))
+asQuestion (Find label) = λ r. find r label
+asQuestion (Reach v) = λ r. reach r v
+asQuestion (Distance v w) = λ r. measure r v w

@@ -11,7 +11,7 @@ ghost use mathlib.Core.Path.{_≡_};
 ghost use mathlib.Core.List.{List};
 ghost use Prim.Native.Nat.{ℕ, _≤_};
 ghost use Rattle.model.specs.Basics.{maxVertices};
-ghost use Rattle.counters.specs.Answers.{countsIn};
+ghost use Rattle.counters.specs.Answers.{asCounts};
 ghost use Rattle.tables.specs.Meaning.{tables};
 ghost use Rattle.chains.specs.Finding.{reachIn};
 ghost use Rattle.questions.specs.Meaning.{measuredReply, reachedReply};
@@ -27,7 +27,7 @@ pub fn reach_checked(
 ) -> Reached
     requires { ⌜ counts .vertices ≤ maxVertices ⌝ }
     ensures { λ r. ⌜ ((labels : List ℕ) → reachedReply r
-        ≡ reachIn (tables (now (degrees .entry)) (now (sides .entry)) (now (ends .entry)) (now (lengths .entry)) labels) (countsIn counts) vertex) ⌝ }
+        ≡ reachIn (tables (now (degrees .entry)) (now (sides .entry)) (now (ends .entry)) (now (lengths .entry)) labels) (asCounts counts) vertex) ⌝ }
 {
     let checked = Vertex::new(vertex);
     match checked {
@@ -38,9 +38,9 @@ pub fn reach_checked(
 
 // The first is checked.
 fn measure_to(ends: &[u16], lengths: &[u32], counts: Counts, from: Vertex, to: u32) -> Measured
-    requires { ⌜ Measurable (now ends) (now lengths) (countsIn counts) ⌝ }
+    requires { ⌜ Measurable (now ends) (now lengths) (asCounts counts) ⌝ }
     ensures { λ r. ⌜ ((degrees sides labels : List ℕ) → measuredReply r
-        ≡ measureIn (tables degrees sides (now (ends .entry)) (now (lengths .entry)) labels) (countsIn counts) (from .0) to) ⌝ }
+        ≡ measureIn (tables degrees sides (now (ends .entry)) (now (lengths .entry)) labels) (asCounts counts) (from .0) to) ⌝ }
 {
     let checked = Vertex::new(to);
     match checked {
@@ -56,9 +56,9 @@ pub fn measure_checked(
     from: u32,
     to: u32,
 ) -> Measured
-    requires { ⌜ Measurable (now ends) (now lengths) (countsIn counts) ⌝ }
+    requires { ⌜ Measurable (now ends) (now lengths) (asCounts counts) ⌝ }
     ensures { λ r. ⌜ ((degrees sides labels : List ℕ) → measuredReply r
-        ≡ measureIn (tables degrees sides (now (ends .entry)) (now (lengths .entry)) labels) (countsIn counts) from to) ⌝ }
+        ≡ measureIn (tables degrees sides (now (ends .entry)) (now (lengths .entry)) labels) (asCounts counts) from to) ⌝ }
 {
     let checked = Vertex::new(from);
     match checked {

@@ -9,7 +9,7 @@ use questions::measure::measure;
 ghost use mathlib.Core.Path.{_≡_};
 ghost use mathlib.Core.List.{List};
 ghost use Prim.Native.Nat.{ℕ};
-ghost use Rattle.counters.specs.Answers.{countsIn};
+ghost use Rattle.counters.specs.Answers.{asCounts};
 ghost use Rattle.tables.specs.Meaning.{tables};
 ghost use Rattle.questions.specs.Meaning.{measuredReply};
 ghost use Rattle.questions.specs.Measure.{Measurable, measureIn};
@@ -22,9 +22,9 @@ pub fn distance_in(
     from: Vertex,
     to: Vertex,
 ) -> Measured
-    requires { ⌜ Measurable (now ends) (now lengths) (countsIn counts) ⌝ }
+    requires { ⌜ Measurable (now ends) (now lengths) (asCounts counts) ⌝ }
     ensures { λ r. ⌜ ((degrees sides labels : List ℕ) → measuredReply r
-        ≡ measureIn (tables degrees sides (now (ends .entry)) (now (lengths .entry)) labels) (countsIn counts) (from .0) (to .0)) ⌝ }
+        ≡ measureIn (tables degrees sides (now (ends .entry)) (now (lengths .entry)) labels) (asCounts counts) (from .0) (to .0)) ⌝ }
 {
     let mut heads = [0u16; VERTICES];
     let mut heap = [0u16; SIDES];

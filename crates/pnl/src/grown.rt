@@ -19,10 +19,10 @@ ghost use mathlib.Core.Path.{_≡_};
 ghost use Rattle.model.specs.Register.{Register};
 ghost use Rattle.model.specs.FromC.{fromC, returnsReply};
 ghost use Rattle.model.specs.Notions.{HeldOf};
-ghost use Rattle.counters.specs.Answers.{countsIn};
+ghost use Rattle.counters.specs.Answers.{asCounts};
 ghost use Rattle.tables.specs.Meaning.{stored, tables};
 ghost use Rattle.questions.specs.Measure.{Measurable};
-ghost use Rattle.pnl.specs.Questions.{questionMeans};
+ghost use Rattle.pnl.specs.Questions.{asQuestion};
 ghost use Rattle.pnl.specs.FromC.{returned};
 
 // What may be asked from C.
@@ -44,10 +44,10 @@ fn answer_question(
     counts: Counts,
     question: Question,
 ) -> i32
-    requires { ⌜ Measurable (now ends) (now lengths) (countsIn counts) ⌝ }
+    requires { ⌜ Measurable (now ends) (now lengths) (asCounts counts) ⌝ }
     ensures { λ r. ⌜ ((register : Register)
-        → HeldOf (stored (tables (now (degrees .entry)) (now (sides .entry)) (now (ends .entry)) (now (lengths .entry)) (now (labels .entry))) (countsIn counts)) register
-        → returned (now (answer .exit)) r ≡ returnsReply register (now (answer .entry)) (questionMeans question register)) ⌝ }
+        → HeldOf (stored (tables (now (degrees .entry)) (now (sides .entry)) (now (ends .entry)) (now (lengths .entry)) (now (labels .entry))) (asCounts counts)) register
+        → returned (now (answer .exit)) r ≡ returnsReply register (now (answer .entry)) (asQuestion question register)) ⌝ }
 {
     match question {
         Question::Sheet => answer_sheet(answer, degrees, sides, ends, lengths, counts.edges),
@@ -68,7 +68,7 @@ fn answer_question(
 
 // The tables of a call are its own, all zero at the start.
 pub fn answer_call(list: &[u8], question: Question, answer: &mut [u8]) -> i32
-    ensures { λ r. ⌜ returned (now (answer .exit)) r ≡ fromC (questionMeans question) (now (list .entry)) (now (answer .entry)) ⌝ }
+    ensures { λ r. ⌜ returned (now (answer .exit)) r ≡ fromC (asQuestion question) (now (list .entry)) (now (answer .entry)) ⌝ }
 {
     let mut degrees = [0u16; VERTICES];
     let mut sides = [0u16; SIDES];

@@ -8,7 +8,7 @@ use lib.Dec.{ltb}
 use Rattle.model.specs.Distance.{Distance, distance}
 use Rattle.model.specs.Queries.{Reply, measure, measured, refuses}
 use Rattle.model.specs.Register.{Register}
-use Rattle.model.specs.Tables.{Tables, Counts, countsOf, edgesIn, tablesOf}
+use Rattle.model.specs.Tables.{Tables, Counts, countsOf, storedEdges, tablesOf}
 use Rattle.model.specs.Calls.{answer, answers, effect, measures}
 use Rattle.model.proofs.Registers.OnlyHeld.{held-counts, held-tables}
 use Rattle.model.proofs.Registers.ReadBack.{edges-read}
@@ -24,7 +24,7 @@ module _ (t : Tables) (c : Counts) (v w : ℕ) where
   unfolding measureIn
   measure-second h = rw (le-ltb w (c .vertices) h, and-false (ltb v (c .vertices)))
 
-  pub measure-landed : (d : Distance) → v < c .vertices → w < c .vertices → d ≡ distance (edgesIn t (c .edges)) v w → measured d ≡ measureIn t c v w
+  pub measure-landed : (d : Distance) → v < c .vertices → w < c .vertices → d ≡ distance (storedEdges t (c .edges)) v w → measured d ≡ measureIn t c v w
   unfolding measureIn
   measure-landed d h k q = rw (lt-ltb v (c .vertices) h, lt-ltb w (c .vertices) k, q)
 

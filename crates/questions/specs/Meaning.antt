@@ -1,7 +1,7 @@
 -- Document 01's values of the answers to find, reach, sheet and distance, and document 02's to write.
 use Rattle.model.specs.Queries.{Reply, found, reached, listed, measured, wrote, refuses}
 use Rattle.counters.specs.Refusals.{numberOf}
-use Rattle.search.specs.Meaning.{distanceIn}
+use Rattle.search.specs.Meaning.{asDistance}
 use Rattle.questions.specs.declared.find.FoundChain.{FoundChain}
 use Rattle.questions.specs.declared.find.FoundChain.the-variants as find
 use Rattle.questions.specs.declared.reach.Reached.{Reached}
@@ -35,5 +35,5 @@ writtenReply (write.Refused x) = refuses (numberOf x)
 
 -- the distance
 abbrev pub measuredReply : Measured → Reply
-measuredReply (measure.Distance d) = measured (distanceIn d)
+measuredReply (measure.Distance d) = measured (asDistance d)
 measuredReply (measure.Refused x) = refuses (numberOf x)

@@ -11,7 +11,7 @@ ghost use mathlib.Core.List.{List};
 ghost use Prim.Native.Nat.{ℕ};
 ghost use lib.ListN.{take};
 ghost use Rattle.model.specs.Basics.{maxVertices};
-ghost use Rattle.counters.specs.Answers.{countsIn};
+ghost use Rattle.counters.specs.Answers.{asCounts};
 ghost use Rattle.tables.specs.Meaning.{tables};
 ghost use Rattle.chains.specs.Finding.{findIn};
 ghost use Rattle.questions.specs.Meaning.{foundReply};
@@ -33,7 +33,7 @@ pub fn find_in(
 ) -> FoundChain
     ensures { λ r. ⌜ ((lengths : List ℕ) → foundReply r
         ≡ findIn (tables (now (degrees .entry)) (now (sides .entry)) (now (ends .entry)) lengths (take maxVertices (now (labels .entry))))
-        (countsIn counts) (label .0)) ⌝ }
+        (asCounts counts) (label .0)) ⌝ }
 {
     let x = label.0;
     if x == 0 {

@@ -10,7 +10,7 @@ ghost use mathlib.Core.List.{List};
 ghost use Prim.Native.Nat.{ℕ, _≤_};
 ghost use lib.ListN.{length};
 ghost use Rattle.model.specs.Basics.{maxVertices};
-ghost use Rattle.counters.specs.Answers.{countsIn};
+ghost use Rattle.counters.specs.Answers.{asCounts};
 ghost use Rattle.tables.specs.Meaning.{tables};
 ghost use Rattle.tables.specs.Steps.{zeroed};
 ghost use Rattle.questions.specs.Meaning.{measuredReply};
@@ -35,9 +35,9 @@ fn measure_in(
     from: Vertex,
     to: Vertex,
 ) -> Measured
-    requires { ⌜ Measurable (now ends) (now lengths) (countsIn counts) × (maxVertices ≤ length (now distances)) ⌝ }
+    requires { ⌜ Measurable (now ends) (now lengths) (asCounts counts) × (maxVertices ≤ length (now distances)) ⌝ }
     ensures { λ r. ⌜ ((degrees sides labels : List ℕ) → measuredReply r
-        ≡ measureIn (tables degrees sides (now (ends .entry)) (now (lengths .entry)) labels) (countsIn counts) (from .0) (to .0)) ⌝ }
+        ≡ measureIn (tables degrees sides (now (ends .entry)) (now (lengths .entry)) labels) (asCounts counts) (from .0) (to .0)) ⌝ }
 {
     let v = from.0;
     let w = to.0;
@@ -77,11 +77,11 @@ pub fn measure(
     from: Vertex,
     to: Vertex,
 ) -> Measured
-    requires { ⌜ Measurable (now ends) (now lengths) (countsIn counts) × (maxVertices ≤ length (now slengths)) ⌝ }
+    requires { ⌜ Measurable (now ends) (now lengths) (asCounts counts) × (maxVertices ≤ length (now slengths)) ⌝ }
     ensures { λ r. ⌜ (tables (now (sdegrees .exit)) (now (ssides .exit)) (now (sends .exit)) (now (slengths .exit)) (now (slabels .exit))
         ≡ zeroed (tables (now (sdegrees .entry)) (now (ssides .entry)) (now (sends .entry)) (now (slengths .entry)) (now (slabels .entry))))
         × ((degrees sides labels : List ℕ) → measuredReply r
-        ≡ measureIn (tables degrees sides (now (ends .entry)) (now (lengths .entry)) labels) (countsIn counts) (from .0) (to .0)) ⌝ }
+        ≡ measureIn (tables degrees sides (now (ends .entry)) (now (lengths .entry)) labels) (asCounts counts) (from .0) (to .0)) ⌝ }
 {
     let answer = measure_in(
         ends,

@@ -13,7 +13,7 @@ use tables::steps::far_end;
 ghost use mathlib.Core.Path.{_≡_};
 ghost use mathlib.Core.List.{List};
 ghost use Prim.Native.Nat.{ℕ};
-ghost use Rattle.counters.specs.Answers.{countsIn};
+ghost use Rattle.counters.specs.Answers.{asCounts};
 ghost use Rattle.tables.specs.Meaning.{tables};
 ghost use Rattle.chains.specs.Finding.{endToIn, lengthToIn, reachIn};
 ghost use Rattle.questions.specs.Meaning.{reachedReply};
@@ -64,7 +64,7 @@ pub fn reach_in(
 ) -> Reached
     ensures { λ r. ⌜ ((labels : List ℕ) → reachedReply r
         ≡ reachIn (tables (now (degrees .entry)) (now (sides .entry)) (now (ends .entry)) (now (lengths .entry)) labels)
-        (countsIn counts) (vertex .0)) ⌝ }
+        (asCounts counts) (vertex .0)) ⌝ }
 {
     let v = vertex.0;
     if counts.vertices <= v {

@@ -13,7 +13,7 @@ ghost use mathlib.Core.List.{List};
 ghost use Prim.Native.Nat.{ℕ};
 ghost use lib.ListN.{length, replicate};
 ghost use Rattle.model.specs.Queries.{concat};
-ghost use Rattle.counters.specs.Answers.{countsIn};
+ghost use Rattle.counters.specs.Answers.{asCounts};
 ghost use Rattle.tables.specs.Meaning.{tables};
 ghost use Rattle.text.specs.Pages.{page, write};
 ghost use Rattle.chains.specs.Answers.{rowOf};
@@ -79,7 +79,7 @@ fn sheet_in(
     ensures { λ r. ⌜ ((labels : List ℕ) → answered
         (now (out .exit)) (listedReply r)
         ≡ sheetedIn (tables (now (degrees .entry)) (now (sides .entry)) (now (ends .entry)) (now (lengths .entry)) labels)
-        (countsIn counts) (now (counting .entry)) (now (marks .entry)) (now (out .entry))) ⌝ }
+        (asCounts counts) (now (counting .entry)) (now (marks .entry)) (now (out .entry))) ⌝ }
 {
     let edges = counts.edges;
     if !has_room(degrees, sides, ends, counting, edges, out.len() / ROW) {
@@ -103,7 +103,7 @@ pub fn sheet_cleared(
     ensures { λ r. ⌜ ((labels : List ℕ) → answered
         (now (out .exit)) (listedReply r)
         ≡ sheetedIn (tables (now (degrees .entry)) (now (sides .entry)) (now (ends .entry)) (now (lengths .entry)) labels)
-        (countsIn counts) (now (counting .entry)) (now (marks .entry)) (now (out .entry)))
+        (asCounts counts) (now (counting .entry)) (now (marks .entry)) (now (out .entry)))
         × ((now (counting .exit) ≡ replicate (length (now (counting .entry))) 0) × (now (marks .exit) ≡ replicate (length (now (marks .entry))) 0)) ⌝ }
 {
     let listed = sheet_in(degrees, sides, ends, lengths, counts, counting, marks, out);

@@ -4,6 +4,6 @@ use Rattle.search.specs.declared.shortest.Distance.{Distance}
 use Rattle.search.specs.declared.shortest.Distance.the-variants.{Joined, NotJoined}
 
 -- a distance as the code answers it
-abbrev pub distanceIn : Distance → model.Distance
-distanceIn (Joined d) = model.joined d
-distanceIn NotJoined = model.notJoined
+abbrev pub asDistance : Distance → model.Distance
+asDistance (Joined d) = model.joined d
+asDistance NotJoined = model.notJoined

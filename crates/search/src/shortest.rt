@@ -8,10 +8,10 @@ ghost use mathlib.Core.List.{List};
 ghost use Prim.Native.Nat.{ℕ, _≤_, _<_};
 ghost use lib.ListN.{length};
 ghost use Rattle.model.specs.Basics.{maxVertices};
-ghost use Rattle.model.specs.Tables.{edgesIn};
+ghost use Rattle.model.specs.Tables.{storedEdges};
 ghost use Rattle.model.specs.Distance.{distance};
 ghost use Rattle.tables.specs.Meaning.{tables};
-ghost use Rattle.search.specs.Meaning.{distanceIn};
+ghost use Rattle.search.specs.Meaning.{asDistance};
 ghost use Rattle.search.specs.Search.{Searchable, Started, unreached};
 
 // A distance in millimetres, or that there is no way.
@@ -61,8 +61,8 @@ pub fn search(
     keys: &mut [u32],
 ) -> Distance
     requires { ⌜ Searchable (now ends) (now lengths) edges × ((from < maxVertices) × ((goal < maxVertices) × (maxVertices ≤ length (now distances)))) ⌝ }
-    ensures { λ r. ⌜ ((degrees sides labels : List ℕ) → distanceIn r
-        ≡ distance (edgesIn (tables degrees sides (now (ends .entry)) (now (lengths .entry)) labels) edges) from goal) ⌝ }
+    ensures { λ r. ⌜ ((degrees sides labels : List ℕ) → asDistance r
+        ≡ distance (storedEdges (tables degrees sides (now (ends .entry)) (now (lengths .entry)) labels) edges) from goal) ⌝ }
 {
     start(distances, goal);
     dijkstra(

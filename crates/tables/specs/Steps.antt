@@ -8,7 +8,7 @@ use lib.ListN.{length, getD, set, replicate}
 use lib.Dec.{eqb}
 use Rattle.model.specs.Basics.{if_then_else_}
 use Rattle.model.specs.Graph.{Edge}
-use Rattle.model.specs.Tables.{Tables, edgeIn, edgesIn}
+use Rattle.model.specs.Tables.{Tables, storedEdge, storedEdges}
 use Rattle.tables.specs.Meaning.{tables}
 
 -- the answer r tells whether a is b
@@ -58,7 +58,7 @@ zeroed t =
 
 -- edge e, and the first m: edges stand in the tables of ends and lengths alone
 abbrev pub edgeOf : List ℕ → List ℕ → ℕ → Edge
-edgeOf ends lengths e = edgeIn (tables [] [] ends lengths []) e
+edgeOf ends lengths e = storedEdge (tables [] [] ends lengths []) e
 
 abbrev pub edgesOf : List ℕ → List ℕ → ℕ → List Edge
-edgesOf ends lengths m = edgesIn (tables [] [] ends lengths []) m
+edgesOf ends lengths m = storedEdges (tables [] [] ends lengths []) m

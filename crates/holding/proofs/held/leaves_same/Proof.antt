@@ -1,5 +1,5 @@
 use Rattle.holding.proofs.ReplayLaws.{regrows-refused, regrows-other, regrows-same}
-use Rattle.insertion.specs.Meaning.{answerIn}
+use Rattle.insertion.specs.Meaning.{asAnswer}
 use Rattle.tables.proofs.Lists.{not-same}
 use borrow.Author.Tests.{not-false}
 use mathlib.Core.Path.{ap}
@@ -10,7 +10,7 @@ use Rattle.holding.proofs.held.leaves_same.Tie as tie
 returns : tie.Need-returns
 returns c =
     let at-regrow = c .before .before .before .before .before .before .before .before .before .before .before .before .before .before .before in
-    regrows-other _ _ _ _ _ (at-regrow .regrow .ensures) _ _ (ap answerIn (c .before .before .before .inserted .given .1)) (not-same _ _ (c .if1 .taken) (c .before .same-counts .ensures .1))
+    regrows-other _ _ _ _ _ (at-regrow .regrow .ensures) _ _ (ap asAnswer (c .before .before .before .inserted .given .1)) (not-same _ _ (c .if1 .taken) (c .before .same-counts .ensures .1))
 
 returns-2 : tie.Need-returns-2
 returns-2 c =
@@ -18,12 +18,12 @@ returns-2 c =
     let at-same-counts = at-if1 .before in
     let at-inserted = at-same-counts .before .before in
     let at-regrow = at-inserted .before .before .before .before .before .before .before .before .before .before .before .before in
-    regrows-same _ _ _ _ _ (at-regrow .regrow .ensures) _ _ (ap answerIn (at-inserted .inserted .given .1)) _ (at-same-counts .same-counts .ensures .0 (not-false _ (at-if1 .if1 .left))) (c .same-tables .ensures)
+    regrows-same _ _ _ _ _ (at-regrow .regrow .ensures) _ _ (ap asAnswer (at-inserted .inserted .given .1)) _ (at-same-counts .same-counts .ensures .0 (not-false _ (at-if1 .if1 .left))) (c .same-tables .ensures)
 
 returns-3 : tie.Need-returns-3
 returns-3 c =
     let at-regrow = c .before .before .before .before .before .before .before .before .before .before .before .before .before in
-    regrows-refused _ _ _ _ _ (at-regrow .regrow .ensures) _ (ap answerIn (c .before .inserted2 .given .1))
+    regrows-refused _ _ _ _ _ (at-regrow .regrow .ensures) _ (ap asAnswer (c .before .inserted2 .given .1))
 
 -- the needs in the order of the code
 pub leaves-same-spec : {M : Type 1} → statement M

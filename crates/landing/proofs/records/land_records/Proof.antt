@@ -1,6 +1,6 @@
 use Rattle.landing.proofs.RecordLaws.{records-none, records-end, records-stop, records-on}
 use Rattle.tables.proofs.SameLengths.{SameLengths, same-refl, same-on}
-use Rattle.landing.specs.Meaning.{stepMeans}
+use Rattle.landing.specs.Meaning.{asStep}
 use Rattle.landing.specs.Records.{steppedIn, landRecordsIn}
 use Rattle.tables.specs.Meaning.{tables}
 use Rattle.counters.specs.Answers.{counts}
@@ -59,7 +59,7 @@ returns c =
     let at-land-record = c .before .before .before .before .before .before .before .before .before .before .before .before in
     let at-loop-test = at-land-record .before .before .before .before .before .before .before .before .before .before in
     let at-loop = at-loop-test .before in
-    records-end _ _ _ _ _ _ _ _ (at-loop-test .loop-test .taken) (ap (steppedIn _) (ap stepMeans (sym (c .enum-told .given .1))) ∙ at-land-record .land-record .ensures) ∙ at-loop .loop .inv .1 .1
+    records-end _ _ _ _ _ _ _ _ (at-loop-test .loop-test .taken) (ap (steppedIn _) (ap asStep (sym (c .enum-told .given .1))) ∙ at-land-record .land-record .ensures) ∙ at-loop .loop .inv .1 .1
 
 same-length-6 : tie.Need-same-length-6 Inv-loop μ-loop
 same-length-6 c =
@@ -96,7 +96,7 @@ returns-2 c =
     let at-land-record = c .before .before .before .before .before .before .before .before .before .before .before .before .before in
     let at-loop-test = at-land-record .before .before .before .before .before .before .before .before .before .before in
     let at-loop = at-loop-test .before in
-    records-stop _ _ _ _ _ _ _ _ _ (at-loop-test .loop-test .taken) (ap (steppedIn _) (ap stepMeans (sym (c .before .step2 .given .1))) ∙ at-land-record .land-record .ensures) ∙ at-loop .loop .inv .1 .1
+    records-stop _ _ _ _ _ _ _ _ _ (at-loop-test .loop-test .taken) (ap (steppedIn _) (ap asStep (sym (c .before .step2 .given .1))) ∙ at-land-record .land-record .ensures) ∙ at-loop .loop .inv .1 .1
 
 add-number : tie.Need-add-number Inv-loop μ-loop
 add-number c =
@@ -119,7 +119,7 @@ loop-again c =
     let at-land-record = c .before .before .before .before .before .before .before .before .before .before .before .before .before in
     let at-loop-test = at-land-record .before .before .before .before .before .before .before .before .before .before in
     let at-loop = at-loop-test .before in
-    (omega (arith, at-loop .loop .inv .0, at-loop-test .loop-test .taken), (same-on (at-land-record .land-record .kept) (at-loop .loop .inv .1 .0), sym (records-on _ _ _ _ _ _ _ _ _ _ _ (at-loop-test .loop-test .taken) (ap (steppedIn _) (ap stepMeans (sym (c .before .step .given .1))) ∙ at-land-record .land-record .ensures)) ∙ at-loop .loop .inv .1 .1))
+    (omega (arith, at-loop .loop .inv .0, at-loop-test .loop-test .taken), (same-on (at-land-record .land-record .kept) (at-loop .loop .inv .1 .0), sym (records-on _ _ _ _ _ _ _ _ _ _ _ (at-loop-test .loop-test .taken) (ap (steppedIn _) (ap asStep (sym (c .before .step .given .1))) ∙ at-land-record .land-record .ensures)) ∙ at-loop .loop .inv .1 .1))
 
 same-length-11 : tie.Need-same-length-11 Inv-loop μ-loop
 same-length-11 c = c .before .loop .inv .1 .0 .degrees

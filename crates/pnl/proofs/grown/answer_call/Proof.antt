@@ -1,6 +1,6 @@
 use Rattle.pnl.proofs.CallLaws.{call-stops, call-answers, call-measurable}
 use Rattle.pnl.proofs.Returns.{value-kept, handed}
-use Rattle.counters.specs.Answers.{stopIn}
+use Rattle.counters.specs.Answers.{asStop}
 use Rattle.model.specs.Tables.{cleared}
 use mathlib.Core.Path.{ap, _∙_}
 use borrow.Author.Needs.{needs}
@@ -18,13 +18,13 @@ unfolding cleared
 returns c =
     let at-enum-told = c .before .before .before .before .before .before .before .before .before in
     let at-grow-list = at-enum-told .before .before .before .before .before .before .before .before in
-    call-answers _ _ _ _ (at-grow-list .grow-list .ensures) _ _ _ (ap stopIn (at-enum-told .enum-told .given .1)) (λ r h. handed (c .before .before .answer-question .ok) (c .before .before .answer-question .ensures r h))
+    call-answers _ _ _ _ (at-grow-list .grow-list .ensures) _ _ _ (ap asStop (at-enum-told .enum-told .given .1)) (λ r h. handed (c .before .before .answer-question .ok) (c .before .before .answer-question .ensures r h))
 
 returns-2 : tie.Need-returns-2
 unfolding cleared
 returns-2 c =
     let at-grow-list = c .before .before .before .before .before .before .before .before .before .before in
-    call-stops _ _ _ _ (at-grow-list .grow-list .ensures) _ _ _ _ _ (ap stopIn (c .before .before .stop .given .1)) (value-kept (c .refused .ok) ∙ c .refused .ensures)
+    call-stops _ _ _ _ (at-grow-list .grow-list .ensures) _ _ _ _ _ (ap asStop (c .before .before .stop .given .1)) (value-kept (c .refused .ok) ∙ c .refused .ensures)
 
 -- the needs in the order of the code
 pub answer-call-spec : {M : Type 1} → statement M
