@@ -12,7 +12,7 @@ use Rattle.model.specs.Basics.{if_then_else_}
 use Rattle.valve.specs.Numbers.{slots, maxAmount}
 use Rattle.valve.specs.Window.{Record, recordOf, total, Window, window, empty, before, newest, recordsIn, sizesFit, allWithin, held}
 use Rattle.valve.specs.Valve.{taken, older, refuses, atValve}
-use Rattle.valve.specs.Calls.{withRecord, Outcome, outcome, arrives, asks}
+use Rattle.valve.specs.Calls.{withRecord, Outcome, outcome, gated, arrives, asks}
 use Rattle.valve.specs.Series.{Call, arrival, question, makes, series, taking, arrivals, latest, ValveIsRight, EverySeries}
 use Rattle.valve.proofs.Ring.{newest-length, newest-take}
 use Rattle.valve.proofs.Totals.{total-most}
@@ -128,11 +128,11 @@ module _ (w : Window) (rs : List Record) (k : Keeps w rs) where
   hold = is-held w (k .holding)
 
   pub arrival-is : (r : Record) → arrives r w ≡ if ltb maxAmount (r .amount) then outcome w (refuses 40) else outcome (withRecord r w) taken
-  unfolding arrives
+  unfolding arrives gated
   arrival-is r = rw (fit, hold)
 
   question-is : (v : ℕ) → asks v w ≡ outcome w (atValve v (recordsIn w))
-  unfolding asks
+  unfolding asks gated
   question-is v = rw (fit, hold)
 
   keeps-arrival : (r : Record) → Keeps ((arrives r w) .window) (taking (arrival r) rs)

@@ -8,7 +8,7 @@ use lib.ListN.{replicate}
 use Rattle.valve.specs.Numbers.{slots}
 use Rattle.valve.specs.Window.{Record, recordOf, total, Window, window, empty, before, newest, recordsIn, sizesFit, allWithin, held}
 use Rattle.valve.specs.Valve.{recipeIs, older, refuses, atValve}
-use Rattle.valve.specs.Calls.{Outcome, arrives, asks}
+use Rattle.valve.specs.Calls.{Outcome, gated, arrives, asks}
 use Rattle.valve.specs.Series.{Call, series, taking, arrivals, latest, ValveIsRight, EverySeries}
 use Rattle.valve.specs.Values.{three, arriving, arrived, lasting, pushing, standing, stopping, full, Table}
 use Rattle.valve.proofs.LoopLaws.{within-not, held-past, held-too-much, held-sum}
@@ -54,7 +54,7 @@ unfolding stopping arrivals taking latest atValve
 stood-out = after-all stopping .answer 0
 
 full-asked : (asks 1439999999 full) .reply ≡ recipeIs 3
-unfolding total before newest recordsIn sizesFit allWithin held atValve asks full
+unfolding total before newest recordsIn sizesFit allWithin held atValve asks gated full
 full-asked = refl
 
 -- ---- 21 and 25

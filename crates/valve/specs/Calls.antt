@@ -24,17 +24,17 @@ pub record Outcome : Type 0 where
 abbrev pub outcome : Window → Reply → Outcome
 outcome w a = record { window = w; reply = a }
 
--- 25, 21, then "40 a record above 1,000,000 ml, after 21, nothing changed"
-unfoldable pub arrives : Record → Window → Outcome
-arrives r w =
+-- 25, then 21: both calls look for these first
+unfoldable pub gated : Window → Outcome → Outcome
+gated w o =
     if not (sizesFit (w .recipes) (w .amounts)) then outcome w (refuses 25)
     else if not (held w) then outcome w (refuses 21)
-    else if ltb maxAmount (r .amount) then outcome w (refuses 40)
-    else outcome (withRecord r w) taken
+    else o
 
--- 25, 21, then "answer, for a valve whose water lies V ml down the main"
+-- "40 a record above 1,000,000 ml, after 21, nothing changed"
+unfoldable pub arrives : Record → Window → Outcome
+arrives r w = gated w (if ltb maxAmount (r .amount) then outcome w (refuses 40) else outcome (withRecord r w) taken)
+
+-- "answer, for a valve whose water lies V ml down the main"
 unfoldable pub asks : ℕ → Window → Outcome
-asks v w =
-    if not (sizesFit (w .recipes) (w .amounts)) then outcome w (refuses 25)
-    else if not (held w) then outcome w (refuses 21)
-    else outcome w (atValve v (recordsIn w))
+asks v w = gated w (outcome w (atValve v (recordsIn w)))

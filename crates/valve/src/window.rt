@@ -13,6 +13,7 @@ use tables::access::put16;
 use tables::access::put32;
 ghost use mathlib.Core.Path.{_≡_};
 ghost use Prim.Native.Nat.{_-_};
+ghost use lib.Dec.{ltb};
 ghost use Rattle.valve.specs.Numbers.{slots};
 ghost use Rattle.valve.specs.Window.{recordOf, window, newest, held};
 ghost use Rattle.valve.specs.Steps.{putIn};
@@ -47,6 +48,13 @@ pub fn put_record(
     }
 }
 
+// Whether a record of this amount holds the millilitre that comes after so many, counted back from its last. Of 0 ml it holds none.
+fn holds_next(amount: u32, rest: u32) -> bool
+    ensures { λ r. ⌜ r ≡ ltb rest amount ⌝ }
+{
+    rest < amount
+}
+
 // The recipe of the record that holds the millilitre after this many, counted back.
 pub fn recipe_back(recipes: &[u16], amounts: &[u32], next: u16, volume: u32) -> AtValve
     ensures { λ r. ⌜ foundReply r ≡ atValve volume (newest (now (recipes .entry)) (now (amounts .entry)) slots next) ⌝ }
@@ -57,7 +65,7 @@ pub fn recipe_back(recipes: &[u16], amounts: &[u32], next: u16, volume: u32) -> 
     while 0 < left {
         slot = slot_before(slot);
         let amount = amount_at(amounts, slot);
-        if rest < amount {
+        if holds_next(amount, rest) {
             return AtValve::Recipe(Recipe(recipe_at(recipes, slot)));
         }
         rest -= amount;

@@ -3,13 +3,16 @@ use Rattle.valve.specs.Valve.{atValve}
 use Rattle.valve.specs.Window.{newest}
 use Rattle.valve.specs.Numbers.{slots}
 use borrow.Author.Needs.{needs}
+use borrow.Author.Tests.{ltb-true, ltb-false}
+use Prim.Native.Nat.{_≤_}
 use native.Mathlib.Omega.{arith}
 use mathlib.Core.Path.{_≡_, refl, sym, _∙_}
 use Rattle.valve.proofs.window.recipe_back.Statement.{statement}
 use Rattle.valve.proofs.window.recipe_back.Tie as tie
 
 abbrev Inv-loop : tie.InvT-loop
-Inv-loop recipes amounts next volume slot₀ rest₀ left₀ slot rest left = atValve rest (newest recipes amounts left slot) ≡ atValve volume (newest recipes amounts slots next)
+Inv-loop recipes amounts next volume slot₀ rest₀ left₀ slot rest left =
+    atValve rest (newest recipes amounts left slot) ≡ atValve volume (newest recipes amounts slots next)
 
 abbrev μ-loop : tie.MeasureT-loop
 μ-loop recipes amounts next volume slot₀ rest₀ left₀ slot rest left = left
@@ -19,14 +22,24 @@ loop-holds c = refl
 
 returns : tie.Need-returns Inv-loop μ-loop
 returns c =
-    let at-loop-test = c .before .before .before .before in
-    let at-loop = at-loop-test .before in
-    valve-here _ _ _ _ _ _ _ _ (at-loop-test .loop-test .taken) (c .before .before .before .slot-before .ensures) (c .before .before .amount-at .ensures) (c .before .if1 .taken) (c .recipe-at .ensures) ∙ at-loop .loop .inv
+    let at-amount-at = c .before .before .before in
+    let at-loop-test = at-amount-at .before .before in
+    valve-here _ _ _ _ _ _ _ _ (at-loop-test .loop-test .taken) (at-amount-at .before .slot-before .ensures) (at-amount-at .amount-at .ensures) (ltb-true _ _ (sym (c .before .before .holds-next .ensures) ∙ c .before .if1 .taken)) (c .recipe-at .ensures)
+    ∙ at-loop-test .before .loop .inv
+
+sub-rest : tie.Need-sub-rest Inv-loop μ-loop
+sub-rest c =
+    let at-amount-at = c .before .before in
+    let at-loop = at-amount-at .before .before .before in
+    let l : at-amount-at .amount-at .result ≤ at-loop .loop .rest = ltb-false _ _ (sym (c .before .holds-next .ensures) ∙ c .if1 .left) in
+    omega arith
 
 loop-again : tie.Need-loop-again Inv-loop μ-loop
 loop-again c =
-    let at-loop = c .before .before .before .before in
-    sym (valve-on _ _ _ _ _ _ _ (c .before .before .before .loop-test .taken) (c .before .before .slot-before .ensures) (c .before .amount-at .ensures) (c .if1 .left)) ∙ at-loop .loop .inv
+    let at-amount-at = c .before .before in
+    let at-loop-test = at-amount-at .before .before in
+    sym (valve-on _ _ _ _ _ _ _ (at-loop-test .loop-test .taken) (at-amount-at .before .slot-before .ensures) (at-amount-at .amount-at .ensures) (ltb-false _ _ (sym (c .before .holds-next .ensures) ∙ c .if1 .left)))
+    ∙ at-loop-test .before .loop .inv
 
 returns-2 : tie.Need-returns-2 Inv-loop μ-loop
 returns-2 c = valve-end _ _ _ _ _ (c .loop-test .left) ∙ c .before .loop .inv
@@ -41,7 +54,9 @@ recipe-back-spec =
     (λ c κs. search needs)
     (λ c κs. search needs)
     (λ c κs. search needs)
+    (λ c κs. search needs)
     returns
+    sub-rest
     (λ c. omega arith)
     (λ c. omega arith)
     loop-again
