@@ -4,6 +4,7 @@ mod answers;
 mod checked;
 mod distances;
 pub mod query;
+mod recipes;
 mod sheet;
 
 use crate::query::Query;

@@ -6,7 +6,7 @@ ghost use mathlib.Core.Path.{_≡_};
 ghost use lib.ListN.{replicate};
 ghost use Rattle.valve.specs.Numbers.{slots};
 ghost use Rattle.valve.specs.Window.{empty};
-ghost use Rattle.valve.specs.Answers.{numberOf, windowIn};
+ghost use Rattle.valve.specs.Answers.{windowIn};
 
 // The slot that takes the next record, which is the oldest one's, and the stated sum of the window's records, at most 1,440,000,000 ml.
 pub struct Head {
@@ -30,18 +30,6 @@ pub enum Refusal {
     WrongSize,
     NotFromArrivals,
     TooMuch,
-}
-
-impl Refusal {
-    pub fn number(self) -> u32
-        ensures { λ r. ⌜ r ≡ numberOf self ⌝ }
-    {
-        match self {
-            Refusal::WrongSize => 25,
-            Refusal::NotFromArrivals => 21,
-            Refusal::TooMuch => 40,
-        }
-    }
 }
 
 // The record was taken, and this is the head from now on: the caller keeps it, with the tables. Or nothing has changed.

@@ -4,6 +4,7 @@
 // back, and whether arrivals from empty leave a window.
 pub mod answers;
 pub mod calls;
+pub mod lent;
 pub mod numbers;
 mod slots;
 mod window;
