@@ -4,6 +4,7 @@ mod answers;
 mod checked;
 mod distances;
 pub mod grown;
+mod recipes;
 mod sheet;
 
 use crate::grown::Question;
