@@ -4,9 +4,10 @@ use Prim.Native.Nat.{ℕ, _≤_, _<_}
 use native.Mathlib.Omega.{arith}
 use mathlib.Core.Bool.{Bool, true, false, _&&_}
 use mathlib.Core.Option.{none, some, Option·some-injective, Option·some-ne-none}
-use lib.Dec.{leb, ltb}
-use borrow.Author.Tests.{le-leb, lt-leb, leb-false, lt-ltb, le-ltb, ltb-true, ltb-false}
-use Rattle.counters.specs.Numbers.{within, below}
+use lib.Dec.{leb}
+use borrow.Author.Tests.{le-leb, lt-leb, leb-false, lt-ltb, le-ltb}
+use Rattle.model.specs.Basics.{maxVertices}
+use Rattle.counters.specs.Numbers.{within, amongLanded, isLanded}
 
 pub within-yes : (low high n : ℕ) → low ≤ n → n ≤ high → some n ≡ within low high n
 unfolding within
@@ -20,13 +21,19 @@ pub within-above : (low high n : ℕ) → low ≤ n → high < n → none ≡ wi
 unfolding within
 within-above low high n l h = rw (le-leb low n l, lt-leb n high h)
 
-pub below-yes : (count n : ℕ) → n < count → some n ≡ below count n
-unfolding below
-below-yes count n h = rw (lt-ltb n count h)
+module _ (count n : ℕ) where
+  pub landed-above : maxVertices ≤ n → none ≡ amongLanded count n
+  unfolding amongLanded
+  landed-above h = rw (le-ltb n maxVertices h)
 
-pub below-no : (count n : ℕ) → count ≤ n → none ≡ below count n
-unfolding below
-below-no count n h = rw (le-ltb n count h)
+  module _ (h : n < maxVertices) where
+    pub landed-yes : n < count → some n ≡ amongLanded count n
+    unfolding amongLanded
+    landed-yes g = rw (lt-ltb n maxVertices h, lt-ltb n count g)
+
+    pub landed-no : count ≤ n → none ≡ amongLanded count n
+    unfolding amongLanded
+    landed-no g = rw (lt-ltb n maxVertices h, le-ltb n count g)
 
 pub within-is : (low high n v : ℕ) → some v ≡ within low high n → v ≡ n
 unfolding within
@@ -44,18 +51,18 @@ within-none high n e = go (leb n high) refl
     go true q = absurd (Option·some-ne-none n (sym (rw (le-leb 0 n (omega arith), q) at e)))
     go false q = leb-false n high q
 
-pub below-is : (count n v : ℕ) → some v ≡ below count n → (n < count) × (v ≡ n)
-unfolding below
-below-is count n v e = go (ltb n count) refl
+pub landed-is : (count n v : ℕ) → some v ≡ amongLanded count n → (isLanded count n ≡ true) × (v ≡ n)
+unfolding amongLanded
+landed-is count n v e = go (isLanded count n) refl
   where
-    go : (b : Bool) → ltb n count ≡ b → (n < count) × (v ≡ n)
-    go true q = (ltb-true n count q, Option·some-injective v n (rw q at e))
+    go : (b : Bool) → isLanded count n ≡ b → (isLanded count n ≡ true) × (v ≡ n)
+    go true q = (q, Option·some-injective v n (rw q at e))
     go false q = absurd (Option·some-ne-none v (rw q at e))
 
-pub below-none : (count n : ℕ) → none ≡ below count n → count ≤ n
-unfolding below
-below-none count n e = go (ltb n count) refl
+pub landed-none : (count n : ℕ) → none ≡ amongLanded count n → isLanded count n ≡ false
+unfolding amongLanded
+landed-none count n e = go (isLanded count n) refl
   where
-    go : (b : Bool) → ltb n count ≡ b → count ≤ n
+    go : (b : Bool) → isLanded count n ≡ b → isLanded count n ≡ false
     go true q = absurd (Option·some-ne-none n (sym (rw q at e)))
-    go false q = ltb-false n count q
+    go false q = q

@@ -1,9 +1,9 @@
 -- What the checked constructors answer: the number, or none where it is out of its bounds.
 use Prim.Native.Nat.{ℕ}
-use mathlib.Core.Bool.{_&&_}
+use mathlib.Core.Bool.{Bool, _&&_}
 use mathlib.Core.Option.{Option, none, some}
 use lib.Dec.{leb, ltb}
-use Rattle.model.specs.Basics.{if_then_else_}
+use Rattle.model.specs.Basics.{if_then_else_, maxVertices}
 use Rattle.counters.specs.declared.numbers.Vertex.{Vertex}
 use Rattle.counters.specs.declared.numbers.CheckedVertex.{CheckedVertex}
 use Rattle.counters.specs.declared.numbers.CheckedVertex.the-variants as vertex
@@ -21,8 +21,12 @@ vertexOf n = record { 0 = n }
 unfoldable pub within : ℕ → ℕ → ℕ → Option ℕ
 within low high n = if leb low n && leb n high then some n else none
 
-unfoldable pub below : ℕ → ℕ → Option ℕ
-below count n = if ltb n count then some n else none
+-- n is one of so many landed vertices, and within its bound
+abbrev pub isLanded : ℕ → ℕ → Bool
+isLanded count n = ltb n maxVertices && ltb n count
+
+unfoldable pub amongLanded : ℕ → ℕ → Option ℕ
+amongLanded count n = if isLanded count n then some n else none
 
 abbrev pub asVertex : CheckedVertex → Option ℕ
 asVertex (vertex.Is v) = some (v .0)

@@ -3,7 +3,7 @@
 // becomes one of them by such a constructor alone. What is read from a lent table is of the kind that the table holds (tables::kinds).
 ghost use mathlib.Core.Path.{_≡_};
 ghost use Prim.Native.Nat.{_-_, _^_};
-ghost use Rattle.counters.specs.Numbers.{within, below, asVertex, asEdge, asLabel, asMillimetres};
+ghost use Rattle.counters.specs.Numbers.{within, amongLanded, asVertex, asEdge, asLabel, asMillimetres};
 ghost use Rattle.model.specs.Basics.{maxVertices, maxEdges, maxLength};
 
 // Document 01's fitting number, from 0.
@@ -29,10 +29,14 @@ impl Vertex {
         CheckedVertex::OutOfRange
     }
 
-    // The stricter test: one of so many that are landed.
+    // The stricter test: one of so many that are landed. The bound is tested too, although no register has more: then it needs no further
+    // test where the tables are read (docs/SPEED.md).
     pub fn landed(n: u16, count: u16) -> CheckedVertex
-        ensures { λ r. ⌜ asVertex r ≡ below count n ⌝ }
+        ensures { λ r. ⌜ asVertex r ≡ amongLanded count n ⌝ }
     {
+        if Vertex::COUNT <= n {
+            return CheckedVertex::OutOfRange;
+        }
         if n < count {
             return CheckedVertex::Is(Vertex(n));
         }
