@@ -3,7 +3,7 @@ use Prim.Native.Nat.{ℕ}
 use mathlib.Core.Bool.{Bool, not, _&&_, _||_}
 use lib.ListN.{set}
 use lib.Dec.{eqb, leb, ltb}
-use Rattle.model.specs.Basics.{if_then_else_, maxEdges, maxLength}
+use Rattle.model.specs.Basics.{if_then_else_, maxEdges, maxLength, maxVertices}
 use Rattle.model.specs.Graph.{Edge}
 use Rattle.model.specs.Tables.{Tables, Counts}
 use Rattle.counters.specs.Answers.{counts}
@@ -37,9 +37,13 @@ pub data CheckIn : Type 0 where
   passed : ℕ → CheckIn
   failed : ℕ → CheckIn
 
+-- v is one of so many landed vertices; none has a number above the bound
+abbrev pub isLanded : ℕ → ℕ → Bool
+isLanded count v = ltb v maxVertices && ltb v count
+
 unfoldable pub checkIn : Counts → Edge → CheckIn
 checkIn c e =
-    if not (ltb (e .first) (c .vertices) && ltb (e .second) (c .vertices)) then failed 5
+    if not (isLanded (c .vertices) (e .first) && isLanded (c .vertices) (e .second)) then failed 5
     else if eqb (e .first) (e .second) then failed 6
     else if eqb (e .len) 0 || ltb maxLength (e .len) then failed 7
     else if leb maxEdges (c .edges) then failed 23

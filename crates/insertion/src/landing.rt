@@ -32,11 +32,18 @@ pub enum Checked {
     Refused(Refusal),
 }
 
-// Document 01's order. These refusals look at no table.
+// Document 01's order. These refusals look at no table. No vertex above Vertex::MAX is ever landed; tested here, it needs no further
+// test where the tables are read (docs/SPEED.md).
 fn check_edge(counts: Counts, first: u16, second: u16, length: u32) -> Checked
     ensures { λ r. ⌜ checkedIn r ≡ checkIn (countsIn counts) (record { first = first; second = second; len = length }) ⌝ }
 {
+    if Vertex::COUNT <= first {
+        return Checked::Refused(Refusal::NotLanded);
+    }
     if counts.vertices <= first {
+        return Checked::Refused(Refusal::NotLanded);
+    }
+    if Vertex::COUNT <= second {
         return Checked::Refused(Refusal::NotLanded);
     }
     if counts.vertices <= second {
@@ -132,7 +139,7 @@ pub fn land_edge(
     let checked = check_edge(counts, first, second, length);
     match checked {
         Checked::Passed(millimetres) => {
-            // below counts.vertices, so within Vertex::MAX in every register
+            // both are within Vertex::MAX
             let v = Vertex(first);
             let w = Vertex(second);
             insert_edge(

@@ -4,6 +4,7 @@ use Rattle.insertion.proofs.placing.place_open.Statement.{statement}
 use Rattle.insertion.proofs.placing.place_open.Tie as tie
 use Rattle.insertion.proofs.placing.place_open.Reads as reads
 use Rattle.insertion.proofs.placing.place_open.Lts as lts
+use Rattle.insertion.proofs.placing.extension_of.Reads as extension-of-reads
 use Rattle.insertion.proofs.placing.open_both.Reads as open-both-reads
 use Rattle.labels.proofs.labelling.extend_chain.Reads as extend-chain-reads
 use Rattle.labels.proofs.merging.ChainChange.new.Reads as new-reads
@@ -11,6 +12,10 @@ use Rattle.labels.proofs.merging.ChainChange.new.Reads as new-reads
 -- src/placing.rt:96:9
 open-both-requires : tie.Need-open-both-requires
 open-both-requires c κs = search needs
+
+-- src/placing.rt:114:21
+extension-of-requires : tie.Need-extension-of-requires
+extension-of-requires c κs = search needs
 
 -- src/placing.rt:98:31
 enum-told : tie.Need-enum-told
@@ -43,8 +48,9 @@ same-length-3 c = search needs
 -- src/placing.rt:80:1
 returns : tie.Need-returns
 returns c =
-    let at-open-both = c .before .before .before .before .before .before .before .before in
-    open-nothing _ _ _ _ _ _ _ _ _ _ _ _ _ _ _ _ _ (c .enum-told .given .1) (at-open-both .open-both .ensures)
+    let at-extension-of = c .before .before in
+    let at-open-both = at-extension-of .before .before .before .before .before .before .before in
+    open-nothing _ _ _ _ _ _ _ _ _ _ _ _ _ _ _ _ _ _ (c .enum-told .given .1) (at-extension-of .extension-of .ensures) (at-open-both .open-both .ensures)
 
 -- src/placing.rt:80:1
 same-length-4 : tie.Need-same-length-4
@@ -63,14 +69,16 @@ returns-2 : tie.Need-returns-2
 returns-2 c =
     let at-extend-chain = c .before .before .before .before .before in
     let at-extension = at-extend-chain .before .before .before .before .before in
-    let at-open-both = at-extension .before .before .before .before .before .before .before .before in
-    open-leaf _ _ _ _ _ _ _ _ _ _ _ _ _ _ _ _ _ _ _ _ _ _ _ _ (at-extension .extension .given .1) (at-open-both .open-both .ensures) (at-extend-chain .extend-chain .ensures) (c .new .ensures)
+    let at-extension-of = at-extension .before .before in
+    let at-open-both = at-extension-of .before .before .before .before .before .before .before in
+    open-leaf _ _ _ _ _ _ _ _ _ _ _ _ _ _ _ _ _ _ _ _ _ _ _ _ _ (at-extension .extension .given .1) (at-extension-of .extension-of .ensures) (at-open-both .open-both .ensures) (at-extend-chain .extend-chain .ensures) (c .new .ensures)
 
 pub place-open-spec : {M : Type 1} → statement M
 place-open-spec =
     tie.close
     (tie.spec
     open-both-requires
+    extension-of-requires
     enum-told
     enum-known-extension
     extend-chain-requires
