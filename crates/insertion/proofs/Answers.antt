@@ -14,7 +14,7 @@ use Rattle.model.specs.Graph.{Edge}
 use Rattle.model.specs.Cases.{Case, classOf, caseOf}
 use Rattle.model.specs.Tables.{Tables, Counts}
 use Rattle.counters.specs.Answers.{counts}
-use Rattle.counters.specs.Numbers.{within}
+use Rattle.counters.specs.Numbers.{isLanded, within}
 use Rattle.counters.proofs.Within.{within-yes, within-below, within-above}
 use Rattle.tables.specs.Meaning.{tables}
 use Rattle.tables.specs.Steps.{setPair, more16, sum32}
@@ -75,34 +75,34 @@ module _ (c : Counts) (a b n : ℕ) where
   abbrev edge : Edge
   edge = record { first = a; second = b; len = n }
 
-  pub check-first : c .vertices ≤ a → failed 5 ≡ checkIn c edge
+  pub check-first : isLanded (c .vertices) a ≡ false → failed 5 ≡ checkIn c edge
   unfolding checkIn
-  check-first h = rw (le-ltb _ _ h)
+  check-first h = rw h
 
-  pub check-second : a < c .vertices → c .vertices ≤ b → failed 5 ≡ checkIn c edge
+  pub check-second : isLanded (c .vertices) a ≡ true → isLanded (c .vertices) b ≡ false → failed 5 ≡ checkIn c edge
   unfolding checkIn
-  check-second h g = rw (lt-ltb _ _ h, le-ltb _ _ g)
+  check-second h g = rw (h, g)
 
-  pub check-same : a < c .vertices → b < c .vertices → a ≡ b → failed 6 ≡ checkIn c edge
-  unfolding checkIn
-  check-same h g e = rw (lt-ltb _ _ h, lt-ltb _ _ g, eq-eqb _ _ e)
+  module _ (h : isLanded (c .vertices) a ≡ true) (g : isLanded (c .vertices) b ≡ true) where
+    pub check-same : a ≡ b → failed 6 ≡ checkIn c edge
+    unfolding checkIn
+    check-same e = rw (h, g, eq-eqb _ _ e)
 
-  pub check-length : a < c .vertices → b < c .vertices → (a ≡ b → ⊥) → none ≡ within 1 maxLength n → failed 7 ≡ checkIn c edge
-  unfolding checkIn
-  check-length h g e l = rw (lt-ltb _ _ h, lt-ltb _ _ g, ne-eqb _ _ e, if-none (eqb n 0 || ltb maxLength n) n (l ∙ length-test n))
+    pub check-length : (a ≡ b → ⊥) → none ≡ within 1 maxLength n → failed 7 ≡ checkIn c edge
+    unfolding checkIn
+    check-length e l = rw (h, g, ne-eqb _ _ e, if-none (eqb n 0 || ltb maxLength n) n (l ∙ length-test n))
 
-  pub check-edges : (m : ℕ) → a < c .vertices → b < c .vertices → (a ≡ b → ⊥)
-      → some m ≡ within 1 maxLength n → maxEdges ≤ c .edges → failed 23 ≡ checkIn c edge
-  unfolding checkIn
-  check-edges m h g e l o =
-      rw (lt-ltb _ _ h, lt-ltb _ _ g, ne-eqb _ _ e, if-some (eqb n 0 || ltb maxLength n) m n (l ∙ length-test n) .0, le-leb _ _ o)
+    pub check-edges : (m : ℕ) → (a ≡ b → ⊥) → some m ≡ within 1 maxLength n → maxEdges ≤ c .edges → failed 23 ≡ checkIn c edge
+    unfolding checkIn
+    check-edges m e l o =
+        rw (h, g, ne-eqb _ _ e, if-some (eqb n 0 || ltb maxLength n) m n (l ∙ length-test n) .0, le-leb _ _ o)
 
-  pub check-passed : (a′ b′ m : ℕ) → (a < c .vertices) × (a′ ≡ a) → (b < c .vertices) × (b′ ≡ b) → (a ≡ b → ⊥)
-      → some m ≡ within 1 maxLength n → c .edges < maxEdges → passed a′ b′ m ≡ checkIn c edge
-  unfolding checkIn
-  check-passed a′ b′ m h g e l o =
-      let q = if-some (eqb n 0 || ltb maxLength n) m n (l ∙ length-test n) in
-      rw (lt-ltb _ _ (h .0), lt-ltb _ _ (g .0), ne-eqb _ _ e, q .0, lt-leb _ _ o, q .1, h .1, g .1)
+    pub check-passed : (a′ b′ m : ℕ) → a′ ≡ a → b′ ≡ b → (a ≡ b → ⊥) → some m ≡ within 1 maxLength n → c .edges < maxEdges
+        → passed a′ b′ m ≡ checkIn c edge
+    unfolding checkIn
+    check-passed a′ b′ m x y e l o =
+        let q = if-some (eqb n 0 || ltb maxLength n) m n (l ∙ length-test n) in
+        rw (h, g, ne-eqb _ _ e, q .0, lt-leb _ _ o, q .1, x, y)
 
 -- landing goes on as the check's answer says
 pub checked-given : (t : Tables) (c : Counts) (rings : Bool) (e : Edge) (k k′ : Checked) → k ≡ k′ → asChecked k ≡ checkIn c e

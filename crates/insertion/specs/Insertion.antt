@@ -7,6 +7,7 @@ use Rattle.model.specs.Basics.{if_then_else_, maxEdges, maxLength, maxVertices}
 use Rattle.model.specs.Graph.{Edge}
 use Rattle.model.specs.Tables.{Tables, Counts}
 use Rattle.counters.specs.Answers.{counts}
+use Rattle.counters.specs.Numbers.{isLanded}
 use Rattle.tables.specs.Meaning.{tables}
 use Rattle.tables.specs.Steps.{setPair, more16, sum32}
 use Rattle.insertion.specs.Placing.{placedBy}
@@ -46,7 +47,7 @@ pub data CheckIn : Type 0 where
 
 unfoldable pub checkIn : Counts → Edge → CheckIn
 checkIn c e =
-    if not (ltb (e .first) (c .vertices) && ltb (e .second) (c .vertices)) then failed 5
+    if not (isLanded (c .vertices) (e .first) && isLanded (c .vertices) (e .second)) then failed 5
     else if eqb (e .first) (e .second) then failed 6
     else if eqb (e .len) 0 || ltb maxLength (e .len) then failed 7
     else if leb maxEdges (c .edges) then failed 23
