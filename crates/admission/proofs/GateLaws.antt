@@ -14,7 +14,7 @@ use Rattle.tables.specs.Meaning.{stored}
 use Rattle.tables.specs.Steps.{zeroed}
 use Rattle.admission.specs.Lent.{lent}
 use Rattle.holding.specs.Replay.{Regrows}
-use Rattle.holding.proofs.Held.{replay-held, replay-none}
+use Rattle.holding.proofs.HeldLaws.{replay-held, replay-none}
 use Rattle.admission.specs.Gate.{barred}
 use Rattle.admission.proofs.SizeLaws.{zeroed-cleared}
 
