@@ -16,7 +16,7 @@ use Rattle.valve.specs.Calls.{withRecord, Outcome, outcome, gated, arriv
 use Rattle.valve.specs.Series.{Call, arrival, question, makes, series, taking, arrivals, latest, ValveIsRight, EverySeries}
 use Rattle.valve.proofs.Ring.{newest-length, newest-take}
 use Rattle.valve.proofs.Totals.{total-most}
-use Rattle.valve.proofs.Back.{older-only, older-then, answered-by, holder-answers, holder-some}
+use Rattle.valve.proofs.Back.{older-only, older-then, never-refuses, answered-by, holder-answers, holder-some}
 use Rattle.valve.proofs.Holding.{Sized, sizes-fit, Holds, is-held, records-with, sized-with, holds-with}
 
 -- what an untouched slot holds
@@ -171,6 +171,7 @@ module _ (w : Window) (rs : List Record) (k : Keeps w rs) where
         never-of-none = λ v r h. holder-some v (take slots rs) r h;
         older-if = λ v e. older-then v (take slots rs) (sym (answer-is v) ∙ e);
         older-only-if = λ v l. answer-is v ∙ older-only v (take slots rs) l;
+        never-refused = λ v n e. never-refuses v n (take slots rs) (sym (answer-is v) ∙ e);
         taken-or-40 = λ r. ap (λ (o : Outcome). o .reply) (arrival-is r) ∙ reply-of (ltb maxAmount (r .amount)) r;
         next-bound = k .holding .inside;
         sum-bound = sum-most;

@@ -60,7 +60,8 @@ pub record ValveIsRight (w : Window) (rs : List Record) : Type 0 where
   -- ""older than the window" exactly if the records hold at most V ml"
   pub older-if : (v : ℕ) → (asks v w) .reply ≡ older → total (latest rs) ≤ v
   pub older-only-if : (v : ℕ) → total (latest rs) ≤ v → (asks v w) .reply ≡ older
-  -- an arrival is taken, or refused with 40 for its own ml. So, with `answer`, 25 and 21 hold in no series.
+  -- 25 and 21 hold in no series: no question is refused, and an arrival with 40 alone, for its own ml
+  pub never-refused : (v n : ℕ) → (asks v w) .reply ≡ refuses n → ⊥
   pub taken-or-40 : (r : Record) → (arrives r w) .reply ≡ if ltb maxAmount (r .amount) then refuses 40 else taken
   -- "for months": no number of the head grows with the arrivals
   pub next-bound : w .next < slots

@@ -26,7 +26,8 @@ impl Recipe {
     }
 }
 
-// The millilitres that passed in one minute. The water down to a valve, and the sum of a window, are other numbers: of any 32 bits.
+// The millilitres that passed in one minute. One above the bound can be made without the constructor: `arrive` refuses it with 40. The
+// water down to a valve and the sum of a window are other numbers, of any 32 bits.
 pub struct Amount(pub u32);
 
 pub enum CheckedAmount {
