@@ -1,4 +1,4 @@
--- The ways out of the two walks back, and a turn of each; one record more; the slots.
+-- The ways out of the two walks back, and a turn of each; one record more.
 use mathlib.Core.Path.{_≡_, refl, ap, _∙_}
 use Prim.Native.Nat.{ℕ, zero, suc, _+_, _-_, _≤_, _<_}
 use native.Mathlib.Omega.{arith}
