@@ -166,7 +166,8 @@ int32_t pnl_distance(const uint8_t *list, size_t list_len, uint32_t from, uint32
  *   Returns    0 or more, as each call says; or a refusal, below 0. Under a refusal nothing is written.
  *   Order      WRONG_SIZE, then WINDOW: for one that no records can have left, since its next place is none of the 1,440, or one of its
  *              amounts is above 1,000,000, or its sum is not that of its amounts. Then AMOUNT.
- *   Lengths    recipes_len and amounts_len are in elements.
+ *   Lengths    recipes_len and amounts_len are in elements. A table may be null where its length is 0; `next` and `sum` may not.
+ *   Overlap    the four parts must not overlap.
  *   Threads    a call that adds a record writes the window: no other call on that window at the same time.
  */
 enum pnl_valve_size {

@@ -97,6 +97,7 @@ static void compare_valve(void)
     COMPARE(PNL_VALVE_OLDER, pnl_recipe_at(&valve, PNL_VALVE_AMOUNT_MOST));
     REFUSED(PNL_REFUSED_AMOUNT, pnl_record_arrives(&valve, 1, PNL_VALVE_AMOUNT_MOST + 1));
     REFUSED(PNL_REFUSED_WRONG_SIZE, pnl_valve_recipe(valve.recipes, PNL_VALVE_MINUTES - 1, valve.amounts, PNL_VALVE_MINUTES, 1, 0, 0));
+    COMPARE(PNL_REFUSED_WRONG_SIZE, pnl_valve_arrive(NULL, 0, NULL, 0, &valve.next, &valve.sum, 1, 1));
     valve.sum++;
     REFUSED(PNL_REFUSED_WINDOW, pnl_record_arrives(&valve, 1, PNL_VALVE_AMOUNT_MOST + 1));
 }

@@ -10,13 +10,13 @@ use lib.Dec.{ltb}
 use borrow.Author.Tests.{ltb-false, le-ltb}
 use Rattle.model.specs.Basics.{if_then_else_}
 use Rattle.valve.specs.Numbers.{slots, maxAmount}
-use Rattle.valve.specs.Window.{Record, recordOf, total, Window, window, empty, before, newest, recordsIn, sizesFit, allWithin, held}
+use Rattle.valve.specs.Window.{Record, recordOf, total, Window, window, empty, before, newest, recordsOf, sizesFit, allWithin, held}
 use Rattle.valve.specs.Valve.{taken, older, refuses, atValve}
 use Rattle.valve.specs.Calls.{withRecord, Outcome, outcome, gated, arrives, asks}
 use Rattle.valve.specs.Series.{Call, arrival, question, makes, series, taking, arrivals, latest, ValveIsRight, EverySeries}
 use Rattle.valve.proofs.Ring.{newest-length, newest-take}
 use Rattle.valve.proofs.Totals.{total-most}
-use Rattle.valve.proofs.Back.{older-only, older-then, answered-by, holder-answers, holder-some}
+use Rattle.valve.proofs.Back.{older-only, older-then, never-refuses, answered-by, holder-answers, holder-some}
 use Rattle.valve.proofs.Holding.{Sized, sizes-fit, Holds, is-held, records-with, sized-with, holds-with}
 
 -- what an untouched slot holds
@@ -61,14 +61,14 @@ answer-behind v (suc n) m (r ∷ rs) = go (ltb v (r .amount)) refl (answer-behin
 pub record Keeps (w : Window) (rs : List Record) : Type 0 where
   pub sizes : Sized (w .recipes) (w .amounts)
   pub holding : Holds w
-  pub records : recordsIn w ≡ take (suc 1439) (rs ++ replicate slots blank)
+  pub records : recordsOf w ≡ take (suc 1439) (rs ++ replicate slots blank)
 
 -- one more arrives
 take-cons : (n : ℕ) (r : Record) (rs xs : List Record) → xs ≡ take n rs → r ∷ xs ≡ take (suc n) (r ∷ rs)
 take-cons n r rs xs e = ap (λ (ys : List Record). r ∷ ys) e
 
 keeps-with : (w : Window) (rs : List Record) (r : Record) → Keeps w rs → r .amount ≤ maxAmount → Keeps (withRecord r w) (r ∷ rs)
-unfolding recordsIn
+unfolding recordsOf
 keeps-with w rs r k l =
     let shorter : newest (w .recipes) (w .amounts) 1439 (w .next) ≡ take 1439 (rs ++ replicate slots blank) =
     sym (newest-take (w .recipes) (w .amounts) 1439 (w .next)) ∙ ap (λ (xs : List Record). take 1439 xs) (k .records)
@@ -101,8 +101,8 @@ unfolding total blank
 zeros-sum zero = refl
 zeros-sum (suc n) = omega (arith, zeros-sum n)
 
-empty-records : recordsIn empty ≡ replicate slots blank
-unfolding recordsIn empty
+empty-records : recordsOf empty ≡ replicate slots blank
+unfolding recordsOf empty
 empty-records = newest-zeros slots slots 0
 
 pub keeps-empty : Keeps empty []
@@ -131,7 +131,7 @@ module _ (w : Window) (rs : List Record) (k : Keeps w rs) where
   unfolding arrives gated
   arrival-is r = rw (fit, hold)
 
-  question-is : (v : ℕ) → asks v w ≡ outcome w (atValve v (recordsIn w))
+  question-is : (v : ℕ) → asks v w ≡ outcome w (atValve v (recordsOf w))
   unfolding asks gated
   question-is v = rw (fit, hold)
 
@@ -155,7 +155,7 @@ module _ (w : Window) (rs : List Record) (k : Keeps w rs) where
   answer-is v = ap (λ (o : Outcome). o .reply) (question-is v) ∙ ap (atValve v) (k .records) ∙ answer-behind v (suc 1439) slots rs
 
   sum-most : w .sum ≤ slots * maxAmount
-  unfolding recordsIn
+  unfolding recordsOf
   sum-most =
       omega (arith, k .holding .sum-is, total-most (newest (w .recipes) (w .amounts) slots (w .next)) (k .holding .within), newest-length (w .recipes) (w .amounts) slots (w .next))
 
@@ -171,6 +171,7 @@ module _ (w : Window) (rs : List Record) (k : Keeps w rs) where
         never-of-none = λ v r h. holder-some v (take slots rs) r h;
         older-if = λ v e. older-then v (take slots rs) (sym (answer-is v) ∙ e);
         older-only-if = λ v l. answer-is v ∙ older-only v (take slots rs) l;
+        never-refused = λ v n e. never-refuses v n (take slots rs) (sym (answer-is v) ∙ e);
         taken-or-40 = λ r. ap (λ (o : Outcome). o .reply) (arrival-is r) ∙ reply-of (ltb maxAmount (r .amount)) r;
         next-bound = k .holding .inside;
         sum-bound = sum-most;

@@ -7,7 +7,7 @@ use mathlib.Core.List.{List, [], _∷_, _++_}
 use lib.Dec.{ltb}
 use borrow.Author.Tests.{ltb-true, ltb-false, lt-ltb, le-ltb}
 use Rattle.valve.specs.Window.{Record, total}
-use Rattle.valve.specs.Valve.{recipeIs, older, atValve}
+use Rattle.valve.specs.Valve.{recipeIs, older, refuses, atValve}
 use Rattle.valve.specs.Series.{HoldsNumber}
 
 module _ (v : ℕ) (r : Record) (rs : List Record) where
@@ -34,6 +34,17 @@ older-then v (r ∷ rs) e = go (ltb v (r .amount)) refl (λ h. older-then (v - r
     go : (t : Bool) → ltb v (r .amount) ≡ t → (atValve (v - r .amount) rs ≡ older → total rs ≤ v - r .amount) → r .amount + total rs ≤ v
     go true t ih = absurd (let q : recipeIs (r .recipe) ≡ older = sym (back-here v r rs t) ∙ e in let z : _≡_ {A = ℕ} 0 1 = cc in omega arith)
     go false t ih = let l : r .amount ≤ v = ltb-false v (r .amount) t in omega (arith, ih (sym (back-on v r rs t) ∙ e))
+
+-- ---- an answer is no refusal
+
+pub never-refuses : (v n : ℕ) (rs : List Record) → atValve v rs ≡ refuses n → ⊥
+unfolding atValve
+never-refuses v n [] e = let z : _≡_ {A = ℕ} 0 1 = cc in omega arith
+never-refuses v n (r ∷ rs) e = go (ltb v (r .amount)) refl (λ h. never-refuses (v - r .amount) n rs h)
+  where
+    go : (t : Bool) → ltb v (r .amount) ≡ t → (atValve (v - r .amount) rs ≡ refuses n → ⊥) → ⊥
+    go true t ih = let q : recipeIs (r .recipe) ≡ refuses n = sym (back-here v r rs t) ∙ e in let z : _≡_ {A = ℕ} 0 1 = cc in omega arith
+    go false t ih = ih (sym (back-on v r rs t) ∙ e)
 
 -- ---- the record that answers
 

@@ -10,7 +10,7 @@ use borrow.Author.Tests.{eqb-true, ltb-true, eq-eqb, ne-eqb, lt-ltb, le-leb}
 use Rattle.tables.proofs.Sums.{sum32-is}
 use Rattle.model.proofs.Basics.Booleans.{and-true}
 use Rattle.valve.specs.Numbers.{slots, maxAmount}
-use Rattle.valve.specs.Window.{Record, total, Window, window, after, newest, recordsIn, sizesFit, allWithin, held}
+use Rattle.valve.specs.Window.{Record, total, Window, window, after, newest, recordsOf, sizesFit, allWithin, held}
 use Rattle.valve.specs.Calls.{summed, withRecord}
 use Rattle.valve.specs.Steps.{putIn}
 use Rattle.valve.proofs.Ring.{after-below, newest-length, newest-put}
@@ -40,19 +40,19 @@ sizes-second recipes amounts h = rw (eq-eqb (length recipes) slots h)
 
 pub record Holds (w : Window) : Type 0 where
   pub inside : w .next < slots
-  pub within : allWithin (recordsIn w) ≡ true
-  pub sum-is : total (recordsIn w) ≡ w .sum
+  pub within : allWithin (recordsOf w) ≡ true
+  pub sum-is : total (recordsOf w) ≡ w .sum
 
 pub holds : (w : Window) → held w ≡ true → Holds w
 unfolding held
 holds w e =
-    let a = and-true (ltb (w .next) slots) (allWithin (recordsIn w) && eqb (total (recordsIn w)) (w .sum)) e in
-    let b = and-true (allWithin (recordsIn w)) (eqb (total (recordsIn w)) (w .sum)) (a .1) in
-    record { inside = ltb-true (w .next) slots (a .0); within = b .0; sum-is = eqb-true (total (recordsIn w)) (w .sum) (b .1) }
+    let a = and-true (ltb (w .next) slots) (allWithin (recordsOf w) && eqb (total (recordsOf w)) (w .sum)) e in
+    let b = and-true (allWithin (recordsOf w)) (eqb (total (recordsOf w)) (w .sum)) (a .1) in
+    record { inside = ltb-true (w .next) slots (a .0); within = b .0; sum-is = eqb-true (total (recordsOf w)) (w .sum) (b .1) }
 
 pub is-held : (w : Window) → Holds w → held w ≡ true
 unfolding held
-is-held w h = rw (lt-ltb (w .next) slots (h .inside), h .within, eq-eqb (total (recordsIn w)) (w .sum) (h .sum-is))
+is-held w h = rw (lt-ltb (w .next) slots (h .inside), h .within, eq-eqb (total (recordsOf w)) (w .sum) (h .sum-is))
 
 -- ---- one record more
 
@@ -62,17 +62,17 @@ within-cons r rs l e = rw (le-leb (r .amount) maxAmount l) e
 
 module _ (r : Record) (w : Window) (s : Sized (w .recipes) (w .amounts)) (h : Holds w) where
   -- the new record, and the others but for the oldest
-  pub records-with : recordsIn (withRecord r w) ≡ r ∷ newest (w .recipes) (w .amounts) 1439 (w .next)
-  unfolding recordsIn withRecord summed
+  pub records-with : recordsOf (withRecord r w) ≡ r ∷ newest (w .recipes) (w .amounts) 1439 (w .next)
+  unfolding recordsOf withRecord summed
   records-with = newest-put (w .recipes) (w .amounts) (w .next) r (s .recipes-long) (s .amounts-long) (h .inside)
 
   -- the oldest leaves the sum
   oldest-leaves : w .sum ≡ total (newest (w .recipes) (w .amounts) 1439 (w .next)) + getD (w .amounts) (w .next) 0
-  unfolding recordsIn
+  unfolding recordsOf
   oldest-leaves = sym (h .sum-is) ∙ total-next (w .recipes) (w .amounts) (w .next) (h .inside)
 
   rest-within : allWithin (newest (w .recipes) (w .amounts) 1439 (w .next)) ≡ true
-  unfolding recordsIn
+  unfolding recordsOf
   rest-within = within-shorter (w .recipes) (w .amounts) 1439 (w .next) (h .within)
 
   rest-most : total (newest (w .recipes) (w .amounts) 1439 (w .next)) ≤ 1439000000

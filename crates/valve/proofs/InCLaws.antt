@@ -6,7 +6,7 @@ use lib.IntN.{ℤ, pos}
 use Rattle.valve.specs.Window.{Window, window}
 use Rattle.valve.specs.Valve.{Reply, taken, refuses}
 use Rattle.valve.specs.Calls.{Outcome, outcome}
-use Rattle.valve.specs.Answers.{numberOf, windowIn, arrivedReply, headAfter}
+use Rattle.valve.specs.Answers.{numberOf, asWindow, arrivedReply, headAfter}
 use Rattle.valve.specs.FromC.{numberInC, inC, outcomeInC}
 use Rattle.valve.specs.declared.answers.Head.{Head}
 use Rattle.valve.specs.declared.answers.Refusal.{Refusal}
@@ -18,10 +18,10 @@ unfolding outcomeInC
 answered-in-C w a n o e q = ap (λ (k : ℤ). inC w k) q ∙ ap outcomeInC e
 
 module _ (recipes amounts : List ℕ) (h : Head) (r : Arrived) (o : Outcome)
-    (e : outcome (windowIn recipes amounts (headAfter h r)) (arrivedReply r) ≡ o) where
-  pub taken-in-C : (after : Head) → r ≡ Taken after → inC (windowIn recipes amounts after) (pos 0) ≡ outcomeInC o
+    (e : outcome (asWindow recipes amounts (headAfter h r)) (arrivedReply r) ≡ o) where
+  pub taken-in-C : (after : Head) → r ≡ Taken after → inC (asWindow recipes amounts after) (pos 0) ≡ outcomeInC o
   unfolding numberInC
-  taken-in-C after q = answered-in-C (windowIn recipes amounts after) taken (pos 0) o (rw q at e) refl
+  taken-in-C after q = answered-in-C (asWindow recipes amounts after) taken (pos 0) o (rw q at e) refl
 
-  pub refused-in-C : (x : Refusal) (n : ℤ) → r ≡ Refused x → n ≡ numberInC (refuses (numberOf x)) → inC (windowIn recipes amounts h) n ≡ outcomeInC o
-  refused-in-C x n q p = answered-in-C (windowIn recipes amounts h) (refuses (numberOf x)) n o (rw q at e) p
+  pub refused-in-C : (x : Refusal) (n : ℤ) → r ≡ Refused x → n ≡ numberInC (refuses (numberOf x)) → inC (asWindow recipes amounts h) n ≡ outcomeInC o
+  refused-in-C x n q p = answered-in-C (asWindow recipes amounts h) (refuses (numberOf x)) n o (rw q at e) p

@@ -6,7 +6,7 @@ use native.Mathlib.Omega.{arith}
 use native.Mathlib.Decide.{ℕ-discrete, decLt}
 use native.Mathlib.Numerals.{add-one}
 use native.Mathlib.Nat.{zero-add, add-zero, max-eq-left}
-use mathlib.Core.Bool.{true}
+use mathlib.Core.Bool.{Bool, true, false}
 use mathlib.Core.List.{List, [], _∷_, _++_, map}
 use lib.ListN.{length, getD, set}
 use lib.Seq.{getD-set-same, getD-set-other, ext-getD}
@@ -14,12 +14,12 @@ use lib.Dec.{leb}
 use borrow.Author.Tests.{leb-true}
 use Rattle.model.proofs.Basics.Booleans.{and-true}
 use Rattle.valve.specs.Numbers.{slots, maxAmount, maxRecipe}
-use Rattle.valve.specs.Window.{Record, recordOf, total, Window, window, empty, before, after, newest, recordsIn, sizesFit, allWithin, held}
-use Rattle.valve.specs.Calls.{summed, withRecord}
-use Rattle.valve.specs.Series.{Call, arrival, makes, series, Narrow, recipesOf, LeftExactly}
+use Rattle.valve.specs.Window.{Record, recordOf, total, Window, window, empty, before, after, newest, recordsOf, sizesFit, allWithin, held}
+use Rattle.valve.specs.Calls.{summed, withRecord, Outcome}
+use Rattle.valve.specs.Series.{Call, arrival, makes, series, Narrow, recipesOf, NotFromArrivals, LeftExactly}
 use Rattle.valve.proofs.Ring.{before-first, after-inside, after-last, backBy, back-some, back-add, back-suc}
 use Rattle.valve.proofs.Holding.{Sized, sized, sizes-fit, Holds, holds, is-held, sized-with, holds-with}
-use Rattle.valve.proofs.CallLaws.{arrive-with}
+use Rattle.valve.proofs.CallLaws.{arrive-21, ask-21, arrive-with}
 use Rattle.valve.proofs.Arrivals.{Keeps, keeps-empty, keeps-series}
 
 -- ---- every slot is walked over
@@ -73,7 +73,7 @@ module _ (w : Window) (s : Sized (w .recipes) (w .amounts)) (h : Holds w) where
   slot k = recordOf (getD (w .recipes) k 0) (getD (w .amounts) k 0)
 
   slot-within : (k : ℕ) → k < slots → getD (w .amounts) k 0 ≤ maxAmount
-  unfolding recordsIn
+  unfolding recordsOf
   slot-within k l =
       let b = back-to (w .next) k (h .inside) l in
       subst (λ (j : ℕ). getD (w .amounts) j 0 ≤ maxAmount) (b .1 .1) (within-at (w .recipes) (w .amounts) (b .0) slots (w .next) (b .1 .0) (h .within))
@@ -166,7 +166,7 @@ module _ (w : Window) (s : Sized (w .recipes) (w .amounts)) (h : Holds w) where
   records = writing w s h 0 slots ++ writing w s h 0 (w .next)
 
   is-same : (u : Window) → Filled w s h (w .next) slots u → u ≡ w
-  unfolding recordsIn
+  unfolding recordsOf
   is-same u f =
       let a : u .recipes ≡ w .recipes = ext-getD 0 (u .recipes) (w .recipes) (f .sizes .recipes-long ∙ sym (s .recipes-long)) (λ k l. f .same-recipes k (omega (arith, f .sizes .recipes-long))) in
       let b : u .amounts ≡ w .amounts = ext-getD 0 (u .amounts) (w .amounts) (f .sizes .amounts-long ∙ sym (s .amounts-long)) (λ k l. f .same-amounts k (omega (arith, f .sizes .amounts-long))) in
@@ -188,15 +188,29 @@ module _ (w : Window) (s : Sized (w .recipes) (w .amounts)) (h : Holds w) where
       rw (zero-add (w .next), max-eq-left {n = slots} {m = w .next} (omega (arith, h .inside))) at f in
       sym (leaving-append (writing w s h 0 slots) (writing w s h 0 (w .next)) empty ∙ is-same _ g)
 
--- the theorem: 21 exactly for the windows that no series of calls from empty leaves
-pub left-exactly : (w : Window) → LeftExactly w
+left-from : (w : Window) → sizesFit (w .recipes) (w .amounts) ≡ true → Narrow (w .recipes) → held w ≡ true
+    → (rs : List Record) × (Narrow (recipesOf rs) × (w ≡ series (map arrival rs) empty))
 unfolding leaving
+left-from w f a e =
+    let s = sized (w .recipes) (w .amounts) f in
+    let h = holds w e in (records w s h, (records-narrow w s h a, left-by w s h))
+
+not-held : (w : Window) → sizesFit (w .recipes) (w .amounts) ≡ true → Narrow (w .recipes) → NotFromArrivals w → held w ≡ false
+not-held w f a n = go (held w) refl
+  where
+    go : (b : Bool) → held w ≡ b → b ≡ false
+    go true e = let l = left-from w f a e in absurd (n (l .0) (l .1 .0) (l .1 .1))
+    go false e = refl
+
+-- the theorem: 21 exactly for the windows that no arrivals from empty leave
+pub left-exactly : (w : Window) → LeftExactly w
 left-exactly w =
     record {
-      left = λ f a e.
-          let s = sized (w .recipes) (w .amounts) f in
-          let h = holds w e in (records w s h, (records-narrow w s h a, left-by w s h));
+      left = left-from w;
       passes = λ cs e. rw e (kept-passes (series cs empty) (keeps-series cs empty [] keeps-empty));
+      gives-21 = λ f a n v r.
+          let h = not-held w f a n in
+          (ap (λ (o : Outcome). o .reply) (sym (ask-21 v w f h)), ap (λ (o : Outcome). o .reply) (sym (arrive-21 r w f h)));
     }
   where
     kept-passes : (u : Window) {rs : List Record} → Keeps u rs → (sizesFit (u .recipes) (u .amounts) ≡ true) × (held u ≡ true)

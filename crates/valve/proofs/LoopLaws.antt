@@ -1,4 +1,4 @@
--- The ways out of the two walks back, and a turn of each; one record more; the slots.
+-- The ways out of the two walks back, and a turn of each; one record more.
 use mathlib.Core.Path.{_≡_, refl, ap, _∙_}
 use Prim.Native.Nat.{ℕ, zero, suc, _+_, _-_, _≤_, _<_}
 use native.Mathlib.Omega.{arith}
@@ -10,7 +10,7 @@ use lib.Dec.{eqb}
 use borrow.Author.Tests.{lt-ltb, le-ltb, le-leb, lt-leb}
 use Rattle.tables.specs.Steps.{sum32}
 use Rattle.valve.specs.Numbers.{slots, maxAmount}
-use Rattle.valve.specs.Window.{recordOf, total, Window, window, before, after, newest, recordsIn, allWithin, held}
+use Rattle.valve.specs.Window.{recordOf, total, Window, window, before, after, newest, recordsOf, allWithin, held}
 use Rattle.valve.specs.Valve.{recipeIs, older, atValve}
 use Rattle.valve.specs.Steps.{putIn}
 
@@ -75,11 +75,11 @@ module _ (w : Window) where
   unfolding held
   held-past h = rw (le-ltb (w .next) slots h)
 
-  pub held-too-much : w .next < slots → allWithin (recordsIn w) ≡ false → false ≡ held w
+  pub held-too-much : w .next < slots → allWithin (recordsOf w) ≡ false → false ≡ held w
   unfolding held
   held-too-much h e = rw (lt-ltb (w .next) slots h, e)
 
-  pub held-sum : (s : ℕ) → w .next < slots → allWithin (recordsIn w) ≡ true → s ≡ total (recordsIn w) → eqb s (w .sum) ≡ held w
+  pub held-sum : (s : ℕ) → w .next < slots → allWithin (recordsOf w) ≡ true → s ≡ total (recordsOf w) → eqb s (w .sum) ≡ held w
   unfolding held
   held-sum s h e q = rw (lt-ltb (w .next) slots h, e, ← q)
 

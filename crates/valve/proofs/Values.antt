@@ -6,7 +6,7 @@ use mathlib.Core.Bool.{true, false}
 use mathlib.Core.List.{List, [], _∷_}
 use lib.ListN.{replicate}
 use Rattle.valve.specs.Numbers.{slots}
-use Rattle.valve.specs.Window.{Record, recordOf, total, Window, window, empty, before, newest, recordsIn, sizesFit, allWithin, held}
+use Rattle.valve.specs.Window.{Record, recordOf, total, Window, window, empty, before, newest, recordsOf, sizesFit, allWithin, held}
 use Rattle.valve.specs.Valve.{recipeIs, older, refuses, atValve}
 use Rattle.valve.specs.Calls.{Outcome, gated, arrives, asks}
 use Rattle.valve.specs.Series.{Call, series, taking, arrivals, latest, ValveIsRight, EverySeries}
@@ -54,7 +54,7 @@ unfolding stopping arrivals taking latest atValve
 stood-out = after-all stopping .answer 0
 
 full-asked : (asks 1439999999 full) .reply ≡ recipeIs 3
-unfolding total before newest recordsIn sizesFit allWithin held atValve asks gated full
+unfolding total before newest recordsOf sizesFit allWithin held atValve asks gated full
 full-asked = refl
 
 -- ---- 21 and 25
@@ -65,8 +65,8 @@ reply-21 v w f h = ap (λ (o : Outcome). o .reply) (sym (ask-21 v w f h))
 zeros : Window
 zeros = window (replicate slots 0) (replicate slots 0) 0 1
 
-zero-records : recordsIn zeros ≡ replicate slots blank
-unfolding recordsIn zeros
+zero-records : recordsOf zeros ≡ replicate slots blank
+unfolding recordsOf zeros
 zero-records = newest-zeros slots slots 0
 
 wrong-sum : (asks 0 (window (replicate slots 0) (replicate slots 0) 0 1)) .reply ≡ refuses 21
@@ -82,8 +82,8 @@ no-slot = reply-21 0 (window (replicate slots 0) (replicate slots 0) 1440 0) ref
 above-one : Window
 above-one = window (replicate slots 0) (1000001 ∷ replicate 1439 0) 1 1000001
 
-above-not : allWithin (recordsIn above-one) ≡ false
-unfolding recordsIn above-one before
+above-not : allWithin (recordsOf above-one) ≡ false
+unfolding recordsOf above-one before
 above-not = within-not (replicate slots 0) (1000001 ∷ replicate 1439 0) slots 1 0 1000001 (omega arith) refl refl (omega arith)
 
 above : (arrives (recordOf 1 1000001) (window (replicate slots 0) (1000001 ∷ replicate 1439 0) 1 1000001)) .reply ≡ refuses 21

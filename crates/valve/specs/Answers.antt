@@ -19,8 +19,8 @@ numberOf NotFromArrivals = 21
 -- "a record above 1,000,000 ml"
 numberOf TooMuch = 40
 
-abbrev pub windowIn : List ℕ → List ℕ → Head → Window
-windowIn recipes amounts h = window recipes amounts (h .next .0) (h .sum)
+abbrev pub asWindow : List ℕ → List ℕ → Head → Window
+asWindow recipes amounts h = window recipes amounts (h .next .0) (h .sum)
 
 abbrev pub arrivedReply : Arrived → Reply
 arrivedReply (arrived.Taken h) = taken

@@ -6,7 +6,7 @@ use lib.ListN.{set}
 use lib.Dec.{ltb}
 use Rattle.model.specs.Basics.{if_then_else_}
 use Rattle.valve.specs.Numbers.{slots, maxAmount}
-use Rattle.valve.specs.Window.{Record, total, Window, window, after, newest, recordsIn, sizesFit, held}
+use Rattle.valve.specs.Window.{Record, total, Window, window, after, newest, recordsOf, sizesFit, held}
 use Rattle.valve.specs.Valve.{Reply, taken, refuses, atValve}
 
 -- "The window's stated sum must equal that of its records": these tables and the next slot, with that sum
@@ -37,4 +37,4 @@ arrives r w = gated w (if ltb maxAmount (r .amount) then outcome w (refuses 40) 
 
 -- "answer, for a valve whose water lies V ml down the main"
 unfoldable pub asks : ℕ → Window → Outcome
-asks v w = gated w (outcome w (atValve v (recordsIn w)))
+asks v w = gated w (outcome w (atValve v (recordsOf w)))

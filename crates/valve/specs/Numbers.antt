@@ -20,14 +20,14 @@ maxAmount = 1000000
 abbrev pub slots : ℕ
 slots = 1440
 
-abbrev pub recipeIn : CheckedRecipe → Option ℕ
-recipeIn (recipe.Is n) = some (n .0)
-recipeIn recipe.OutOfRange = none
+abbrev pub asRecipe : CheckedRecipe → Option ℕ
+asRecipe (recipe.Is n) = some (n .0)
+asRecipe recipe.OutOfRange = none
 
-abbrev pub amountIn : CheckedAmount → Option ℕ
-amountIn (amount.Is n) = some (n .0)
-amountIn amount.OutOfRange = none
+abbrev pub asAmount : CheckedAmount → Option ℕ
+asAmount (amount.Is n) = some (n .0)
+asAmount amount.OutOfRange = none
 
-abbrev pub minuteIn : CheckedMinute → Option ℕ
-minuteIn (minute.Is n) = some (n .0)
-minuteIn minute.OutOfRange = none
+abbrev pub asMinute : CheckedMinute → Option ℕ
+asMinute (minute.Is n) = some (n .0)
+asMinute minute.OutOfRange = none

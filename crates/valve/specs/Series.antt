@@ -7,7 +7,7 @@ use lib.ListN.{take}
 use lib.Dec.{ltb}
 use Rattle.model.specs.Basics.{if_then_else_}
 use Rattle.valve.specs.Numbers.{slots, maxAmount, maxRecipe}
-use Rattle.valve.specs.Window.{Record, Window, total, empty, recordsIn, sizesFit, held}
+use Rattle.valve.specs.Window.{Record, Window, total, empty, recordsOf, sizesFit, held}
 use Rattle.valve.specs.Valve.{taken, recipeIs, older, refuses, atValve}
 use Rattle.valve.specs.Calls.{Outcome, arrives, asks}
 
@@ -48,7 +48,7 @@ pub record HoldsNumber (v : ℕ) (rs : List Record) (r : Record) : Type 0 where
 -- what holds of a window w that a series from empty leaves, and of all records rs that arrived in it, the newest first
 pub record ValveIsRight (w : Window) (rs : List Record) : Type 0 where
   -- "The window's stated sum must equal that of its records"; it is that of the last 1,440 too
-  pub sum-is : w .sum ≡ total (recordsIn w)
+  pub sum-is : w .sum ≡ total (recordsOf w)
   pub sum-latest : w .sum ≡ total (latest rs)
   -- "the answer must equal one worked out from the last 1,440 records afresh"
   pub answer : (v : ℕ) → (asks v w) .reply ≡ atValve v (latest rs)
@@ -60,7 +60,8 @@ pub record ValveIsRight (w : Window) (rs : List Record) : Type 0 where
   -- ""older than the window" exactly if the records hold at most V ml"
   pub older-if : (v : ℕ) → (asks v w) .reply ≡ older → total (latest rs) ≤ v
   pub older-only-if : (v : ℕ) → total (latest rs) ≤ v → (asks v w) .reply ≡ older
-  -- an arrival is taken, or refused with 40 for its own ml. So, with `answer`, 25 and 21 hold in no series.
+  -- 25 and 21 hold in no series: no question is refused, and an arrival with 40 alone, for its own ml
+  pub never-refused : (v n : ℕ) → (asks v w) .reply ≡ refuses n → ⊥
   pub taken-or-40 : (r : Record) → (arrives r w) .reply ≡ if ltb maxAmount (r .amount) then refuses 40 else taken
   -- "for months": no number of the head grows with the arrivals
   pub next-bound : w .next < slots
@@ -78,9 +79,16 @@ Narrow (n ∷ ns) = (n ≤ maxRecipe) × Narrow ns
 abbrev pub recipesOf : List Record → List ℕ
 recipesOf rs = map (λ (r : Record). r .recipe) rs
 
--- "A window that arrivals from empty can't leave gives 21": a window of two tables of the right size, of 16-bit recipes, passes exactly if
--- arrivals of records with 16-bit recipes leave it; and no series of calls, questions and refused arrivals included, leaves another
+-- "A window that arrivals from empty can't leave", of records with 16-bit recipes
+abbrev pub NotFromArrivals : Window → Type 0
+NotFromArrivals w = (rs : List Record) → Narrow (recipesOf rs) → w ≡ series (map arrival rs) empty → ⊥
+
+-- 21: a window of two tables of the right size, with 16-bit recipes, passes exactly if arrivals of records with 16-bit recipes leave it; no
+-- series of calls, with questions and refused arrivals, leaves a window that does not pass
 pub record LeftExactly (w : Window) : Type 0 where
   pub left : sizesFit (w .recipes) (w .amounts) ≡ true → Narrow (w .recipes) → held w ≡ true
       → (rs : List Record) × (Narrow (recipesOf rs) × (w ≡ series (map arrival rs) empty))
   pub passes : (cs : List Call) → w ≡ series cs empty → (sizesFit (w .recipes) (w .amounts) ≡ true) × (held w ≡ true)
+  -- ".. gives 21", whatever is asked and whichever record arrives
+  pub gives-21 : sizesFit (w .recipes) (w .amounts) ≡ true → Narrow (w .recipes) → NotFromArrivals w → (v : ℕ) (r : Record)
+      → ((asks v w) .reply ≡ refuses 21) × ((arrives r w) .reply ≡ refuses 21)

@@ -49,8 +49,8 @@ newest recipes amounts (suc n) i =
     recordOf (getD recipes (before i) 0) (getD amounts (before i) 0) ∷ newest recipes amounts n (before i)
 
 -- the records of a window, the newest first
-unfoldable pub recordsIn : Window → List Record
-recordsIn w = newest (w .recipes) (w .amounts) slots (w .next)
+unfoldable pub recordsOf : Window → List Record
+recordsOf w = newest (w .recipes) (w .amounts) slots (w .next)
 
 -- 25: "a table of the wrong size" (document 01)
 unfoldable pub sizesFit : List ℕ → List ℕ → Bool
@@ -63,4 +63,4 @@ allWithin (r ∷ rs) = leb (r .amount) maxAmount && allWithin rs
 
 -- 21 where this fails: "A window that arrivals from empty can't leave". That it holds of exactly those that arrivals leave is a theorem.
 unfoldable pub held : Window → Bool
-held w = ltb (w .next) slots && (allWithin (recordsIn w) && eqb (total (recordsIn w)) (w .sum))
+held w = ltb (w .next) slots && (allWithin (recordsOf w) && eqb (total (recordsOf w)) (w .sum))

@@ -6,7 +6,7 @@ ghost use mathlib.Core.Path.{_≡_};
 ghost use lib.ListN.{replicate};
 ghost use Rattle.valve.specs.Numbers.{slots};
 ghost use Rattle.valve.specs.Window.{empty};
-ghost use Rattle.valve.specs.Answers.{windowIn};
+ghost use Rattle.valve.specs.Answers.{asWindow};
 
 // The slot that takes the next record, which is the oldest one's, and the stated sum of the window's records, at most 1,440,000,000 ml.
 pub struct Head {
@@ -17,7 +17,7 @@ pub struct Head {
 impl Head {
     // With two tables of zeros, the window that no record has reached.
     pub fn none() -> Head
-        ensures { λ r. ⌜ windowIn (replicate slots 0) (replicate slots 0) r ≡ empty ⌝ }
+        ensures { λ r. ⌜ asWindow (replicate slots 0) (replicate slots 0) r ≡ empty ⌝ }
     {
         Head {
             next: Minute(0),

@@ -13,7 +13,7 @@ use crate::window::recipe_back;
 ghost use mathlib.Core.Path.{_≡_};
 ghost use Rattle.valve.specs.Window.{recordOf, sizesFit};
 ghost use Rattle.valve.specs.Calls.{outcome, arrives, asks};
-ghost use Rattle.valve.specs.Answers.{windowIn, headAfter, arrivedReply, foundReply};
+ghost use Rattle.valve.specs.Answers.{asWindow, headAfter, arrivedReply, foundReply};
 
 fn sizes_fit(recipes: &[u16], amounts: &[u32]) -> bool
     ensures { λ r. ⌜ r ≡ sizesFit (now (recipes .entry)) (now (amounts .entry)) ⌝ }
@@ -32,8 +32,8 @@ pub fn arrive(
     recipe: Recipe,
     amount: Amount,
 ) -> Arrived
-    ensures { λ r. ⌜ outcome (windowIn (now (recipes .exit)) (now (amounts .exit)) (headAfter head r)) (arrivedReply r)
-        ≡ arrives (recordOf (recipe .0) (amount .0)) (windowIn (now (recipes .entry)) (now (amounts .entry)) head) ⌝ }
+    ensures { λ r. ⌜ outcome (asWindow (now (recipes .exit)) (now (amounts .exit)) (headAfter head r)) (arrivedReply r)
+        ≡ arrives (recordOf (recipe .0) (amount .0)) (asWindow (now (recipes .entry)) (now (amounts .entry)) head) ⌝ }
 {
     if !sizes_fit(recipes, amounts) {
         return Arrived::Refused(Refusal::WrongSize);
@@ -55,8 +55,8 @@ pub fn arrive(
 
 // `volume` is the water between the mixer and the valve, in millilitres: any number of 32 bits.
 pub fn at_valve(recipes: &[u16], amounts: &[u32], head: Head, volume: u32) -> AtValve
-    ensures { λ r. ⌜ outcome (windowIn (now (recipes .entry)) (now (amounts .entry)) head) (foundReply r)
-        ≡ asks volume (windowIn (now (recipes .entry)) (now (amounts .entry)) head) ⌝ }
+    ensures { λ r. ⌜ outcome (asWindow (now (recipes .entry)) (now (amounts .entry)) head) (foundReply r)
+        ≡ asks volume (asWindow (now (recipes .entry)) (now (amounts .entry)) head) ⌝ }
 {
     if !sizes_fit(recipes, amounts) {
         return AtValve::Refused(Refusal::WrongSize);

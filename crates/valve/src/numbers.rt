@@ -3,7 +3,7 @@
 ghost use mathlib.Core.Path.{_≡_};
 ghost use Prim.Native.Nat.{_-_};
 ghost use Rattle.counters.specs.Numbers.{within};
-ghost use Rattle.valve.specs.Numbers.{maxRecipe, maxAmount, slots, recipeIn, amountIn, minuteIn};
+ghost use Rattle.valve.specs.Numbers.{maxRecipe, maxAmount, slots, asRecipe, asAmount, asMinute};
 
 // The number of a recipe, of 16 bits.
 pub struct Recipe(pub u16);
@@ -17,7 +17,7 @@ impl Recipe {
     pub const MAX: u16 = 65535;
 
     pub fn new(n: u32) -> CheckedRecipe
-        ensures { λ r. ⌜ recipeIn r ≡ within 0 maxRecipe n ⌝ }
+        ensures { λ r. ⌜ asRecipe r ≡ within 0 maxRecipe n ⌝ }
     {
         if n <= (Recipe::MAX as u32) {
             return CheckedRecipe::Is(Recipe(n as u16));
@@ -26,7 +26,8 @@ impl Recipe {
     }
 }
 
-// The millilitres that passed in one minute. The water down to a valve, and the sum of a window, are other numbers: of any 32 bits.
+// The millilitres that passed in one minute. One above the bound can be made without the constructor: `arrive` refuses it with 40. The
+// water down to a valve and the sum of a window are other numbers, of any 32 bits.
 pub struct Amount(pub u32);
 
 pub enum CheckedAmount {
@@ -38,7 +39,7 @@ impl Amount {
     pub const MAX: u32 = 1000000;
 
     pub fn new(n: u32) -> CheckedAmount
-        ensures { λ r. ⌜ amountIn r ≡ within 0 maxAmount n ⌝ }
+        ensures { λ r. ⌜ asAmount r ≡ within 0 maxAmount n ⌝ }
     {
         if n <= Amount::MAX {
             return CheckedAmount::Is(Amount(n));
@@ -62,7 +63,7 @@ impl Minute {
     pub const COUNT: u16 = Minute::MAX + 1;
 
     pub fn new(n: u32) -> CheckedMinute
-        ensures { λ r. ⌜ minuteIn r ≡ within 0 (slots - 1) n ⌝ }
+        ensures { λ r. ⌜ asMinute r ≡ within 0 (slots - 1) n ⌝ }
     {
         if n <= (Minute::MAX as u32) {
             return CheckedMinute::Is(Minute(n as u16));

@@ -18,7 +18,7 @@ ghost use Rattle.valve.specs.Numbers.{slots};
 ghost use Rattle.valve.specs.Window.{recordOf, window, newest, held};
 ghost use Rattle.valve.specs.Steps.{putIn};
 ghost use Rattle.valve.specs.Valve.{atValve};
-ghost use Rattle.valve.specs.Answers.{windowIn, foundReply};
+ghost use Rattle.valve.specs.Answers.{asWindow, foundReply};
 
 // The difference, or 0.
 fn less(m: u32, n: u32) -> u32
@@ -36,7 +36,7 @@ pub fn put_record(
     recipe: u16,
     amount: u32,
 ) -> Head
-    ensures { λ r. ⌜ windowIn (now (recipes .exit)) (now (amounts .exit)) r
+    ensures { λ r. ⌜ asWindow (now (recipes .exit)) (now (amounts .exit)) r
         ≡ putIn (recordOf recipe amount) (window (now (recipes .entry)) (now (amounts .entry)) next sum) ⌝ }
 {
     let rest = less(sum, amount_at(amounts, next));

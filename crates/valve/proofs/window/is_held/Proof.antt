@@ -1,5 +1,5 @@
 use Rattle.valve.proofs.LoopLaws.{sum-end, within-end, within-not, within-on, sum-on, held-past, held-too-much, held-sum}
-use Rattle.valve.specs.Window.{total, window, newest, recordsIn, allWithin}
+use Rattle.valve.specs.Window.{total, window, newest, recordsOf, allWithin}
 use borrow.Author.Needs.{needs}
 use native.Mathlib.Nat.{zero-add}
 use native.Mathlib.Omega.{arith}
@@ -11,8 +11,8 @@ use Rattle.valve.proofs.window.is_held.Tie as tie
 abbrev Inv-loop : tie.InvT-loop
 Inv-loop recipes amounts next stated slot₀ sum₀ left₀ slot sum left =
     (sum + 1000000 * left ≤ 1440000000)
-    × ((allWithin (newest recipes amounts left slot) ≡ allWithin (recordsIn (window recipes amounts next stated)))
-    × (sum + total (newest recipes amounts left slot) ≡ total (recordsIn (window recipes amounts next stated))))
+    × ((allWithin (newest recipes amounts left slot) ≡ allWithin (recordsOf (window recipes amounts next stated)))
+    × (sum + total (newest recipes amounts left slot) ≡ total (recordsOf (window recipes amounts next stated))))
 
 abbrev μ-loop : tie.MeasureT-loop
 μ-loop recipes amounts next stated slot₀ sum₀ left₀ slot sum left = left
@@ -21,7 +21,7 @@ returns : tie.Need-returns Inv-loop μ-loop
 returns c = held-past _ (c .if1 .taken)
 
 loop-holds : tie.Need-loop-holds Inv-loop μ-loop
-unfolding recordsIn
+unfolding recordsOf
 loop-holds c = (omega arith, (refl, zero-add _))
 
 returns-2 : tie.Need-returns-2 Inv-loop μ-loop
