@@ -2,13 +2,17 @@
 use crate::marks::WalkEnd;
 use crate::marks::next_unmarked;
 use crate::marks::walk_marking;
-use crate::numbers::greater;
-use crate::numbers::lesser;
+use crate::numbers::greater_vertex;
+use crate::numbers::lesser_vertex;
 use crate::numbers::wide;
-use tables::access::add32;
-use tables::access::at16;
-use tables::access::of16;
-use tables::access::of32;
+use counters::numbers::Edge;
+use counters::numbers::Millimetres;
+use counters::numbers::Vertex;
+use tables::kinds::degree_of;
+use tables::kinds::first_end;
+use tables::kinds::length_of;
+use tables::kinds::second_end;
+use tables::steps::add_lengths;
 use text::writing::put_u32;
 ghost use mathlib.Core.Path.{_≡_};
 ghost use mathlib.Core.List.{[], _∷_};
@@ -22,40 +26,41 @@ ghost use Rattle.queries.specs.Answers.{rowOf};
 
 // A chain's name, its end with the lower number, its other end, its regular vertices, its length.
 pub struct Row {
-    pub name: u32,
-    pub lower: u32,
-    pub other: u32,
+    pub name: Edge,
+    pub lower: Vertex,
+    pub other: Vertex,
     pub inner: u32,
-    pub length: u32,
+    pub length: Millimetres,
 }
 
 // The numbers of a row.
 pub const ROW: usize = 5;
 
 // The row of a ring, by a walk round it from one end of its edge to the other.
-fn ring_row(edge: u16, own: u32, on: WalkEnd) -> Row
-    ensures { λ r. ⌜ rowOf r ≡ edge ∷ on .lowest ∷ on .lowest ∷ (1 + on .inner) ∷ sum32 own (on .length) ∷ [] ⌝ }
+fn ring_row(name: Edge, own: Millimetres, on: WalkEnd) -> Row
+    ensures { λ r. ⌜ rowOf r ≡ name .0 ∷ on .lowest .0 ∷ on .lowest .0 ∷ (1 + on .inner) ∷ sum32 (own .0) (on .length .0) ∷ [] ⌝ }
 {
+    let lowest = on.lowest;
     Row {
-        name: wide(edge),
-        lower: wide(on.lowest),
-        other: wide(on.lowest),
+        name,
+        lower: lowest,
+        other: lowest,
         inner: 1 + wide(on.inner),
-        length: add32(own, on.length),
+        length: add_lengths(own, on.length),
     }
 }
 
 // The row of a chain, by the walks from its edge to its ends.
-fn open_row(edge: u16, own: u32, back: WalkEnd, on: WalkEnd) -> Row
-    ensures { λ r. ⌜ rowOf r ≡ edge ∷ min (back .at) (on .at) ∷ max (back .at) (on .at) ∷ (back .inner + on .inner)
-        ∷ sum32 (back .length) (sum32 own (on .length)) ∷ [] ⌝ }
+fn open_row(name: Edge, own: Millimetres, back: WalkEnd, on: WalkEnd) -> Row
+    ensures { λ r. ⌜ rowOf r ≡ name .0 ∷ min (back .at .0) (on .at .0) ∷ max (back .at .0) (on .at .0) ∷ (back .inner + on .inner)
+        ∷ sum32 (back .length .0) (sum32 (own .0) (on .length .0)) ∷ [] ⌝ }
 {
     Row {
-        name: wide(edge),
-        lower: wide(lesser(back.at, on.at)),
-        other: wide(greater(back.at, on.at)),
+        name,
+        lower: lesser_vertex(back.at, on.at),
+        other: greater_vertex(back.at, on.at),
         inner: wide(back.inner) + wide(on.inner),
-        length: add32(back.length, add32(own, on.length)),
+        length: add_lengths(back.length, add_lengths(own, on.length)),
     }
 }
 
@@ -66,16 +71,15 @@ pub fn take_row(
     ends: &[u16],
     lengths: &[u32],
     marks: &mut [u16],
-    edge: u16,
+    edge: Edge,
     fuel: u16,
 ) -> Row
-    ensures { λ r. ⌜ (rowOf r ≡ rowIn (now (degrees .entry)) (now (sides .entry)) (now (ends .entry)) (now (lengths .entry)) fuel edge)
+    ensures { λ r. ⌜ (rowOf r ≡ rowIn (now (degrees .entry)) (now (sides .entry)) (now (ends .entry)) (now (lengths .entry)) fuel (edge .0))
         × (now (marks .exit)
-        ≡ markChainIn (now (degrees .entry)) (now (sides .entry)) (now (ends .entry)) fuel (now (marks .entry)) edge) ⌝ }
+        ≡ markChainIn (now (degrees .entry)) (now (sides .entry)) (now (ends .entry)) fuel (now (marks .entry)) (edge .0)) ⌝ }
 {
-    let i = 2 * (edge as usize);
-    let first = at16(ends, i);
-    let second = at16(ends, i + 1);
+    let first = first_end(ends, edge);
+    let second = second_end(ends, edge);
     let on = walk_marking(
         degrees,
         sides,
@@ -87,8 +91,8 @@ pub fn take_row(
         first,
         fuel,
     );
-    let own = of32(lengths, edge);
-    if of16(degrees, on.at) == 2 {
+    let own = length_of(lengths, edge);
+    if degree_of(degrees, on.at) == 2 {
         return ring_row(edge, own, on);
     }
     let back = walk_marking(
@@ -109,11 +113,11 @@ pub fn take_row(
 fn put_row(out: &mut [u32], at: usize, row: Row) -> usize
     ensures { λ r. ⌜ page (now (out .exit)) r ≡ write (rowOf row) (page (now (out .entry)) at) ⌝ }
 {
-    let second = put_u32(out, at, row.name);
-    let third = put_u32(out, second, row.lower);
-    let fourth = put_u32(out, third, row.other);
+    let second = put_u32(out, at, wide(row.name.0));
+    let third = put_u32(out, second, wide(row.lower.0));
+    let fourth = put_u32(out, third, wide(row.other.0));
     let fifth = put_u32(out, fourth, row.inner);
-    put_u32(out, fifth, row.length)
+    put_u32(out, fifth, row.length.0)
 }
 
 // The rows of all chains by rising name, five numbers each, from the front of the slice on; the answer is how many there are.
@@ -135,7 +139,7 @@ pub fn put_rows(
     let mut count: u16 = 0;
     let mut edge = next_unmarked(marks, 0, edges);
     while edge < edges {
-        let row = take_row(degrees, sides, ends, lengths, marks, edge, edges);
+        let row = take_row(degrees, sides, ends, lengths, marks, Edge(edge), edges);
         next = put_row(out, next, row);
         count += 1;
         edge = next_unmarked(marks, edge + 1, edges);
