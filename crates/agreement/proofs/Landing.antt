@@ -105,7 +105,7 @@ module _ (r : Register) (e : Edge) (rings : Bool) (g : Reachable r) (warns : War
 -- what the code's check comes to, by the model's refusal
 abbrev checkedAs : Edge → Option ℕ → CheckIn
 checkedAs e (some x) = failed x
-checkedAs e none = passed (e .len)
+checkedAs e none = passed (e .first) (e .second) (e .len)
 
 checked-if : (e : Edge) (b : Bool) (x : ℕ) (c : CheckIn) (o : Option ℕ) → c ≡ checkedAs e o → (if b then failed x else c) ≡ checkedAs e (if b then some x else o)
 checked-if e true x c o h = refl

@@ -96,5 +96,5 @@ pub record Settled (ends lengths : List ℕ) (m from : ℕ) (distances distances
 
 -- a distance as the code answers it
 abbrev pub distanceIn : Distance → model.Distance
-distanceIn (Joined d) = model.joined d
+distanceIn (Joined d) = model.joined (d .0)
 distanceIn NotJoined = model.notJoined
