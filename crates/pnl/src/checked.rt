@@ -1,22 +1,47 @@
-// Vertices as C gives them, of 32 bits. A number above the largest vertex is never landed: refusal 5.
+// Labels and vertices as C gives them, of 32 bits. A number above the largest vertex is never landed: refusal 5.
 use crate::distances::distance_in;
 use counters::counts::Counts;
+use counters::numbers::CheckedLabel;
 use counters::numbers::CheckedVertex;
+use counters::numbers::Label;
 use counters::numbers::Vertex;
 use counters::refusals::Refusal;
 use distance::measure::Measured;
+use lookups::find::FoundChain;
+use lookups::find::find_in;
 use lookups::reach::Reached;
 use lookups::reach::reach_in;
 ghost use mathlib.Core.Path.{_≡_};
 ghost use mathlib.Core.List.{List};
 ghost use Prim.Native.Nat.{ℕ, _≤_};
+ghost use lib.ListN.{take};
 ghost use Rattle.model.specs.Basics.{maxVertices};
 ghost use Rattle.counters.specs.Answers.{countsIn};
 ghost use Rattle.tables.specs.Steps.{tables};
-ghost use Rattle.queries.specs.Finding.{reachIn};
-ghost use Rattle.lookups.specs.Meaning.{reachedReply};
+ghost use Rattle.queries.specs.Finding.{findIn, reachIn};
+ghost use Rattle.lookups.specs.Meaning.{foundReply, reachedReply};
 ghost use Rattle.distance.specs.Meaning.{measuredReply};
 ghost use Rattle.distance.specs.Measure.{Measurable, measureIn};
+
+// Every number of 32 bits is a label.
+pub fn find_checked(
+    degrees: &[u16],
+    sides: &[u16],
+    ends: &[u16],
+    labels: &[u32],
+    counts: Counts,
+    label: u32,
+) -> FoundChain
+    ensures { λ r. ⌜ ((lengths : List ℕ) → foundReply r
+        ≡ findIn (tables (now (degrees .entry)) (now (sides .entry)) (now (ends .entry)) lengths (take maxVertices (now (labels .entry))))
+        (countsIn counts) label) ⌝ }
+{
+    let checked = Label::new(label as u64);
+    match checked {
+        CheckedLabel::Is(l) => find_in(degrees, sides, ends, labels, counts, l),
+        CheckedLabel::OutOfRange => FoundChain::Refused(Refusal::NotRegular),
+    }
+}
 
 pub fn reach_checked(
     degrees: &[u16],
