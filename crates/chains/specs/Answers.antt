@@ -8,8 +8,8 @@ use Rattle.chains.specs.declared.lookup.Found.the-variants.{At, Nothing}
 
 -- "name, end with the lower number, other end, couplings, length"
 abbrev pub rowOf : Row → List ℕ
-rowOf r = r .name ∷ r .lower ∷ r .other ∷ r .inner ∷ r .length ∷ []
+rowOf r = r .name .0 ∷ r .lower .0 ∷ r .other .0 ∷ r .inner ∷ r .length .0 ∷ []
 
 abbrev pub asFound : Found → Option ℕ
-asFound (At v) = some v
+asFound (At v) = some (v .0)
 asFound Nothing = none

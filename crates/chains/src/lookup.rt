@@ -1,34 +1,45 @@
 // The vertex that has a label, and the name of an edge's chain.
-use crate::numbers::lesser;
+use crate::numbers::lesser_edge;
 use crate::walks::goes_on;
+use counters::numbers::Edge;
+use counters::numbers::Label;
 use counters::numbers::Vertex;
-use tables::access::at16;
-use tables::access::of16;
-use tables::access::of32;
+use tables::kinds::degree_of;
+use tables::kinds::first_end;
+use tables::kinds::label_of;
+use tables::kinds::second_end;
 use tables::walks::Walker;
 use tables::walks::step_over;
 ghost use mathlib.Core.Path.{_≡_};
+ghost use lib.Dec.{eqb};
 ghost use lib.ListN.{take};
 ghost use Rattle.model.specs.Basics.{maxVertices};
 ghost use Rattle.chains.specs.Chains.{firstAt, lowEnd, lowestIn, nameIn};
 ghost use Rattle.chains.specs.Answers.{asFound};
 
 pub enum Found {
-    At(u16),
+    At(Vertex),
     Nothing,
 }
 
+fn is_label(found: Label, label: Label) -> bool
+    ensures { λ r. ⌜ r ≡ eqb (found .0) (label .0) ⌝ }
+{
+    found.0 == label.0
+}
+
 // The first of at most 4,096 labels that is this one. A read past the end gives 0, which may be the label, so the length is tested.
-pub fn find_label(labels: &[u32], label: u32) -> Found
-    ensures { λ r. ⌜ asFound r ≡ firstAt label (take maxVertices (now (labels .entry))) ⌝ }
+pub fn find_label(labels: &[u32], label: Label) -> Found
+    ensures { λ r. ⌜ asFound r ≡ firstAt (label .0) (take maxVertices (now (labels .entry))) ⌝ }
 {
     let mut v: u16 = 0;
     while v < Vertex::COUNT {
         if labels.len() <= (v as usize) {
             break;
         }
-        if of32(labels, v) == label {
-            return Found::At(v);
+        let at = Vertex(v);
+        if is_label(label_of(labels, at), label) {
+            return Found::At(at);
         }
         v += 1;
     }
@@ -37,8 +48,8 @@ pub fn find_label(labels: &[u32], label: u32) -> Found
 
 // Where a walk ends, and the least number that it met.
 struct LowEnd {
-    at: u16,
-    lowest: u16,
+    at: Vertex,
+    lowest: Edge,
 }
 
 // The least of `known` and the numbers of the edges on the way from vertex `from`, reached by an edge, to the chain's end or home.
@@ -46,14 +57,14 @@ fn lowest_onwards(
     degrees: &[u16],
     sides: &[u16],
     ends: &[u16],
-    known: u16,
-    edge: u16,
-    from: u16,
-    home: u16,
+    known: Edge,
+    edge: Edge,
+    from: Vertex,
+    home: Vertex,
     fuel: u16,
 ) -> LowEnd
-    ensures { λ r. ⌜ lowEnd (r .at) (r .lowest)
-        ≡ lowestIn (now (degrees .entry)) (now (sides .entry)) (now (ends .entry)) home fuel known edge from ⌝ }
+    ensures { λ r. ⌜ lowEnd (r .at .0) (r .lowest .0)
+        ≡ lowestIn (now (degrees .entry)) (now (sides .entry)) (now (ends .entry)) (home .0) fuel (known .0) (edge .0) (from .0) ⌝ }
 {
     let mut w = Walker { edge, at: from };
     let mut lowest = known;
@@ -63,29 +74,23 @@ fn lowest_onwards(
             break;
         }
         w = step_over(sides, ends, w);
-        lowest = lesser(w.edge, lowest);
+        lowest = lesser_edge(w.edge, lowest);
         left -= 1;
     }
-    LowEnd { at: w.at, lowest }
+    LowEnd {
+        at: Vertex(w.at.0),
+        lowest,
+    }
 }
 
 // The name of the chain on which an edge lies: once round a ring, or both ways to the chain's ends.
-pub fn name_of(degrees: &[u16], sides: &[u16], ends: &[u16], edge: u16, fuel: u16) -> u16
-    ensures { λ r. ⌜ r ≡ nameIn (now (degrees .entry)) (now (sides .entry)) (now (ends .entry)) fuel edge ⌝ }
+pub fn name_of(degrees: &[u16], sides: &[u16], ends: &[u16], edge: Edge, fuel: u16) -> Edge
+    ensures { λ r. ⌜ r .0 ≡ nameIn (now (degrees .entry)) (now (sides .entry)) (now (ends .entry)) fuel (edge .0) ⌝ }
 {
-    let i = 2 * (edge as usize);
-    let first = at16(ends, i);
-    let on = lowest_onwards(
-        degrees,
-        sides,
-        ends,
-        edge,
-        edge,
-        at16(ends, i + 1),
-        first,
-        fuel,
-    );
-    if of16(degrees, on.at) == 2 {
+    let first = first_end(ends, edge);
+    let second = second_end(ends, edge);
+    let on = lowest_onwards(degrees, sides, ends, edge, edge, second, first, fuel);
+    if degree_of(degrees, on.at) == 2 {
         return on.lowest;
     }
     let back = lowest_onwards(degrees, sides, ends, on.lowest, edge, first, on.at, fuel);

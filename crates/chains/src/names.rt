@@ -1,23 +1,31 @@
 // The chains by their names: in a pass over the edges by rising number a chain's first edge is its name, and the others get marks.
 use crate::marks::mark_onwards;
 use crate::marks::next_unmarked;
-use tables::access::at16;
-use tables::access::of16;
+use counters::numbers::Edge;
+use tables::kinds::degree_of;
+use tables::kinds::first_end;
+use tables::kinds::second_end;
 ghost use mathlib.Core.Path.{_≡_};
 ghost use lib.ListN.{length};
 ghost use lib.Dec.{leb};
 ghost use Rattle.chains.specs.Chains.{markChainIn, namesIn};
 
 // Marks all other edges on the chain of an edge: once round a ring, or both ways to the chain's ends.
-fn mark_chain(degrees: &[u16], sides: &[u16], ends: &[u16], marks: &mut [u16], edge: u16, fuel: u16)
+fn mark_chain(
+    degrees: &[u16],
+    sides: &[u16],
+    ends: &[u16],
+    marks: &mut [u16],
+    edge: Edge,
+    fuel: u16,
+)
     ensures { λ _. ⌜ now (marks .exit)
-        ≡ markChainIn (now (degrees .entry)) (now (sides .entry)) (now (ends .entry)) fuel (now (marks .entry)) edge ⌝ }
+        ≡ markChainIn (now (degrees .entry)) (now (sides .entry)) (now (ends .entry)) fuel (now (marks .entry)) (edge .0) ⌝ }
 {
-    let i = 2 * (edge as usize);
-    let first = at16(ends, i);
-    let second = at16(ends, i + 1);
+    let first = first_end(ends, edge);
+    let second = second_end(ends, edge);
     let end = mark_onwards(degrees, sides, ends, marks, edge, second, first, fuel);
-    if of16(degrees, end) == 2 {
+    if degree_of(degrees, end) == 2 {
         return;
     }
     mark_onwards(degrees, sides, ends, marks, edge, first, end, fuel);
@@ -36,7 +44,7 @@ pub fn count_chains(
     let mut count: u16 = 0;
     let mut edge = next_unmarked(marks, 0, edges);
     while edge < edges {
-        mark_chain(degrees, sides, ends, marks, edge, edges);
+        mark_chain(degrees, sides, ends, marks, Edge(edge), edges);
         count += 1;
         edge = next_unmarked(marks, edge + 1, edges);
     }

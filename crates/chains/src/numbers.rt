@@ -1,17 +1,34 @@
 // Single numbers.
+use counters::numbers::Edge;
+use counters::numbers::Vertex;
 ghost use mathlib.Core.Path.{_≡_};
 ghost use Prim.Native.Nat.{min, max};
 
-pub fn lesser(m: u16, n: u16) -> u16
-    ensures { λ r. ⌜ r ≡ min m n ⌝ }
+pub fn lesser_edge(m: Edge, n: Edge) -> Edge
+    ensures { λ r. ⌜ r .0 ≡ min (m .0) (n .0) ⌝ }
 {
-    if m < n { m } else { n }
+    if m.0 < n.0 {
+        return m;
+    }
+    n
 }
 
-pub fn greater(m: u16, n: u16) -> u16
-    ensures { λ r. ⌜ r ≡ max m n ⌝ }
+pub fn lesser_vertex(m: Vertex, n: Vertex) -> Vertex
+    ensures { λ r. ⌜ r .0 ≡ min (m .0) (n .0) ⌝ }
 {
-    if m < n { n } else { m }
+    if m.0 < n.0 {
+        return m;
+    }
+    n
+}
+
+pub fn greater_vertex(m: Vertex, n: Vertex) -> Vertex
+    ensures { λ r. ⌜ r .0 ≡ max (m .0) (n .0) ⌝ }
+{
+    if m.0 < n.0 {
+        return n;
+    }
+    m
 }
 
 pub fn wide(n: u16) -> u32

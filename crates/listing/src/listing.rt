@@ -5,6 +5,7 @@ use chains::rows::Row;
 use chains::rows::take_row;
 use counters::answers::Stop;
 use counters::counts::Counts;
+use counters::numbers::Edge;
 use counters::sizes::EDGES;
 use counters::sizes::ENDS;
 use counters::sizes::SIDES;
@@ -34,11 +35,11 @@ pub const ROOM: usize = 262144;
 fn put_row_line(out: &mut [u8], at: usize, row: Row) -> usize
     ensures { λ r. ⌜ (page (now (out .exit)) r ≡ write (line (rowOf row)) (page (now (out .entry)) at)) × (r ≤ at + rowBytes) ⌝ }
 {
-    let name = row.name;
-    let lower = row.lower;
-    let other = row.other;
+    let name = row.name.0;
+    let lower = row.lower.0;
+    let other = row.other.0;
     let inner = row.inner;
-    let length = row.length;
+    let length = row.length.0;
     put_line5(
         out,
         at,
@@ -68,7 +69,7 @@ fn put_sheet_lines(
     let mut next = at;
     let mut edge = next_unmarked(marks, 0, edges);
     while edge < edges {
-        let row = take_row(degrees, sides, ends, lengths, marks, edge, edges);
+        let row = take_row(degrees, sides, ends, lengths, marks, Edge(edge), edges);
         next = put_row_line(out, next, row);
         edge = next_unmarked(marks, edge + 1, edges);
     }

@@ -62,7 +62,7 @@ pub fn answer_found(answer: &mut [u8], found: FoundChain) -> i32
     ensures { λ r. ⌜ ((register : Register) → returned (now (answer .exit)) r ≡ returnsReply register (now (answer .entry)) (foundReply found)) ⌝ }
 {
     match found {
-        FoundChain::Chain(name) => answer_numbers(answer, &[wide(name)]),
+        FoundChain::Chain(name) => answer_numbers(answer, &[wide(name.0)]),
         FoundChain::Refused(refusal) => refused(refusal),
     }
 }
@@ -71,7 +71,7 @@ pub fn answer_reached(answer: &mut [u8], reached: Reached) -> i32
     ensures { λ r. ⌜ ((register : Register) → returned (now (answer .exit)) r ≡ returnsReply register (now (answer .entry)) (reachedReply reached)) ⌝ }
 {
     match reached {
-        Reached::Lengths(low, high) => answer_numbers(answer, &[low, high]),
+        Reached::Lengths(low, high) => answer_numbers(answer, &[low.0, high.0]),
         Reached::Refused(refusal) => refused(refusal),
     }
 }
@@ -84,7 +84,7 @@ pub fn answer_distance(answer: &mut [u8], measured: Measured) -> i32
 {
     match measured {
         Measured::Distance(distance) => match distance {
-            Distance::Joined(millimetres) => answer_numbers(answer, &[millimetres]),
+            Distance::Joined(millimetres) => answer_numbers(answer, &[millimetres.0]),
             Distance::NotJoined => answer_numbers(answer, &[NOT_JOINED]),
         },
         Measured::Refused(refusal) => refused(refusal),

@@ -1,21 +1,46 @@
-// Vertices as C gives them, of 32 bits. A number above the largest vertex is never landed: refusal 5.
+// Labels and vertices as C gives them, of 32 bits. A number above the largest vertex is never landed: refusal 5.
 use crate::distances::distance_in;
 use counters::counts::Counts;
+use counters::numbers::CheckedLabel;
 use counters::numbers::CheckedVertex;
+use counters::numbers::Label;
 use counters::numbers::Vertex;
 use counters::refusals::Refusal;
 use questions::measure::Measured;
-use questions::reach::Reached;
+use questions::find::FoundChain;
+use lookups::find::find_in;
+use lookups::reach::Reached;
 use questions::reach::reach_in;
 ghost use mathlib.Core.Path.{_≡_};
 ghost use mathlib.Core.List.{List};
 ghost use Prim.Native.Nat.{ℕ, _≤_};
+ghost use lib.ListN.{take};
 ghost use Rattle.model.specs.Basics.{maxVertices};
 ghost use Rattle.counters.specs.Answers.{asCounts};
 ghost use Rattle.tables.specs.Meaning.{tables};
-ghost use Rattle.chains.specs.Finding.{reachIn};
-ghost use Rattle.questions.specs.Meaning.{measuredReply, reachedReply};
+ghost use Rattle.chains.specs.Finding.{findIn, reachIn};
+ghost use Rattle.questions.specs.Meaning.{foundReply, measuredReply, reachedReply};
 ghost use Rattle.questions.specs.Measure.{Measurable, measureIn};
+
+// Every number of 32 bits is a label.
+pub fn find_checked(
+    degrees: &[u16],
+    sides: &[u16],
+    ends: &[u16],
+    labels: &[u32],
+    counts: Counts,
+    label: u32,
+) -> FoundChain
+    ensures { λ r. ⌜ ((lengths : List ℕ) → foundReply r
+        ≡ findIn (tables (now (degrees .entry)) (now (sides .entry)) (now (ends .entry)) lengths (take maxVertices (now (labels .entry))))
+        (asCounts counts) label) ⌝ }
+{
+    let checked = Label::new(label as u64);
+    match checked {
+        CheckedLabel::Is(l) => find_in(degrees, sides, ends, labels, counts, l),
+        CheckedLabel::OutOfRange => FoundChain::Refused(Refusal::NotRegular),
+    }
+}
 
 pub fn reach_checked(
     degrees: &[u16],

@@ -3,18 +3,17 @@ use crate::answers::answer_distance;
 use crate::answers::answer_found;
 use crate::answers::answer_reached;
 use crate::answers::refused;
+use crate::checked::find_checked;
 use crate::checked::measure_checked;
 use crate::checked::reach_checked;
 use crate::sheet::answer_sheet;
 use counters::answers::Stop;
 use counters::counts::Counts;
-use counters::numbers::Label;
 use counters::sizes::EDGES;
 use counters::sizes::ENDS;
 use counters::sizes::SIDES;
 use counters::sizes::VERTICES;
 use landing::records::grow_list;
-use questions::find::find_in;
 ghost use mathlib.Core.Path.{_≡_};
 ghost use Rattle.model.specs.Register.{Register};
 ghost use Rattle.model.specs.FromC.{fromC, returnsReply};
@@ -52,7 +51,7 @@ fn answer_question(
     match question {
         Question::Sheet => answer_sheet(answer, degrees, sides, ends, lengths, counts.edges),
         Question::Find(label) => {
-            let found = find_in(degrees, sides, ends, labels, counts, Label(label));
+            let found = find_checked(degrees, sides, ends, labels, counts, label);
             answer_found(answer, found)
         }
         Question::Reach(vertex) => {

@@ -4,9 +4,11 @@ use crate::answers::put_words;
 use crate::answers::refused;
 use chains::marks::next_unmarked;
 use chains::names::has_room;
+use chains::numbers::wide;
 use chains::rows::ROW;
 use chains::rows::Row;
 use chains::rows::take_row;
+use counters::numbers::Edge;
 use counters::refusals::Refusal;
 use counters::sizes::EDGES;
 ghost use mathlib.Core.Path.{_≡_};
@@ -25,7 +27,10 @@ const ROW_BYTES: usize = 4 * ROW;
 fn put_row_bytes(out: &mut [u8], at: usize, row: Row) -> usize
     ensures { λ r. ⌜ page (now (out .exit)) r ≡ write (bytesOf (rowOf row)) (page (now (out .entry)) at) ⌝ }
 {
-    let numbers = [row.name, row.lower, row.other, row.inner, row.length];
+    let name = wide(row.name.0);
+    let lower = wide(row.lower.0);
+    let other = wide(row.other.0);
+    let numbers = [name, lower, other, row.inner, row.length.0];
     put_words(out, at, &numbers)
 }
 
@@ -48,7 +53,7 @@ fn put_sheet_bytes(
     let mut count: u16 = 0;
     let mut edge = next_unmarked(marks, 0, edges);
     while edge < edges {
-        let row = take_row(degrees, sides, ends, lengths, marks, edge, edges);
+        let row = take_row(degrees, sides, ends, lengths, marks, Edge(edge), edges);
         next = put_row_bytes(out, next, row);
         count += 1;
         edge = next_unmarked(marks, edge + 1, edges);

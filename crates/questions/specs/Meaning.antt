@@ -15,12 +15,12 @@ use Rattle.questions.specs.declared.measure.Measured.the-variants as mea
 
 -- the name of a chain
 abbrev pub foundReply : FoundChain → Reply
-foundReply (find.Chain name) = found name
+foundReply (find.Chain name) = found (name .0)
 foundReply (find.Refused x) = refuses (numberOf x)
 
 -- "the lengths to its run's low and high end"
 abbrev pub reachedReply : Reached → Reply
-reachedReply (reach.Lengths low high) = reached low high
+reachedReply (reach.Lengths low high) = reached (low .0) (high .0)
 reachedReply (reach.Refused x) = refuses (numberOf x)
 
 -- the number of chains

@@ -3,9 +3,10 @@ use chains::lookup::Found;
 use chains::lookup::find_label;
 use chains::lookup::name_of;
 use counters::counts::Counts;
+use counters::numbers::Edge;
 use counters::numbers::Label;
 use counters::refusals::Refusal;
-use tables::steps::low_edge;
+use tables::kinds::low_edge;
 ghost use mathlib.Core.Path.{_≡_};
 ghost use mathlib.Core.List.{List};
 ghost use Prim.Native.Nat.{ℕ};
@@ -18,7 +19,7 @@ ghost use Rattle.questions.specs.Meaning.{foundReply};
 
 // The name of a chain, which is the lowest number of an edge there.
 pub enum FoundChain {
-    Chain(u16),
+    Chain(Edge),
     Refused(Refusal),
 }
 
@@ -35,11 +36,10 @@ pub fn find_in(
         ≡ findIn (tables (now (degrees .entry)) (now (sides .entry)) (now (ends .entry)) lengths (take maxVertices (now (labels .entry))))
         (asCounts counts) (label .0)) ⌝ }
 {
-    let x = label.0;
-    if x == 0 {
+    if label.0 == 0 {
         return FoundChain::Refused(Refusal::NotRegular);
     }
-    let found = find_label(labels, x);
+    let found = find_label(labels, label);
     match found {
         Found::At(v) => {
             let edge = low_edge(sides, v);

@@ -3,12 +3,15 @@
 use chains::walks::Way;
 use chains::walks::walk_chain;
 use counters::counts::Counts;
+use counters::numbers::Edge;
+use counters::numbers::Millimetres;
 use counters::numbers::Vertex;
 use counters::refusals::Refusal;
-use tables::access::add32;
-use tables::access::at16;
-use tables::access::of16;
-use tables::access::of32;
+use tables::kinds::degree_of;
+use tables::kinds::high_edge;
+use tables::kinds::length_of;
+use tables::kinds::low_edge;
+use tables::steps::add_lengths;
 use tables::steps::far_end;
 ghost use mathlib.Core.Path.{_≡_};
 ghost use mathlib.Core.List.{List};
@@ -18,9 +21,9 @@ ghost use Rattle.tables.specs.Meaning.{tables};
 ghost use Rattle.chains.specs.Finding.{endToIn, lengthToIn, reachIn};
 ghost use Rattle.questions.specs.Meaning.{reachedReply};
 
-// The lengths in millimetres: to the low end first, then to the high end.
+// The lengths: to the low end first, then to the high end.
 pub enum Reached {
-    Lengths(u32, u32),
+    Lengths(Millimetres, Millimetres),
     Refused(Refusal),
 }
 
@@ -30,12 +33,12 @@ fn go_along(
     sides: &[u16],
     ends: &[u16],
     lengths: &[u32],
-    edge: u16,
-    v: u16,
+    edge: Edge,
+    v: Vertex,
     fuel: u16,
 ) -> Way
-    ensures { λ r. ⌜ (r .at ≡ endToIn (now (degrees .entry)) (now (sides .entry)) (now (ends .entry)) (now (lengths .entry)) fuel edge v)
-        × (r .length ≡ lengthToIn (now (degrees .entry)) (now (sides .entry)) (now (ends .entry)) (now (lengths .entry)) fuel edge v) ⌝ }
+    ensures { λ r. ⌜ (r .at .0 ≡ endToIn (now (degrees .entry)) (now (sides .entry)) (now (ends .entry)) (now (lengths .entry)) fuel (edge .0) (v .0))
+        × (r .length .0 ≡ lengthToIn (now (degrees .entry)) (now (sides .entry)) (now (ends .entry)) (now (lengths .entry)) fuel (edge .0) (v .0)) ⌝ }
 {
     let onwards = walk_chain(
         degrees,
@@ -47,9 +50,10 @@ fn go_along(
         v,
         fuel,
     );
+    let at = onwards.at;
     Way {
-        at: onwards.at,
-        length: add32(of32(lengths, edge), onwards.length),
+        at,
+        length: add_lengths(length_of(lengths, edge), onwards.length),
     }
 }
 
@@ -66,19 +70,33 @@ pub fn reach_in(
         ≡ reachIn (tables (now (degrees .entry)) (now (sides .entry)) (now (ends .entry)) (now (lengths .entry)) labels)
         (asCounts counts) (vertex .0)) ⌝ }
 {
-    let v = vertex.0;
-    if counts.vertices <= v {
+    if counts.vertices <= vertex.0 {
         return Reached::Refused(Refusal::NotLanded);
     }
-    if of16(degrees, v) != 2 {
+    if degree_of(degrees, vertex) != 2 {
         return Reached::Refused(Refusal::NotRegular);
     }
-    let i = 2 * (v as usize);
     let edges = counts.edges;
-    let low = go_along(degrees, sides, ends, lengths, at16(sides, i), v, edges);
-    if of16(degrees, low.at) == 2 {
-        return Reached::Lengths(0, low.length);
+    let low = go_along(
+        degrees,
+        sides,
+        ends,
+        lengths,
+        low_edge(sides, vertex),
+        vertex,
+        edges,
+    );
+    if degree_of(degrees, low.at) == 2 {
+        return Reached::Lengths(Millimetres(0), low.length);
     }
-    let high = go_along(degrees, sides, ends, lengths, at16(sides, i + 1), v, edges);
+    let high = go_along(
+        degrees,
+        sides,
+        ends,
+        lengths,
+        high_edge(sides, vertex),
+        vertex,
+        edges,
+    );
     Reached::Lengths(low.length, high.length)
 }

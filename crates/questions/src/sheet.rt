@@ -1,10 +1,12 @@
 // Sheet: five numbers a chain (document 01: run) to the front of a lent slice, or 9.
 use chains::marks::next_unmarked;
 use chains::names::has_room;
+use chains::numbers::wide;
 use chains::rows::ROW;
 use chains::rows::Row;
 use chains::rows::take_row;
 use counters::counts::Counts;
+use counters::numbers::Edge;
 use counters::refusals::Refusal;
 use tables::whole::clear16;
 use text::writing::put_u32;
@@ -31,11 +33,11 @@ pub enum Listed {
 fn put_row(out: &mut [u32], at: usize, row: Row) -> usize
     ensures { λ r. ⌜ page (now (out .exit)) r ≡ write (rowOf row) (page (now (out .entry)) at) ⌝ }
 {
-    let second = put_u32(out, at, row.name);
-    let third = put_u32(out, second, row.lower);
-    let fourth = put_u32(out, third, row.other);
+    let second = put_u32(out, at, wide(row.name.0));
+    let third = put_u32(out, second, wide(row.lower.0));
+    let fourth = put_u32(out, third, wide(row.other.0));
     let fifth = put_u32(out, fourth, row.inner);
-    put_u32(out, fifth, row.length)
+    put_u32(out, fifth, row.length.0)
 }
 
 // The rows of all chains by rising name, five numbers each, from the front of the slice on; the answer is how many there are.
@@ -57,7 +59,7 @@ fn put_rows(
     let mut count: u16 = 0;
     let mut edge = next_unmarked(marks, 0, edges);
     while edge < edges {
-        let row = take_row(degrees, sides, ends, lengths, marks, edge, edges);
+        let row = take_row(degrees, sides, ends, lengths, marks, Edge(edge), edges);
         next = put_row(out, next, row);
         count += 1;
         edge = next_unmarked(marks, edge + 1, edges);

@@ -9,7 +9,7 @@ use lib.ListN.{length, getD, set, length-set}
 use lib.Seq.{getD-set-same, getD-set-other}
 use borrow.Author.Count.{below-more}
 use Rattle.model.specs.Basics.{maxVertices}
-use Rattle.model.specs.Distance.{Way, IsDistance, distance}
+use Rattle.model.specs.Distance.{Way, IsDistance, joined, notJoined, distance}
 use Rattle.model.specs.Tables.{storedEdges}
 use Rattle.model.proofs.Distances.Distance.{only-distance}
 use Rattle.tables.specs.Meaning.{tables}
@@ -17,7 +17,6 @@ use Rattle.tables.specs.Steps.{edgesOf}
 use Rattle.search.specs.Meaning.{asDistance}
 use Rattle.search.specs.Search.{unreached, Searchable, Reason, is-goal, Grounded, Started, Settled}
 use Rattle.search.specs.declared.shortest.Distance.{Distance}
-use Rattle.search.specs.declared.shortest.Distance.the-variants.{Joined, NotJoined}
 use Rattle.search.proofs.Edges.{edges-only}
 use Rattle.search.proofs.Settled.{settled-joined, settled-none}
 
@@ -57,7 +56,7 @@ module _ (ends lengths : List ℕ) (m goal : ℕ) where
 
   -- settled distances are the model's
   pub answers : (from : ℕ) (distances distances′ : List ℕ) (d : ℕ) (r : Distance) → from < maxVertices → goal < maxVertices → Grounded ends lengths m goal distances
-      → Settled ends lengths m from distances distances′ → d ≡ getD distances′ from 0 → (d < unreached → r ≡ Joined d) × (unreached ≤ d → r ≡ NotJoined)
+      → Settled ends lengths m from distances distances′ → d ≡ getD distances′ from 0 → (d < unreached → distanceIn r ≡ joined d) × (unreached ≤ d → distanceIn r ≡ notJoined)
       → (degrees sides labels : List ℕ) → asDistance r ≡ distance (storedEdges (tables degrees sides ends lengths labels) m) from goal
   answers from distances distances′ d r l l′ g s q c degrees sides labels =
       rw (edges-only degrees sides ends lengths labels m) (only-distance (edgesOf ends lengths m) from goal (asDistance r) (go (decLt d unreached)))

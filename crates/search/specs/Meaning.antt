@@ -5,5 +5,5 @@ use Rattle.search.specs.declared.shortest.Distance.the-variants.{Joined,
 
 -- a distance as the code answers it
 abbrev pub asDistance : Distance → model.Distance
-asDistance (Joined d) = model.joined d
+asDistance (Joined d) = model.joined (d .0)
 asDistance NotJoined = model.notJoined

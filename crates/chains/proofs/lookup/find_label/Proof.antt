@@ -1,3 +1,4 @@
+use borrow.Author.Tests.{eqb-true, eqb-false}
 use Rattle.chains.proofs.LookupLaws.{first-past, first-here, first-next}
 use Rattle.chains.specs.Chains.{firstFrom, firstAt}
 use lib.ListN.{take, drop}
@@ -11,7 +12,7 @@ use Rattle.chains.proofs.lookup.find_label.Tie as tie
 
 -- the label is at none of the first v places
 abbrev Inv-loop : tie.InvT-loop
-Inv-loop labels label v₀ v = (v ≤ 4096) × (firstFrom v label (drop v (take maxVertices labels)) ≡ firstAt label (take maxVertices labels))
+Inv-loop labels label v₀ v = (v ≤ 4096) × (firstFrom v (label .0) (drop v (take maxVertices labels)) ≡ firstAt (label .0) (take maxVertices labels))
 
 abbrev μ-loop : tie.MeasureT-loop
 μ-loop labels label v₀ v = 4096 - v
@@ -20,17 +21,34 @@ loop-holds : tie.Need-loop-holds Inv-loop μ-loop
 unfolding firstAt
 loop-holds c = search needs
 
+cast-if1 : tie.Need-cast-if1 Inv-loop μ-loop
+cast-if1 c = search needs
+
+label-of-requires : tie.Need-label-of-requires Inv-loop μ-loop
+label-of-requires c κs = search needs
+
+is-label-requires : tie.Need-is-label-requires Inv-loop μ-loop
+is-label-requires c κs = search needs
+
 returns : tie.Need-returns Inv-loop μ-loop
 returns c =
-    let at-loop = c .before .before .before .before in
+    let at-loop-test = c .before .before .before .before in
+    let at-loop = at-loop-test .before in
     let at-args = at-loop .before .before in
-    first-here _ _ (at-args .args .labels .now) _ (c .before .before .before .loop-test .taken) (c .before .before .if1 .left) (sym (c .before .of32 .ensures) ∙ c .if2 .taken) ∙ at-loop .loop .inv .1
+    first-here _ _ (at-args .args .labels .now) _ (at-loop-test .loop-test .taken) (c .before .before .before .if1 .left) (sym (c .before .before .label-of .ensures) ∙ eqb-true _ _ (sym (c .before .is-label .ensures) ∙ c .if2 .taken)) ∙ at-loop .loop .inv .1
+
+add-v : tie.Need-add-v Inv-loop μ-loop
+add-v c = search needs
+
+loop-less : tie.Need-loop-less Inv-loop μ-loop
+loop-less c = search needs
 
 loop-again : tie.Need-loop-again Inv-loop μ-loop
 loop-again c =
-    let at-loop = c .before .before .before .before in
+    let at-loop-test = c .before .before .before .before in
+    let at-loop = at-loop-test .before in
     let at-args = at-loop .before .before in
-    (omega arith, sym (first-next _ _ (at-args .args .labels .now) _ (c .before .before .before .loop-test .taken) (c .before .before .if1 .left) (λ e. c .if2 .left (c .before .of32 .ensures ∙ e))) ∙ at-loop .loop .inv .1)
+    (omega arith, sym (first-next _ _ (at-args .args .labels .now) _ (at-loop-test .loop-test .taken) (c .before .before .before .if1 .left) (λ e. eqb-false _ _ (sym (c .before .is-label .ensures) ∙ c .if2 .left) (c .before .before .label-of .ensures ∙ e))) ∙ at-loop .loop .inv .1)
 
 returns-2 : tie.Need-returns-2 Inv-loop μ-loop
 returns-2 c = first-past _ 4096 (c .before .before .before .args .labels .now) (c .before .loop .v) (omega arith) ∙ c .before .loop .inv .1
@@ -40,7 +58,6 @@ returns-3 c =
     let at-args = c .before .before .before .before in
     first-past _ 4096 (at-args .args .labels .now) (c .before .before .loop .v) (omega arith) ∙ c .before .before .loop .inv .1
 
--- the needs in the order of the code
 pub find-label-spec : {M : Type 1} → statement M
 find-label-spec =
     tie.close
@@ -48,11 +65,12 @@ find-label-spec =
     Inv-loop
     μ-loop
     loop-holds
-    (λ c. omega arith)
-    (λ c κs. search needs)
+    cast-if1
+    label-of-requires
+    is-label-requires
     returns
-    (λ c. omega arith)
-    (λ c. omega arith)
+    add-v
+    loop-less
     loop-again
     returns-2
     returns-3)

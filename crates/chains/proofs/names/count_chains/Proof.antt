@@ -14,19 +14,15 @@ Inv-loop degrees sides ends marks₀ edges count₀ edge₀ marks count edge = (
 abbrev μ-loop : tie.MeasureT-loop
 μ-loop degrees sides ends marks₀ edges count₀ edge₀ marks count edge = edges - edge
 
--- src/names.rt:37:9
 next-unmarked-requires : tie.Need-next-unmarked-requires Inv-loop μ-loop
 next-unmarked-requires c κs = search needs
 
--- src/names.rt:38:5
 loop-holds : tie.Need-loop-holds Inv-loop μ-loop
 loop-holds c = ([], (sweep-start _ _ _ _ _ _ (c .next-unmarked .ensures), refl))
 
--- src/names.rt:39:9
 mark-chain-requires : tie.Need-mark-chain-requires Inv-loop μ-loop
 mark-chain-requires c κs = search needs
 
--- src/names.rt:40:9
 add-count : tie.Need-add-count Inv-loop μ-loop
 add-count c =
     let at-loop-test = c .before .before .before .before in
@@ -34,23 +30,19 @@ add-count c =
     let at-fits = at-loop .before .before .before .before .before .before .before in
     omega (arith, at-loop .loop .inv .1 .1, at-loop .loop .inv .1 .0 .few, at-loop-test .loop-test .taken, at-fits .fits .edges .fits)
 
--- src/names.rt:41:37
 add-next-unmarked : tie.Need-add-next-unmarked Inv-loop μ-loop
 add-next-unmarked c =
     let at-loop-test = c .before .before .before .before .before in
     omega (arith, at-loop-test .loop-test .taken)
 
--- src/names.rt:41:9
 next-unmarked-requires-2 : tie.Need-next-unmarked-requires-2 Inv-loop μ-loop
 next-unmarked-requires-2 c κs = search needs
 
--- src/names.rt:38:5
 loop-less : tie.Need-loop-less Inv-loop μ-loop
 loop-less c =
     let at-loop-test = c .before .before .before .before .before .before in
     unmarked-less _ _ _ _ (at-loop-test .loop-test .taken) (c .next-unmarked2 .ensures)
 
--- src/names.rt:38:5
 loop-again : tie.Need-loop-again Inv-loop μ-loop
 loop-again c =
     let at-mark-chain = c .before .before .before .before in
@@ -60,11 +52,9 @@ loop-again c =
     let e = at-loop .loop .edge in
     (found ++ (e ∷ []), (sweep-on _ _ _ _ _ _ _ _ _ _ (at-loop-test .loop-test .taken) (at-loop .loop .inv .1 .0) (at-mark-chain .mark-chain .ensures) (at-mark-chain .mark-chain .kept .1 .1 .1 .0) (c .next-unmarked2 .ensures), omega (arith, at-loop .loop .inv .1 .1, length-append found (e ∷ []))))
 
--- src/names.rt:27:1
 same-length : tie.Need-same-length Inv-loop μ-loop
 same-length c = c .before .loop .inv .1 .0 .as-long
 
--- src/names.rt:27:1
 returns : tie.Need-returns Inv-loop μ-loop
 returns c = c .before .loop .inv .1 .1 ∙ ap (λ (xs : List ℕ). length xs) (sweep-end _ _ _ _ _ _ _ _ (c .loop-test .left) (c .before .loop .inv .1 .0))
 
