@@ -8,6 +8,7 @@ use lib.Dec.{eqb, ltb}
 use Rattle.model.specs.Basics.{least, upTo}
 use Rattle.model.specs.Graph.{chainOf, nameOf}
 use Rattle.model.specs.Register.{Register, labelOf}
+use Rattle.model.specs.Queries.{Reply, found, refuses}
 
 -- the labels on the chain or ring named d
 unfoldable pub innerLabels : Register → ℕ → List ℕ
@@ -59,3 +60,8 @@ searchAmong r label (d ∷ ds) =
 -- "Within find, .. take the runs and rings with couplings by falling lowest tag, up to the one that holds the tag, or all."
 unfoldable pub search : Register → ℕ → Searched
 search r label = searchAmong r label (newestFirst r (upTo (length (r .edges))))
+
+-- what find answers where this is the holder: "every find gives the answer it gave before" (`search-finds` in theorem 3)
+unfoldable pub replyOf : Option ℕ → Reply
+replyOf (some d) = found d
+replyOf none = refuses 8
