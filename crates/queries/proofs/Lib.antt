@@ -3,3 +3,5 @@ pub mod WalkLaws
 pub mod NameLaws
 pub mod LookupLaws
 pub mod SheetLaws
+pub mod TournamentLaws
+pub mod NewestLaws

@@ -2,6 +2,8 @@
 use Prim.Native.Nat.{ℕ}
 use mathlib.Core.List.{List, [], _∷_}
 use mathlib.Core.Option.{Option, none, some}
+use Rattle.queries.specs.declared.newest.Searched.{Searched}
+use Rattle.queries.specs.Newest.{Sought, sought}
 use Rattle.queries.specs.declared.rows.Row.{Row}
 use Rattle.queries.specs.declared.lookup.Found.{Found}
 use Rattle.queries.specs.declared.lookup.Found.the-variants.{At, Nothing}
@@ -13,3 +15,6 @@ rowOf r = r .name ∷ r .lower ∷ r .other ∷ r .inner ∷ r .length ∷ []
 abbrev pub foundIn : Found → Option ℕ
 foundIn (At v) = some v
 foundIn Nothing = none
+
+abbrev pub soughtIn : Searched → Sought
+soughtIn s = sought (foundIn (s .found)) (s .taken)

@@ -2,6 +2,8 @@
 pub mod lookup;
 pub mod marks;
 pub mod names;
+pub mod newest;
 pub mod numbers;
 pub mod rows;
+pub mod tournament;
 pub mod walks;
