@@ -5,3 +5,4 @@ pub mod LookupLaws
 pub mod SheetLaws
 pub mod TournamentLaws
 pub mod NewestLaws
+pub mod Winners

@@ -91,7 +91,8 @@ module _ (r : Register) (pr : Proper (r .edges)) where
 
   pub data LowNeighbour (d v : ℕ) : Type 0 where
     lowest : ((w : ℕ) → Mem w ((chainOf (r .edges) d) .inner) → labelOf r v ≤ labelOf r w)
-        → (labelOf r (far (r .edges) (lowEdgeOf r v) v) ≡ 0) ⊎ (labelOf r v < labelOf r (far (r .edges) (lowEdgeOf r v) v)) → LowNeighbour d v
+        → (isRegular (r .edges) (far (r .edges) (lowEdgeOf r v) v) ≡ false)
+            ⊎ ((edgeOnRing (r .edges) d ≡ true) × (labelOf r v < labelOf r (far (r .edges) (lowEdgeOf r v) v))) → LowNeighbour d v
     above : Mem (far (r .edges) (lowEdgeOf r v) v) ((chainOf (r .edges) d) .inner)
         → labelOf r v ≡ suc (labelOf r (far (r .edges) (lowEdgeOf r v) v)) → LowNeighbour d v
 
@@ -99,7 +100,7 @@ module _ (r : Register) (pr : Proper (r .edges)) where
   all-above k vs e w m =
       countFrom-least k (length vs) (labelOf r w) (subst (λ (l : List ℕ). Mem (labelOf r w) l) e (Memᴰ·map (labelOf r) m))
 
-  module _ (zeros : (v : ℕ) → isRegular (r .edges) v ≡ false → labelOf r v ≡ 0) (s : Sided (r .edges) (marksOf r)) (d : ℕ) (h : d < length (r .edges)) where
+  module _ (s : Sided (r .edges) (marksOf r)) (d : ℕ) (h : d < length (r .edges)) where
     abbrev es : List Edge
     es = r .edges
 
@@ -111,13 +112,13 @@ module _ (r : Register) (pr : Proper (r .edges)) where
         go : Behind (c .start) (c .inner) (up .lowest) v → LowNeighbour d v
         go (at-first l f) =
             lowest (λ w n. omega (arith, l, all-above (up .lowest) (c .inner) (up .labels) w (back w n)))
-            (inl (rw f (zeros (c .start) (is .starts))))
+            (inl (rw f (is .starts)))
         go (later w n f l) = above (rw f (to w n)) (rw f l)
 
     -- in a ring
-    in-ring : RisesRound r d → (v : ℕ) → isRegular es v ≡ true → Mem v ((chainOf es d) .inner) → LowNeighbour d v
+    in-ring : edgeOnRing es d ≡ true → RisesRound r d → (v : ℕ) → isRegular es v ≡ true → Mem v ((chainOf es d) .inner) → LowNeighbour d v
     unfolding countFrom endsWith marksOf lowAt
-    in-ring k v reg m = go (mem-cases (subst (λ (l : List ℕ). Mem v l) (is .inner-are) (k .same .inner-back v m)))
+    in-ring t k v reg m = go (mem-cases (subst (λ (l : List ℕ). Mem v l) (is .inner-are) (k .same .inner-back v m)))
       where
         c : Chain
         c = k .ring
@@ -173,7 +174,7 @@ module _ (r : Register) (pr : Proper (r .edges)) where
         on (later w n f l) = above (rw f (in-chain w (in-tail n))) (rw f l)
 
         go : (v ≡ x) ⊎ Mem v vs → LowNeighbour d v
-        go (inl q) = lowest (λ w n. omega (arith, all w n, ap (labelOf r) q, first-label)) (inr (highest vs refl q))
+        go (inl q) = lowest (λ w n. omega (arith, all w n, ap (labelOf r) q, first-label)) (inr (t, highest vs refl q))
         go (inr n) = on (behind (suc (up .lowest)) (up .last) (is .path) other-labels other-lows v n)
 
     pub low-neighbour : (v : ℕ) → isRegular es v ≡ true → Mem v ((chainOf es d) .inner) → LowNeighbour d v
@@ -190,5 +191,5 @@ module _ (r : Register) (pr : Proper (r .edges)) where
             (λ w n. mem-reverse w _ n) v (mem-reverse v _ m)
 
         go : (edgeOnRing es d ≡ true) ⊎ (edgeOnRing es d ≡ false) → LowNeighbour d v
-        go (inl q) = in-ring (ring-upwards r pr s d h q) v reg m
+        go (inl q) = in-ring q (ring-upwards r pr s d h q) v reg m
         go (inr q) = open-case q (chain-upwards r pr s d h q)

@@ -134,6 +134,24 @@ module _ (r : Register) where
       go false q (inl e) ih = absurd (not-both (namesLabelled r d) (rw e at t) q)
       go false q (inr h) ih = rw (q, newestFirst) (ih h)
 
+  among-length : (d : ℕ) (cs : List ℕ) → length (among r d cs) ≡ suc (length cs)
+  unfolding among
+  among-length d [] = refl
+  among-length d (c ∷ cs) = go (ltb (lowestLabel r c) (lowestLabel r d)) refl (among-length d cs)
+    where
+      go : (b : Bool) → ltb (lowestLabel r c) (lowestLabel r d) ≡ b → length (among r d cs) ≡ suc (length cs) → length (among r d (c ∷ cs)) ≡ suc (suc (length cs))
+      go true q ih = rw (q, among)
+      go false q ih = rw (q, among) (ap suc ih)
+
+  pub newest-few : (ds : List ℕ) → length (newestFirst r ds) ≤ length ds
+  unfolding newestFirst
+  newest-few [] = omega arith
+  newest-few (d ∷ ds) = go (namesLabelled r d) refl (newest-few ds)
+    where
+      go : (b : Bool) → namesLabelled r d ≡ b → length (newestFirst r ds) ≤ length ds → length (newestFirst r (d ∷ ds)) ≤ suc (length ds)
+      go true q ih = rw (q, newestFirst) (omega (arith, among-length d (newestFirst r ds)))
+      go false q ih = rw (q, newestFirst) (omega arith)
+
   -- chains and rings that differ have different lowest labels
   abbrev Apart : Type 0
   Apart = (c d : ℕ) → c < length (r .edges) → d < length (r .edges) → namesLabelled r c ≡ true → namesLabelled r d ≡ true → lowestLabel r c ≡ lowestLabel r d → c ≡ d
