@@ -5,8 +5,7 @@ use native.Mathlib.Omega.{arith}
 use mathlib.Core.Option.{none}
 use mathlib.Core.Bool.{Bool, true, false}
 use mathlib.Core.List.{List, []}
-use lib.ListN.{length, replicate, take, length-replicate}
-use lib.Seq.{take-length}
+use lib.ListN.{length, replicate, length-replicate}
 use lib.Dec.{ltb}
 use borrow.Author.Tests.{ltb-false}
 use Rattle.model.specs.Basics.{maxEdges, maxVertices, inFront, rowSize}
@@ -21,7 +20,6 @@ use Rattle.tables.specs.Steps.{tables}
 use Rattle.text.proofs.PageLaws.{write-front}
 use Rattle.queries.specs.Chains.{namesIn, sheetIn}
 use Rattle.queries.specs.Finding.{findIn, reachIn}
-use Rattle.agreement.proofs.Registers.{labels-long}
 use Rattle.agreement.proofs.Finding.{find-agrees, reach-agrees}
 use Rattle.agreement.proofs.Sheeting.{names-counted, sheet-agrees}
 use Rattle.lookups.specs.Answering.{Sheeted, sheeted, sheetedIn}
@@ -31,20 +29,12 @@ use Rattle.admission.specs.Lent.{lent, outcome}
 use Rattle.admission.specs.Gate.{barred}
 use Rattle.model.proofs.Series.Calls.{scratch-cleared}
 
--- the table of labels has 4,096 elements, so all are looked at
-labels-whole : (r : Register) → Reachable r → (labels : List ℕ) → (tablesOf r) .labels ≡ labels → take maxVertices labels ≡ labels
-unfolding tablesOf
-labels-whole r g labels e =
-    let n : maxVertices ≡ length labels = sym (labels-long r g) ∙ ap (λ (xs : List ℕ). length xs) e in
-    ap (λ (k : ℕ). take k labels) n ∙ take-length labels
-
-pub find-answers : (d s e l labels : List ℕ) (c : Counts) (label : ℕ) (a : Reply)
-    → a ≡ findIn (tables d s e l (take maxVertices labels)) c label → Answers (finds label) (tables d s e l labels) c [] a
+pub find-answers : (t : Tables) (c : Counts) (tree : List ℕ) (label : ℕ) (a : Reply) → 2 * maxVertices ≤ length tree
+    → a ≡ findIn t c tree label → Answers (finds label) t c [] a
 unfolding effect answer answers
-find-answers d s e l labels c label a h r k =
-    let w : take maxVertices labels ≡ labels = labels-whole r (k .reachable) labels (ap (λ (t : Tables). t .labels) (held-tables k)) in
-    let f : findIn (tables d s e l labels) c label ≡ find r label = rw (held-tables k, held-counts k) at (find-agrees r (k .reachable) label) in
-    rw (h, w, f)
+find-answers t c tree label a l h r k =
+    let f : findIn t c tree label ≡ find r label = rw (held-tables k, held-counts k) at (find-agrees r (k .reachable) label tree l) in
+    rw (h, f)
 
 pub reach-answers : (t : Tables) (c : Counts) (v : ℕ) (a : Reply) → a ≡ reachIn t c v → Answers (reaches v) t c [] a
 unfolding effect answer answers
@@ -78,7 +68,8 @@ sheet-answers t c m n counting marks xs ys a l o p q h r k = go (ltb (length xs)
         let front : ys ≡ inFront (sheetNumbers r) xs = ap (λ (x : Sheeted). x .slice) q ∙ write-front (sheetNumbers r) xs _ _ fits refl in
         rw (sheet-length r, e, front, ap (λ (x : Sheeted). x .reply) q)
 
--- The sheet over scratch g that the gate left: its degrees and its sides served for marks, and both are zeros again.
+-- Find and the sheet over scratch g that the gate left. Its sides served for the tournament; its degrees and its sides for marks. They are
+-- zeros again.
 module _ (t : Tables) (c : Counts) (s g : Tables) (h : none ≡ barred (lent t c s)) (e : g ≡ scratchAfter (lent t c s)) where
   zeros : g ≡ cleared
   zeros = e ∙ scratch-cleared (lent t c s) ((opened (lent t c s) h) .fit)
@@ -93,6 +84,14 @@ module _ (t : Tables) (c : Counts) (s g : Tables) (h : none ≡ barred (lent t c
 
   again : (xs : List ℕ) (n : ℕ) → xs ≡ replicate n 0 → replicate (length xs) 0 ≡ xs
   again xs n q = rw (q, length-replicate)
+
+  pub find-answered : (tree : List ℕ) (label : ℕ) (a : Reply) → a ≡ findIn t c (g .sides) label → tree ≡ replicate (length (g .sides)) 0
+      → outcome t c (tables (g .degrees) tree (g .ends) (g .lengths) (g .labels)) [] a ≡ step (finds label) (lent t c s)
+  find-answered tree label a q n =
+      let n′ : tree ≡ g .sides = n ∙ again (g .sides) (2 * maxVertices) sides-are in
+      let u : tables (g .degrees) tree (g .ends) (g .lengths) (g .labels) ≡ g = rw n′ in
+      let l : 2 * maxVertices ≤ length (g .sides) = rw (sides-are, length-replicate) (omega arith) in
+      query-answered (finds label) (lent t c s) _ [] a h (u ∙ e) (find-answers t c (g .sides) label a l q)
 
   pub sheet-answered : (counting marks xs ys : List ℕ) (a : Reply) → sheeted ys a ≡ sheetedIn t c (g .degrees) (g .sides) xs
       → counting ≡ replicate (length (g .degrees)) 0 → marks ≡ replicate (length (g .sides)) 0

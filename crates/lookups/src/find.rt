@@ -4,15 +4,15 @@ use admission::gate::pass_gate;
 use counters::counts::Counts;
 use counters::numbers::Label;
 use counters::refusals::Refusal;
-use queries::lookup::Found;
-use queries::lookup::find_label;
 use queries::lookup::name_of;
+use queries::newest::Found;
+use queries::newest::search_label;
 use tables::steps::low_edge;
+use tables::whole::clear16;
 ghost use mathlib.Core.Path.{_≡_};
 ghost use mathlib.Core.List.{List, []};
 ghost use Prim.Native.Nat.{ℕ};
-ghost use lib.ListN.{take};
-ghost use Rattle.model.specs.Basics.{maxVertices};
+ghost use lib.ListN.{length, replicate};
 ghost use Rattle.model.specs.Calls.{finds, step};
 ghost use Rattle.counters.specs.Answers.{countsIn};
 ghost use Rattle.tables.specs.Steps.{tables};
@@ -26,24 +26,31 @@ pub enum FoundChain {
     Refused(Refusal),
 }
 
-// Label 0 stands at every vertex that has none, so it is not looked for.
+// The tree is lent for the search.
 pub fn find_in(
     degrees: &[u16],
     sides: &[u16],
     ends: &[u16],
     labels: &[u32],
     counts: Counts,
+    tree: &mut [u16],
     label: Label,
 ) -> FoundChain
     ensures { λ r. ⌜ ((lengths : List ℕ) → foundReply r
-        ≡ findIn (tables (now (degrees .entry)) (now (sides .entry)) (now (ends .entry)) lengths (take maxVertices (now (labels .entry))))
-        (countsIn counts) (label .0)) ⌝ }
+        ≡ findIn (tables (now (degrees .entry)) (now (sides .entry)) (now (ends .entry)) lengths (now (labels .entry)))
+        (countsIn counts) (now (tree .entry)) (label .0)) ⌝ }
 {
-    let x = label.0;
-    if x == 0 {
-        return FoundChain::Refused(Refusal::NotRegular);
-    }
-    let found = find_label(labels, x);
+    let searched = search_label(
+        degrees,
+        sides,
+        ends,
+        labels,
+        tree,
+        counts.vertices,
+        counts.edges,
+        label.0,
+    );
+    let found = searched.found;
     match found {
         Found::At(v) => {
             let edge = low_edge(sides, v);
@@ -52,6 +59,26 @@ pub fn find_in(
         }
         Found::Nothing => FoundChain::Refused(Refusal::NotRegular),
     }
+}
+
+// The same; the tree ends all zero.
+fn find_cleared(
+    degrees: &[u16],
+    sides: &[u16],
+    ends: &[u16],
+    labels: &[u32],
+    counts: Counts,
+    tree: &mut [u16],
+    label: Label,
+) -> FoundChain
+    ensures { λ r. ⌜ ((lengths : List ℕ) → foundReply r
+        ≡ findIn (tables (now (degrees .entry)) (now (sides .entry)) (now (ends .entry)) lengths (now (labels .entry)))
+        (countsIn counts) (now (tree .entry)) (label .0))
+        × (now (tree .exit) ≡ replicate (length (now (tree .entry))) 0) ⌝ }
+{
+    let found = find_in(degrees, sides, ends, labels, counts, tree, label);
+    clear16(tree);
+    found
 }
 
 pub fn find(
@@ -92,7 +119,7 @@ pub fn find(
         slabels,
     );
     match passed {
-        Gate::Open => find_in(degrees, sides, ends, labels, counts, label),
+        Gate::Open => find_cleared(degrees, sides, ends, labels, counts, ssides, label),
         Gate::Refused(refusal) => FoundChain::Refused(refusal),
     }
 }

@@ -5,15 +5,14 @@ use crate::answers::answer_reached;
 use crate::answers::refused;
 use crate::checked::measure_checked;
 use crate::checked::reach_checked;
+use crate::finding::find_from;
 use crate::sheet::answer_sheet;
 use counters::answers::Stop;
 use counters::counts::Counts;
-use counters::numbers::Label;
 use counters::sizes::EDGES;
 use counters::sizes::ENDS;
 use counters::sizes::SIDES;
 use counters::sizes::VERTICES;
-use lookups::find::find_in;
 use register::records::grow_list;
 ghost use mathlib.Core.Path.{_≡_};
 ghost use Rattle.model.specs.Register.{Register};
@@ -51,7 +50,7 @@ fn answer_query(
     match query {
         Query::Sheet => answer_sheet(answer, degrees, sides, ends, lengths, counts.edges),
         Query::Find(label) => {
-            let found = find_in(degrees, sides, ends, labels, counts, Label(label));
+            let found = find_from(degrees, sides, ends, labels, counts, label);
             answer_found(answer, found)
         }
         Query::Reach(vertex) => {

@@ -5,8 +5,8 @@ use mathlib.Core.Option.{Option, none, some}
 use Rattle.queries.specs.declared.newest.Searched.{Searched}
 use Rattle.queries.specs.Newest.{Sought, sought}
 use Rattle.queries.specs.declared.rows.Row.{Row}
-use Rattle.queries.specs.declared.lookup.Found.{Found}
-use Rattle.queries.specs.declared.lookup.Found.the-variants.{At, Nothing}
+use Rattle.queries.specs.declared.newest.Found.{Found}
+use Rattle.queries.specs.declared.newest.Found.the-variants.{At, Nothing}
 
 -- "name, end with the lower number, other end, couplings, length"
 abbrev pub rowOf : Row → List ℕ

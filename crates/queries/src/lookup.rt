@@ -1,39 +1,12 @@
-// The vertex that has a label, and the name of an edge's chain.
+// The name of an edge's chain.
 use crate::numbers::lesser;
 use crate::walks::goes_on;
-use counters::numbers::Vertex;
 use tables::access::at16;
 use tables::access::of16;
-use tables::access::of32;
 use tables::walks::Walker;
 use tables::walks::step_over;
 ghost use mathlib.Core.Path.{_≡_};
-ghost use lib.ListN.{take};
-ghost use Rattle.model.specs.Basics.{maxVertices};
-ghost use Rattle.queries.specs.Chains.{firstAt, lowEnd, lowestIn, nameIn};
-ghost use Rattle.queries.specs.Answers.{foundIn};
-
-pub enum Found {
-    At(u16),
-    Nothing,
-}
-
-// The first of at most 4,096 labels that is this one. A read past the end gives 0, which may be the label, so the length is tested.
-pub fn find_label(labels: &[u32], label: u32) -> Found
-    ensures { λ r. ⌜ foundIn r ≡ firstAt label (take maxVertices (now (labels .entry))) ⌝ }
-{
-    let mut v: u16 = 0;
-    while v < Vertex::COUNT {
-        if labels.len() <= (v as usize) {
-            break;
-        }
-        if of32(labels, v) == label {
-            return Found::At(v);
-        }
-        v += 1;
-    }
-    Found::Nothing
-}
+ghost use Rattle.queries.specs.Chains.{lowEnd, lowestIn, nameIn};
 
 // Where a walk ends, and the least number that it met.
 struct LowEnd {

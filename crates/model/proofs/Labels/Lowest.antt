@@ -92,7 +92,7 @@ module _ (r : Register) (pr : Proper (r .edges)) where
   pub data LowNeighbour (d v : ℕ) : Type 0 where
     lowest : ((w : ℕ) → Mem w ((chainOf (r .edges) d) .inner) → labelOf r v ≤ labelOf r w)
         → (isRegular (r .edges) (far (r .edges) (lowEdgeOf r v) v) ≡ false)
-            ⊎ ((edgeOnRing (r .edges) d ≡ true) × (labelOf r v < labelOf r (far (r .edges) (lowEdgeOf r v) v))) → LowNeighbour d v
+        ⊎ ((edgeOnRing (r .edges) d ≡ true) × (labelOf r v < labelOf r (far (r .edges) (lowEdgeOf r v) v))) → LowNeighbour d v
     above : Mem (far (r .edges) (lowEdgeOf r v) v) ((chainOf (r .edges) d) .inner)
         → labelOf r v ≡ suc (labelOf r (far (r .edges) (lowEdgeOf r v) v)) → LowNeighbour d v
 
