@@ -17,6 +17,26 @@ pub fn find(house: &House, tag: Tag) -> Result<PipeNumber, Refusal> {
     name.ok_or(Refusal::NoCoupling)
 }
 
+/// Document 02, S-3: the runs and rings with couplings by falling lowest tag, up to the one that holds
+/// the tag, or all: its name, and how many these are.
+pub fn search(house: &House, tag: Tag) -> (Option<PipeNumber>, usize) {
+    let (runs, rings) = house.afresh();
+    let of_runs = runs.iter().map(|run| (run.name(), run.couplings()));
+    let of_rings = rings.iter().map(|ring| (ring.name(), ring.fittings()));
+    let mut newest: Vec<(Tag, PipeNumber, Vec<Tag>)> = Vec::new();
+    for (name, couplings) in of_runs.chain(of_rings) {
+        let tags: Vec<Tag> = couplings.iter().map(|&c| house.tags()[c]).collect();
+        if let Some(&lowest) = tags.iter().min() {
+            newest.push((lowest, name, tags));
+        }
+    }
+    newest.sort_by_key(|&(lowest, ..)| Reverse(lowest));
+    match newest.iter().position(|(.., tags)| tags.contains(&tag)) {
+        Some(before) => (Some(newest[before].1), before + 1),
+        None => (None, newest.len()),
+    }
+}
+
 /// For each tag in use, the name of the run or ring whose couplings include it.
 pub fn names_by_tag(house: &House) -> BTreeMap<Tag, PipeNumber> {
     let (runs, rings) = house.afresh();

@@ -1,5 +1,5 @@
 pub mod CallLaws
 pub mod QueryLaws
-pub mod SheetLaws
+pub mod ScratchLaws
 pub mod MeasureLaws
 pub mod CallSteps

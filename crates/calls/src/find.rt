@@ -4,7 +4,7 @@ use admission::gate::pass_gate;
 use counters::counts::Counts;
 use counters::numbers::Label;
 use questions::find::FoundChain;
-use questions::find::find_in;
+use questions::find::find_cleared;
 ghost use mathlib.Core.Path.{_≡_};
 ghost use mathlib.Core.List.{[]};
 ghost use Rattle.model.specs.Calls.{finds, step};
@@ -13,6 +13,7 @@ ghost use Rattle.tables.specs.Meaning.{tables};
 ghost use Rattle.admission.specs.Lent.{lent, outcome};
 ghost use Rattle.questions.specs.Meaning.{foundReply};
 
+// The scratch's sides serve as the tree of the search.
 pub fn find(
     degrees: &[u16],
     sides: &[u16],
@@ -51,7 +52,7 @@ pub fn find(
         slabels,
     );
     match passed {
-        Gate::Open => find_in(degrees, sides, ends, labels, counts, label),
+        Gate::Open => find_cleared(degrees, sides, ends, labels, counts, ssides, label),
         Gate::Refused(refusal) => FoundChain::Refused(refusal),
     }
 }

@@ -3,3 +3,6 @@ pub mod WalkLaws
 pub mod NameLaws
 pub mod LookupLaws
 pub mod SheetLaws
+pub mod TournamentLaws
+pub mod NewestLaws
+pub mod Winners

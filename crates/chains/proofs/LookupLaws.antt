@@ -1,40 +1,15 @@
--- A label looked for in a list, and the least number on a walk: the ways in which each loop ends, and a turn of it.
+-- The least number on a walk: the ways in which the loop ends, and a turn of it.
 use mathlib.Core.Path.{_≡_, refl, sym}
 use mathlib.Core.Bool.{true, false}
-use mathlib.Core.List.{List, _∷_}
-use mathlib.Core.Option.{none, some}
+use mathlib.Core.List.{List}
 use Prim.Native.Nat.{ℕ, zero, suc, _+_, _*_, _-_, _<_, _≤_, min}
 use native.Mathlib.Nat.{not-suc-le-zero}
 use native.Mathlib.Numerals.{add-one, sub-one}
 use native.Mathlib.Omega.{arith}
 use borrow.Author.Tests.{eq-eqb, ne-eqb}
-use lib.ListN.{length, getD, take, drop, length-take, drop-of-length-le}
-use lib.Dec.{eqb}
-use lib.Seq.{drop-cons, getD-take}
+use lib.ListN.{getD}
 use Rattle.tables.specs.Steps.{farIn, turnIn}
-use Rattle.chains.specs.Chains.{firstFrom, goesOnIn, lowEnd, lowestIn, nameIn}
-
--- the first i of at most m elements were looked at
-module _ (label m : ℕ) (xs : List ℕ) (i : ℕ) where
-  pub first-past : min m (length xs) ≤ i → none ≡ firstFrom i label (drop i (take m xs))
-  unfolding firstFrom
-  first-past h =
-      let g : length (take m xs) ≤ i = rw length-take h in
-      rw (drop-of-length-le (take m xs) g)
-
-  module _ (h : i < m) (g : i < length xs) where
-    first-cons : drop i (take m xs) ≡ getD xs i 0 ∷ drop (i + 1) (take m xs)
-    first-cons =
-        let l : i < length (take m xs) = rw length-take (omega arith) in
-        rw (drop-cons (take m xs) i 0 l, getD-take m xs i 0 h, add-one)
-
-    pub first-here : getD xs i 0 ≡ label → some i ≡ firstFrom i label (drop i (take m xs))
-    unfolding firstFrom
-    first-here e = rw (first-cons, eq-eqb _ _ e, firstFrom)
-
-    pub first-next : (getD xs i 0 ≡ label → ⊥) → firstFrom i label (drop i (take m xs)) ≡ firstFrom (i + 1) label (drop (i + 1) (take m xs))
-    unfolding firstFrom
-    first-next e = rw (first-cons, ne-eqb _ _ e, firstFrom, add-one)
+use Rattle.chains.specs.Chains.{goesOnIn, lowEnd, lowestIn, nameIn}
 
 module _ (ds ss es : List ℕ) (home : ℕ) where
   pub lowest-none : (n x d v : ℕ) → n ≤ 0 → lowEnd v x ≡ lowestIn ds ss es home n x d v

@@ -3,7 +3,6 @@
 use Prim.Native.Nat.{ℕ, zero, suc, _+_, _*_, min, max}
 use mathlib.Core.Bool.{Bool, true, false, not, _&&_}
 use mathlib.Core.List.{List, [], _∷_, map}
-use mathlib.Core.Option.{Option, none, some}
 use lib.ListN.{getD, set}
 use lib.Dec.{eqb}
 use Rattle.model.specs.Basics.{if_then_else_}
@@ -100,15 +99,7 @@ rowsIn degrees sides ends lengths n names = map (rowIn degrees sides ends length
 unfoldable pub sheetIn : List ℕ → List ℕ → List ℕ → List ℕ → ℕ → List ℕ → List (List ℕ)
 sheetIn degrees sides ends lengths n marks = rowsIn degrees sides ends lengths n (namesIn degrees sides ends n marks)
 
--- ---- one label, one name
-
--- the place of the first element that is the label; the list's first place is `at`
-unfoldable pub firstFrom : ℕ → ℕ → List ℕ → Option ℕ
-firstFrom at label [] = none
-firstFrom at label (x ∷ xs) = elim (eqb x label) [ true ↦ some at | false ↦ firstFrom (suc at) label xs ]
-
-unfoldable pub firstAt : ℕ → List ℕ → Option ℕ
-firstAt label xs = firstFrom 0 label xs
+-- ---- one name
 
 -- where a walk ends, and the least of x and the numbers of the edges behind the regular vertices that it passes
 pub record LowEnd : Type 0 where

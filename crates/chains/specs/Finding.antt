@@ -9,13 +9,13 @@ use Rattle.model.specs.Basics.{if_then_else_}
 use Rattle.model.specs.Queries.{Reply, found, reached, refuses}
 use Rattle.model.specs.Tables.{Tables, Counts}
 use Rattle.tables.specs.Steps.{farIn, sum32}
-use Rattle.chains.specs.Chains.{WalkEnd, walkIn, firstAt, nameIn}
+use Rattle.chains.specs.Chains.{WalkEnd, walkIn, nameIn}
+use Rattle.chains.specs.Newest.{searchIn}
 
--- by the wearer's edge on the low side; a singular vertex wears 0
-unfoldable pub findIn : Tables → Counts → ℕ → Reply
-findIn t c label =
-    if eqb label 0 then refuses 8
-    else elim (firstAt label (t .labels)) [
+-- by the search from the newest chain, then by the wearer's edge on the low side; a tree is lent for the search
+unfoldable pub findIn : Tables → Counts → List ℕ → ℕ → Reply
+findIn t c tree label =
+    elim ((searchIn (t .degrees) (t .sides) (t .ends) (t .labels) (c .vertices) (c .edges) label tree) .wearer) [
       | some v ↦ found (nameIn (t .degrees) (t .sides) (t .ends) (c .edges) (getD (t .sides) (2 * v) 0))
       | none ↦ refuses 8
     ]

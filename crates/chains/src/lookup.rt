@@ -1,50 +1,15 @@
-// The vertex that has a label, and the name of an edge's chain.
+// The name of an edge's chain.
 use crate::numbers::lesser_edge;
 use crate::walks::goes_on;
 use counters::numbers::Edge;
-use counters::numbers::Label;
 use counters::numbers::Vertex;
 use tables::kinds::degree_of;
 use tables::kinds::first_end;
-use tables::kinds::label_of;
 use tables::kinds::second_end;
 use tables::walks::Walker;
 use tables::walks::step_over;
 ghost use mathlib.Core.Path.{_≡_};
-ghost use lib.Dec.{eqb};
-ghost use lib.ListN.{take};
-ghost use Rattle.model.specs.Basics.{maxVertices};
-ghost use Rattle.chains.specs.Chains.{firstAt, lowEnd, lowestIn, nameIn};
-ghost use Rattle.chains.specs.Answers.{asFound};
-
-pub enum Found {
-    At(Vertex),
-    Nothing,
-}
-
-fn is_label(found: Label, label: Label) -> bool
-    ensures { λ r. ⌜ r ≡ eqb (found .0) (label .0) ⌝ }
-{
-    found.0 == label.0
-}
-
-// The first of at most 4,096 labels that is this one. A read past the end gives 0, which may be the label, so the length is tested.
-pub fn find_label(labels: &[u32], label: Label) -> Found
-    ensures { λ r. ⌜ asFound r ≡ firstAt (label .0) (take maxVertices (now (labels .entry))) ⌝ }
-{
-    let mut v: u16 = 0;
-    while v < Vertex::COUNT {
-        if labels.len() <= (v as usize) {
-            break;
-        }
-        let at = Vertex(v);
-        if is_label(label_of(labels, at), label) {
-            return Found::At(at);
-        }
-        v += 1;
-    }
-    Found::Nothing
-}
+ghost use Rattle.chains.specs.Chains.{lowEnd, lowestIn, nameIn};
 
 // Where a walk ends, and the least number that it met.
 struct LowEnd {

@@ -1,9 +1,9 @@
 -- A call whole: a list that stops, and the answer of a question on the tables that a list leaves.
 use mathlib.Core.Path.{_≡_, sym, ap, _∙_}
-use Prim.Native.Nat.{ℕ}
+use Prim.Native.Nat.{ℕ, _*_, _≤_}
 use native.Mathlib.Omega.{arith}
 use mathlib.Core.List.{List}
-use lib.ListN.{length, take}
+use lib.ListN.{length, length-replicate, replicate}
 use lib.IntN.{ℤ, pos, negℤ}
 use Rattle.model.specs.Basics.{maxEdges, maxVertices}
 use Rattle.model.specs.Register.{Register}
@@ -63,11 +63,12 @@ module _ (d s e l lb : List ℕ) (c : Counts) (r : Register) (h : HeldOf (stored
       let k : sheetOver (tables d s e l lb) (c .edges) maxEdges ≡ sheet r = rw (held-tables h, held-counts h) at (sheet-agrees r (h .reachable) maxEdges (omega arith)) in
       p ∙ ap (λ (rows : List (List ℕ)). returnsNumbers slice (concat rows)) k
 
-  pub find-question : (label : ℕ) (a : Reply) → a ≡ findIn (tables d s e l (take maxVertices lb)) c label → z ≡ returnsReply r slice a
+  pub find-question : (label : ℕ) (a : Reply) → a ≡ findIn (tables d s e l lb) c (replicate (2 * maxVertices) 0) label → z ≡ returnsReply r slice a
       → z ≡ returnsReply r slice (find r label)
   unfolding effect answer answers
   find-question label a p q =
-      let k = find-answers d s e l lb c label a p r h in
+      let room : 2 * maxVertices ≤ length (replicate {A = ℕ} (2 * maxVertices) 0) = rw length-replicate (omega arith) in
+      let k = find-answers (tables d s e l lb) c (replicate (2 * maxVertices) 0) label a room p r h in
       q ∙ ap (returnsReply r slice) (ap (λ (x : Effect). x .reply) (sym k))
 
   pub reach-question : (v : ℕ) (a : Reply) → a ≡ reachIn (tables d s e l lb) c v → z ≡ returnsReply r slice a → z ≡ returnsReply r slice (reach r v)

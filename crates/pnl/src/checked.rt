@@ -1,5 +1,6 @@
 // Labels and vertices as C gives them, of 32 bits. A number above the largest vertex is never landed: refusal 5.
 use crate::distances::distance_in;
+use crate::finding::find_from;
 use counters::counts::Counts;
 use counters::numbers::CheckedLabel;
 use counters::numbers::CheckedVertex;
@@ -7,14 +8,13 @@ use counters::numbers::Label;
 use counters::numbers::Vertex;
 use counters::refusals::Refusal;
 use questions::find::FoundChain;
-use questions::find::find_in;
 use questions::measure::Measured;
 use questions::reach::Reached;
 use questions::reach::reach_in;
 ghost use mathlib.Core.Path.{_≡_};
 ghost use mathlib.Core.List.{List};
-ghost use Prim.Native.Nat.{ℕ, _≤_};
-ghost use lib.ListN.{take};
+ghost use Prim.Native.Nat.{ℕ, _*_, _≤_};
+ghost use lib.ListN.{replicate};
 ghost use Rattle.model.specs.Basics.{maxVertices};
 ghost use Rattle.counters.specs.Answers.{asCounts};
 ghost use Rattle.tables.specs.Meaning.{tables};
@@ -32,12 +32,12 @@ pub fn find_checked(
     label: u32,
 ) -> FoundChain
     ensures { λ r. ⌜ ((lengths : List ℕ) → foundReply r
-        ≡ findIn (tables (now (degrees .entry)) (now (sides .entry)) (now (ends .entry)) lengths (take maxVertices (now (labels .entry))))
-        (asCounts counts) label) ⌝ }
+        ≡ findIn (tables (now (degrees .entry)) (now (sides .entry)) (now (ends .entry)) lengths (now (labels .entry)))
+        (asCounts counts) (replicate (2 * maxVertices) 0) label) ⌝ }
 {
     let checked = Label::new(label as u64);
     match checked {
-        CheckedLabel::Is(l) => find_in(degrees, sides, ends, labels, counts, l),
+        CheckedLabel::Is(l) => find_from(degrees, sides, ends, labels, counts, l),
         CheckedLabel::OutOfRange => FoundChain::Refused(Refusal::NotRegular),
     }
 }

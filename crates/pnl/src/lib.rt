@@ -3,6 +3,7 @@
 mod answers;
 mod checked;
 mod distances;
+mod finding;
 pub mod grown;
 mod recipes;
 mod sheet;

@@ -4,8 +4,7 @@ use Prim.Native.Nat.{ℕ, _*_, _≤_}
 use native.Mathlib.Omega.{arith}
 use mathlib.Core.Bool.{Bool, true, false}
 use mathlib.Core.List.{List, []}
-use lib.ListN.{length, replicate, take}
-use lib.Seq.{take-length}
+use lib.ListN.{length, replicate}
 use lib.Dec.{ltb}
 use borrow.Author.Tests.{ltb-false}
 use Rattle.model.specs.Basics.{maxEdges, maxVertices, inFront, rowSize}
@@ -20,26 +19,17 @@ use Rattle.tables.specs.Meaning.{tables}
 use Rattle.text.proofs.PageLaws.{write-front}
 use Rattle.chains.specs.Chains.{namesIn, sheetIn}
 use Rattle.chains.specs.Finding.{findIn, reachIn}
-use Rattle.agreement.proofs.Registers.{labels-long}
 use Rattle.agreement.proofs.Finding.{find-agrees, reach-agrees}
 use Rattle.agreement.proofs.Sheeting.{names-counted, sheet-agrees}
 use Rattle.questions.specs.Answering.{answered, sheetedIn}
 use Rattle.questions.proofs.Answers.{Answers}
 
--- the table of labels has 4,096 elements, so all are looked at
-labels-whole : (r : Register) → Reachable r → (labels : List ℕ) → (tablesOf r) .labels ≡ labels → take maxVertices labels ≡ labels
-unfolding tablesOf
-labels-whole r g labels e =
-    let n : maxVertices ≡ length labels = sym (labels-long r g) ∙ ap (λ (xs : List ℕ). length xs) e in
-    ap (λ (k : ℕ). take k labels) n ∙ take-length labels
-
-pub find-answers : (d s e l labels : List ℕ) (c : Counts) (label : ℕ) (a : Reply)
-    → a ≡ findIn (tables d s e l (take maxVertices labels)) c label → Answers (finds label) (tables d s e l labels) c [] a
+pub find-answers : (t : Tables) (c : Counts) (tree : List ℕ) (label : ℕ) (a : Reply) → 2 * maxVertices ≤ length tree
+    → a ≡ findIn t c tree label → Answers (finds label) t c [] a
 unfolding effect answer answers
-find-answers d s e l labels c label a h r k =
-    let w : take maxVertices labels ≡ labels = labels-whole r (k .reachable) labels (ap (λ (t : Tables). t .labels) (held-tables k)) in
-    let f : findIn (tables d s e l labels) c label ≡ find r label = rw (held-tables k, held-counts k) at (find-agrees r (k .reachable) label) in
-    rw (h, w, f)
+find-answers t c tree label a l h r k =
+    let f : findIn t c tree label ≡ find r label = rw (held-tables k, held-counts k) at (find-agrees r (k .reachable) label tree l) in
+    rw (h, f)
 
 pub reach-answers : (t : Tables) (c : Counts) (v : ℕ) (a : Reply) → a ≡ reachIn t c v → Answers (reaches v) t c [] a
 unfolding effect answer answers

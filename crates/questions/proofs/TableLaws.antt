@@ -12,7 +12,8 @@ use Rattle.model.specs.Basics.{rowSize}
 use Rattle.model.specs.Queries.{concat, found, reached, listed, refuses}
 use Rattle.model.specs.Tables.{Tables, Counts}
 use Rattle.tables.specs.Steps.{farIn, sum32}
-use Rattle.chains.specs.Chains.{WalkEnd, walkIn, namesIn, sheetIn, firstAt, nameIn}
+use Rattle.chains.specs.Chains.{WalkEnd, walkIn, namesIn, sheetIn, nameIn}
+use Rattle.chains.specs.Newest.{Sought, searchIn}
 use Rattle.chains.specs.Finding.{endToIn, findIn, lengthToIn, reachIn, wayIn}
 use Rattle.chains.proofs.SheetLaws.{sheet-count}
 use Rattle.text.specs.Pages.{page, write}
@@ -29,18 +30,17 @@ way-law ds ss es ls n d v w at l own r a b c e =
 module _ (t : Tables) (c : Counts) where
   -- ---- find
 
-  pub find-zero : (label : ℕ) → label ≡ 0 → refuses 8 ≡ findIn t c label
-  unfolding findIn
-  find-zero label h = rw (eq-eqb _ _ h, findIn)
+  module _ (tree : List ℕ) (label : ℕ) (s : Sought) (e : s ≡ searchIn (t .degrees) (t .sides) (t .ends) (t .labels) (c .vertices) (c .edges) label tree) where
+    pub find-nobody : none ≡ s .wearer → refuses 8 ≡ findIn t c tree label
+    unfolding findIn
+    find-nobody f = let g : (searchIn (t .degrees) (t .sides) (t .ends) (t .labels) (c .vertices) (c .edges) label tree) .wearer ≡ none = rw e at (sym f) in rw (g, findIn)
 
-  pub find-nobody : (label : ℕ) → (label ≡ 0 → ⊥) → none ≡ firstAt label (t .labels) → refuses 8 ≡ findIn t c label
-  unfolding findIn
-  find-nobody label h e = rw (ne-eqb _ _ h, ← e, findIn)
-
-  pub find-chain : (label v d r : ℕ) → (label ≡ 0 → ⊥) → some v ≡ firstAt label (t .labels) → d ≡ getD (t .sides) (2 * v) 0
-      → r ≡ nameIn (t .degrees) (t .sides) (t .ends) (c .edges) d → found r ≡ findIn t c label
-  unfolding findIn
-  find-chain label v d r h e f g = rw (ne-eqb _ _ h, ← e, findIn, ← f, g)
+    pub find-chain : (v d r : ℕ) → some v ≡ s .wearer → d ≡ getD (t .sides) (2 * v) 0
+        → r ≡ nameIn (t .degrees) (t .sides) (t .ends) (c .edges) d → found r ≡ findIn t c tree label
+    unfolding findIn
+    find-chain v d r f p q =
+        let g : (searchIn (t .degrees) (t .sides) (t .ends) (t .labels) (c .vertices) (c .edges) label tree) .wearer ≡ some v = rw e at (sym f) in
+        rw (g, findIn, ← p, q)
 
   -- ---- reach
 

@@ -1,17 +1,17 @@
 // Find: a label (document 01: tag) gives the name of its chain (run), or 8.
-use chains::lookup::Found;
-use chains::lookup::find_label;
 use chains::lookup::name_of;
+use chains::newest::Found;
+use chains::newest::search_label;
 use counters::counts::Counts;
 use counters::numbers::Edge;
 use counters::numbers::Label;
 use counters::refusals::Refusal;
 use tables::kinds::low_edge;
+use tables::whole::clear16;
 ghost use mathlib.Core.Path.{_≡_};
 ghost use mathlib.Core.List.{List};
 ghost use Prim.Native.Nat.{ℕ};
-ghost use lib.ListN.{take};
-ghost use Rattle.model.specs.Basics.{maxVertices};
+ghost use lib.ListN.{length, replicate};
 ghost use Rattle.counters.specs.Answers.{asCounts};
 ghost use Rattle.tables.specs.Meaning.{tables};
 ghost use Rattle.chains.specs.Finding.{findIn};
@@ -23,23 +23,31 @@ pub enum FoundChain {
     Refused(Refusal),
 }
 
-// Label 0 stands at every vertex that has none, so it is not looked for.
+// The tree is lent for the search.
 pub fn find_in(
     degrees: &[u16],
     sides: &[u16],
     ends: &[u16],
     labels: &[u32],
     counts: Counts,
+    tree: &mut [u16],
     label: Label,
 ) -> FoundChain
     ensures { λ r. ⌜ ((lengths : List ℕ) → foundReply r
-        ≡ findIn (tables (now (degrees .entry)) (now (sides .entry)) (now (ends .entry)) lengths (take maxVertices (now (labels .entry))))
-        (asCounts counts) (label .0)) ⌝ }
+        ≡ findIn (tables (now (degrees .entry)) (now (sides .entry)) (now (ends .entry)) lengths (now (labels .entry)))
+        (asCounts counts) (now (tree .entry)) (label .0)) ⌝ }
 {
-    if label.0 == 0 {
-        return FoundChain::Refused(Refusal::NotRegular);
-    }
-    let found = find_label(labels, label);
+    let searched = search_label(
+        degrees,
+        sides,
+        ends,
+        labels,
+        tree,
+        counts.vertices,
+        counts.edges,
+        label,
+    );
+    let found = searched.found;
     match found {
         Found::At(v) => {
             let edge = low_edge(sides, v);
@@ -48,4 +56,24 @@ pub fn find_in(
         }
         Found::Nothing => FoundChain::Refused(Refusal::NotRegular),
     }
+}
+
+// The same; the tree ends all zero.
+pub fn find_cleared(
+    degrees: &[u16],
+    sides: &[u16],
+    ends: &[u16],
+    labels: &[u32],
+    counts: Counts,
+    tree: &mut [u16],
+    label: Label,
+) -> FoundChain
+    ensures { λ r. ⌜ ((lengths : List ℕ) → foundReply r
+        ≡ findIn (tables (now (degrees .entry)) (now (sides .entry)) (now (ends .entry)) lengths (now (labels .entry)))
+        (asCounts counts) (now (tree .entry)) (label .0))
+        × (now (tree .exit) ≡ replicate (length (now (tree .entry))) 0) ⌝ }
+{
+    let found = find_in(degrees, sides, ends, labels, counts, tree, label);
+    clear16(tree);
+    found
 }

@@ -1,5 +1,5 @@
 use Rattle.calls.proofs.QueryLaws.{query-refused}
-use Rattle.calls.proofs.SheetLaws.{sheet-answered}
+use Rattle.calls.proofs.ScratchLaws.{sheet-answered}
 use Rattle.admission.specs.Gate.{gateRefusal}
 use Rattle.model.specs.Calls.{sheets, registerFor, lentSlice, lentTo}
 use mathlib.Core.Path.{refl, sym, ap, _∙_}

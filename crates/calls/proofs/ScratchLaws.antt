@@ -1,14 +1,14 @@
--- The sheet behind an open gate: the scratch that serves it for marks is left as the gate left it.
+-- Find and the sheet behind an open gate: the scratch that serves them is left as the gate left it.
 use mathlib.Core.Path.{_≡_, ap, _∙_}
-use Prim.Native.Nat.{ℕ, _*_}
+use Prim.Native.Nat.{ℕ, _*_, _≤_}
 use native.Mathlib.Omega.{arith}
 use mathlib.Core.Option.{none}
-use mathlib.Core.List.{List}
+use mathlib.Core.List.{List, []}
 use lib.ListN.{length, replicate, length-replicate}
 use Rattle.model.specs.Basics.{maxVertices}
 use Rattle.model.specs.Queries.{Reply}
 use Rattle.model.specs.Tables.{Tables, Counts, cleared}
-use Rattle.model.specs.Calls.{sheets, scratchAfter, step}
+use Rattle.model.specs.Calls.{finds, sheets, scratchAfter, step}
 use Rattle.model.proofs.Series.Calls.{scratch-cleared}
 use Rattle.tables.specs.Meaning.{tables}
 use Rattle.admission.specs.Lent.{lent, outcome}
@@ -16,9 +16,11 @@ use Rattle.admission.specs.Gate.{barred}
 use Rattle.admission.proofs.GateLaws.{opened}
 use Rattle.questions.specs.Answering.{answered, sheetedIn}
 use Rattle.questions.proofs.AnswerLaws.{sheet-answers}
+use Rattle.questions.proofs.Answers.{Answers}
 use Rattle.calls.proofs.QueryLaws.{query-answered}
 
--- The sheet over scratch g that the gate left: its degrees and its sides served for marks, and both are zeros again.
+-- Find and the sheet over scratch g that the gate left. Its sides served for the tournament; its degrees and its sides for marks. They are
+-- zeros again.
 module _ (t : Tables) (c : Counts) (s g : Tables) (h : none ≡ barred (lent t c s)) (e : g ≡ scratchAfter (lent t c s)) where
   zeros : g ≡ cleared
   zeros = e ∙ scratch-cleared (lent t c s) ((opened (lent t c s) h) .fit)
@@ -33,6 +35,15 @@ module _ (t : Tables) (c : Counts) (s g : Tables) (h : none ≡ barred (lent t c
 
   again : (xs : List ℕ) (n : ℕ) → xs ≡ replicate n 0 → replicate (length xs) 0 ≡ xs
   again xs n q = rw (q, length-replicate)
+
+  pub find-answered : (tree : List ℕ) (label : ℕ) (a : Reply) → (2 * maxVertices ≤ length (g .sides) → Answers (finds label) t c [] a)
+      → tree ≡ replicate (length (g .sides)) 0
+      → outcome t c (tables (g .degrees) tree (g .ends) (g .lengths) (g .labels)) [] a ≡ step (finds label) (lent t c s)
+  find-answered tree label a f n =
+      let n′ : tree ≡ g .sides = n ∙ again (g .sides) (2 * maxVertices) sides-are in
+      let u : tables (g .degrees) tree (g .ends) (g .lengths) (g .labels) ≡ g = rw n′ in
+      let l : 2 * maxVertices ≤ length (g .sides) = rw (sides-are, length-replicate) (omega arith) in
+      query-answered (finds label) (lent t c s) _ [] a h (u ∙ e) (f l)
 
   pub sheet-answered : (counting marks xs ys : List ℕ) (a : Reply) → answered ys a ≡ sheetedIn t c (g .degrees) (g .sides) xs
       → counting ≡ replicate (length (g .degrees)) 0 → marks ≡ replicate (length (g .sides)) 0
