@@ -87,7 +87,8 @@ pub fn reach_in(
         edges,
     );
     if degree_of(degrees, low.at) == 2 {
-        return Reached::Lengths(Millimetres(0), low.length);
+        let round = low.length;
+        return Reached::Lengths(Millimetres(0), round);
     }
     let high = go_along(
         degrees,
@@ -98,5 +99,7 @@ pub fn reach_in(
         vertex,
         edges,
     );
-    Reached::Lengths(low.length, high.length)
+    let to_low = low.length;
+    let to_high = high.length;
+    Reached::Lengths(to_low, to_high)
 }

@@ -56,7 +56,7 @@ module _ (ends lengths : List ℕ) (m goal : ℕ) where
 
   -- settled distances are the model's
   pub answers : (from : ℕ) (distances distances′ : List ℕ) (d : ℕ) (r : Distance) → from < maxVertices → goal < maxVertices → Grounded ends lengths m goal distances
-      → Settled ends lengths m from distances distances′ → d ≡ getD distances′ from 0 → (d < unreached → distanceIn r ≡ joined d) × (unreached ≤ d → distanceIn r ≡ notJoined)
+      → Settled ends lengths m from distances distances′ → d ≡ getD distances′ from 0 → (d < unreached → asDistance r ≡ joined d) × (unreached ≤ d → asDistance r ≡ notJoined)
       → (degrees sides labels : List ℕ) → asDistance r ≡ distance (storedEdges (tables degrees sides ends lengths labels) m) from goal
   answers from distances distances′ d r l l′ g s q c degrees sides labels =
       rw (edges-only degrees sides ends lengths labels m) (only-distance (edgesOf ends lengths m) from goal (asDistance r) (go (decLt d unreached)))

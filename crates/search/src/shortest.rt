@@ -39,7 +39,7 @@ pub fn start(distances: &mut [u32], goal: u16)
 
 // The answer for a settled distance.
 fn answer_of(distance: u32) -> Distance
-    ensures { λ r. ⌜ (distance < unreached → distanceIn r ≡ joined distance) × (unreached ≤ distance → distanceIn r ≡ notJoined) ⌝ }
+    ensures { λ r. ⌜ (distance < unreached → asDistance r ≡ joined distance) × (unreached ≤ distance → asDistance r ≡ notJoined) ⌝ }
 {
     if distance < UNREACHED {
         Distance::Joined(Millimetres(distance))
