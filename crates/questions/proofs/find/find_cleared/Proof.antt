@@ -1,10 +1,9 @@
-use lib.ListN.{replicate}
-use Prim.Native.Nat.{ℕ}
 use mathlib.Core.Path.{ap, _∙_}
+use Prim.Native.Nat.{ℕ}
+use lib.ListN.{replicate}
 use borrow.Author.Needs.{needs}
 use Rattle.questions.proofs.find.find_cleared.Statement.{statement}
 use Rattle.questions.proofs.find.find_cleared.Tie as tie
-use Rattle.questions.proofs.find.find_cleared.Lts as lts
 
 find-in-requires : tie.Need-find-in-requires
 find-in-requires c κs = search needs
@@ -17,9 +16,8 @@ same-length c = search needs
 
 returns : tie.Need-returns
 returns c =
-    let at-clear16 = c .before .before in
-    let at-find-in = at-clear16 .before .before .before .before in
-    (at-find-in .find-in .ensures, at-clear16 .clear16 .ensures ∙ ap (λ (n : ℕ). replicate n 0) (at-find-in .find-in .kept .1 .1 .1 .1 .1 .0))
+    let at-find-in = c .before .before .before .before .before .before in
+    (at-find-in .find-in .ensures, c .before .before .clear16 .ensures ∙ ap (λ (n : ℕ). replicate n 0) (at-find-in .find-in .kept .1 .1 .1 .1 .1 .0))
 
 pub find-cleared-spec : {M : Type 1} → statement M
 find-cleared-spec = tie.close (tie.spec find-in-requires clear16-requires same-length returns)
