@@ -1,5 +1,5 @@
 use Rattle.questions.proofs.TableLaws.{reach-past, reach-singular, reach-round, reach-both}
-use Rattle.tables.specs.Steps.{tables}
+use Rattle.tables.specs.Meaning.{tables}
 use mathlib.Core.Path.{sym, _∙_}
 use borrow.Author.Needs.{needs}
 use Rattle.questions.proofs.reach.reach_in.Statement.{statement}

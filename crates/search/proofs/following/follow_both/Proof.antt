@@ -3,8 +3,8 @@ use native.Mathlib.Omega.{arith}
 use mathlib.Core.Path.{refl}
 use Rattle.search.proofs.Relaxing.{keeps-same, keeps-on}
 use Rattle.search.proofs.Searching.{Searching}
-use Rattle.search.proofs.chains.follow_both.Statement.{statement}
-use Rattle.search.proofs.chains.follow_both.Tie as tie
+use Rattle.search.proofs.following.follow_both.Statement.{statement}
+use Rattle.search.proofs.following.follow_both.Tie as tie
 
 -- the distances stay grounded; the tables keep their lengths
 abbrev Inv-loop : tie.InvT-loop

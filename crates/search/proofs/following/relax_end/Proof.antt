@@ -4,8 +4,8 @@ use native.Mathlib.Omega.{arith}
 use Prim.Native.Nat.{_≤_, _*_, _-_, _/_}
 use mathlib.Core.Path.{refl}
 use borrow.Author.Needs.{needs}
-use Rattle.search.proofs.chains.relax_end.Statement.{statement}
-use Rattle.search.proofs.chains.relax_end.Tie as tie
+use Rattle.search.proofs.following.relax_end.Statement.{statement}
+use Rattle.search.proofs.following.relax_end.Tie as tie
 
 returns : tie.Need-returns
 returns c = search keeps-same
