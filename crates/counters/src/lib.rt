@@ -1,5 +1,5 @@
 // The numbers of document 01 as types of their own, its refusals, and the head and the sizes of a register.
-// numbers: fitting, tag and length; refusals: their names and numbers; answers: what a list is answered with; counts: the head;
+// numbers: fitting, pipe, tag and length; refusals: their names and numbers; answers: what a list is answered with; counts: the head;
 // sizes: of the lent tables.
 pub mod answers;
 pub mod counts;

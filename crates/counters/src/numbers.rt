@@ -79,7 +79,7 @@ pub enum CheckedLabel {
 impl Label {
     pub const MAX: u32 = 4294967295;
 
-    // Document 01 asks a checked constructor of each counter; no call here needs it.
+    // Every number of 32 bits passes; what C says goes through it.
     pub fn new(n: u64) -> CheckedLabel
         ensures { λ r. ⌜ asLabel r ≡ within 0 (2 ^ 32 - 1) n ⌝ }
     {
@@ -90,7 +90,7 @@ impl Label {
     }
 }
 
-// The length of one pipe.
+// A length: of one pipe by `new`, which MIN and MAX bound; a sum of them by `add_lengths` of tables.
 pub struct Millimetres(pub u32);
 
 pub enum CheckedMillimetres {

@@ -1,5 +1,5 @@
 // Reads and writes by kind: a table of labels gives and takes labels, one of lengths lengths, the ends vertices, the sides edges. The
-// lent tables are slices of numbers; here, and nowhere above, a number that is read from one gets its kind.
+// lent tables are slices of numbers; here and in steps a number that is read from one gets its kind.
 use crate::access::at16;
 use crate::access::of16;
 use crate::access::of32;
