@@ -37,6 +37,16 @@ static int get(void)
     return c;
 }
 
+/* The first byte of the text behind a byte order mark, which some editors write in front; a part of one is a byte of no record. */
+static int get_first(void)
+{
+    int c = get();
+
+    if (c != 0xef)
+        return c;
+    return get() == 0xbb && get() == 0xbf ? get() : c;
+}
+
 static int skip_blanks(int c)
 {
     while (c == ' ' || c == '\t')
@@ -44,8 +54,8 @@ static int skip_blanks(int c)
     return c;
 }
 
-/* Behind a record, or in a line without one: blanks, and perhaps a comment. A lone carriage return ends neither: what an editor shows
- * behind it as a line would be hidden. */
+/* Behind a record, or in a line without one: blanks, and perhaps a comment. A lone carriage return is neither blank nor comment, so its
+ * line is refused: what an editor shows behind it as a line would be hidden. */
 static int skip_rest(int c)
 {
     c = skip_blanks(c);
@@ -67,9 +77,13 @@ static int read_number(int c, uint32_t *number, int *found)
     return c;
 }
 
-static int no_record(void)
+/* A line that ends with c is no record, or its end is missing: then the rest of a number may be missing too. */
+static int no_record(int c)
 {
-    fprintf(stderr, "valve: line %lu: a record is a recipe (0 to 65535) and the ml passed, in digits: '7 1200'\n", line);
+    if (c != EOF)
+        fprintf(stderr, "valve: line %lu: a record is a recipe (0 to 65535) and the ml passed, in digits: '7 1200'\n", line);
+    else if (!ferror(stdin))
+        fprintf(stderr, "valve: line %lu: not finished: its end is missing\n", line);
     return 2;
 }
 
@@ -80,16 +94,19 @@ static int take_line(int *c)
     int32_t returned;
     int found, blank;
 
-    *c = skip_rest(get());
-    if (*c == '\n' || *c == EOF)
+    *c = line == 1 ? get_first() : get();
+    if (*c == EOF)
+        return 0;
+    *c = skip_rest(*c);
+    if (*c == '\n')
         return 0;
     *c = read_number(*c, &recipe, &found);
     blank = *c == ' ' || *c == '\t';
     if (!found || !blank || recipe > 65535)
-        return no_record();
+        return no_record(*c);
     *c = skip_rest(read_number(skip_blanks(*c), &amount, &found));
-    if (!found || (*c != '\n' && *c != EOF))
-        return no_record();
+    if (!found || *c != '\n')
+        return no_record(*c);
     returned = pnl_record_arrives(&valve, (uint16_t)recipe, amount);
     if (returned == 0)
         return 0;
@@ -125,6 +142,10 @@ int main(int argc, char **argv)
     if (status != 0)
         return status;
     recipe = pnl_recipe_at(&valve, (uint32_t)volume);
+    if (recipe < 0) {
+        fprintf(stderr, "valve: refusal %" PRId32 ": %s\n", -recipe, pnl_refusal_text(recipe));
+        return 1;
+    }
     if (recipe == PNL_VALVE_OLDER)
         printf("older than the window\n");
     else

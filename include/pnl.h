@@ -48,7 +48,7 @@
  *
  * A caller finds a run by a tag that somebody read in the trench. No call gives the tag of a fitting.
  *
- * The calls that begin with pnl_valve take no list: they stand at the end, with what they are about.
+ * The calls on a valve's window take no list: they stand at the end, with what they are about.
  */
 #ifndef PNL_H
 #define PNL_H
@@ -120,7 +120,7 @@ static inline const char *pnl_refusal_text(int32_t returned)
     case PNL_REFUSED_TOO_MANY_FITTINGS: return "there are 4,096 fittings already";
     case PNL_REFUSED_TOO_MANY_PIPES: return "there are 4,096 pipes already";
     case PNL_REFUSED_WINDOW: return "no records leave such a window";
-    case PNL_REFUSED_WRONG_SIZE: return "a table has not 1,440 places";
+    case PNL_REFUSED_WRONG_SIZE: return "a table does not have 1,440 places";
     case PNL_REFUSED_AMOUNT: return "the record is above 1,000,000 ml";
     case PNL_REFUSED_NO_COUPLING: return "no coupling wears that tag, or the fitting is no coupling";
     case PNL_REFUSED_SHORT_ANSWER: return "the answer does not fit in the bytes given for it";
@@ -183,7 +183,8 @@ struct pnl_valve {
     uint32_t sum;
 };
 
-/* The record of this minute: it takes the place of the oldest. Returns 0. A record of 0 ml takes a place too.
+/* The record of this minute: it takes the place of the oldest. Returns 0. A record of 0 ml takes a place too. C cuts a wider recipe number
+ * to 16 bits without a word: test it first.
  *
  * Refusals: PNL_REFUSED_WRONG_SIZE; PNL_REFUSED_WINDOW; PNL_REFUSED_AMOUNT. */
 int32_t pnl_valve_arrive(uint16_t *recipes, size_t recipes_len, uint32_t *amounts, size_t amounts_len, uint16_t *next, uint32_t *sum,

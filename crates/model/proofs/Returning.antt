@@ -1,14 +1,13 @@
 -- A vertex beside a split, to which relabellings return (document 02, S-12): its chain starts small again. The series is computed, and refutes
 -- a single logarithm.
 use mathlib.Core.Path.{_≡_, refl, subst}
-use Prim.Native.Nat.{ℕ, _+_, _≤_, _<_}
+use Prim.Native.Nat.{ℕ, _≤_, _<_}
 use native.Mathlib.Omega.{arith}
 use mathlib.Core.Bool.{true}
 use mathlib.Core.List.{List, [], _∷_, _++_}
 use lib.ListN.{length}
-use lib.Dec.{leb, ltb}
 use Rattle.model.specs.Basics.{floorLog, greatest}
-use Rattle.model.specs.Graph.{Edge, Pass, edgeAt, endOnwards, endsAt, far, isLeaf, isRegular, onwards}
+use Rattle.model.specs.Graph.{Edge, chainOf, edgeAt, endOnwards, endsAt, far, isLeaf, isRegular, onwards}
 use Rattle.model.specs.Register.{empty}
 use Rattle.model.specs.Format.{listOf}
 use Rattle.model.specs.Tables.{cleared}
@@ -45,14 +44,15 @@ pub record Returning : Type 0 where
   pub accepted : length (since returning empty []) ≡ 24
   pub times : timesRelabelled 1 (since returning empty []) ≡ 5
   pub logarithm : floorLog (length (since returning empty [])) ≡ 4
-  pub within : leb 5 (mostTimes 24) ≡ true
+  pub bound : mostTimes 24 ≡ 8
   pub times-beside : timesRelabelled 1 (since beside empty []) ≡ 2
   pub edges-beside : length besideEdges ≡ 14
   pub meets : endsAt 1 (edgeAt besideEdges 0) ≡ 1
   pub regular : isRegular besideEdges 1 ≡ true
   pub leaf : isLeaf besideEdges (endOnwards besideEdges 0 (far besideEdges 0 1)) ≡ true
   pub passes : onwards besideEdges 0 (far besideEdges 0 1) ≡ []
-  pub within-beside : ltb 2 (floorLog (leafRoom 0 14)) ≡ true
+  pub room-beside : leafRoom 0 14 ≡ 14
+  pub chain-beside : length ((chainOf besideEdges 0) .edges) ≡ 2
 
 pub returned : Returning
 unfolding computing lists every beside returning
@@ -61,29 +61,32 @@ returned =
       accepted = refl;
       times = refl;
       logarithm = refl;
-      within = refl;
+      bound = refl;
       times-beside = refl;
       edges-beside = refl;
       meets = refl;
       regular = refl;
       leaf = refl;
       passes = refl;
-      within-beside = refl;
+      room-beside = refl;
+      chain-beside = refl;
     }
 
--- ---- so neither the 2 in the bound for one vertex can be left out, nor, where its chain has one leaf, the number of all edges
+-- ---- so neither the 2 in the bound for one vertex can be left out, nor, where its chain has one leaf, the number of all edges: there those of
+-- its own chain do not bound it, as they do on a ring and between two leaves
 
 pub needs-two : ((ms : List Made) (v : ℕ) → 1 ≤ length (since ms empty []) → timesRelabelled v (since ms empty []) ≤ floorLog (length (since ms empty []))) → ⊥
 needs-two few = omega (arith, few returning 1 (omega (arith, returned .accepted)), returned .times, returned .logarithm)
 
-logarithm-of-one : floorLog 1 ≡ 0
+logarithm-of-two : floorLog 2 ≡ 1
 unfolding floorLog greatest
-logarithm-of-one = refl
+logarithm-of-two = refl
 
 pub needs-all-edges : ((ms : List Made) (v d : ℕ)
     → let es = (after ms empty) .edges in d < length es → endsAt v (edgeAt es d) ≡ 1 → isRegular es v ≡ true → isLeaf es (endOnwards es d (far es d v)) ≡ true
-    → timesRelabelled v (since ms empty []) < floorLog (length (onwards es d (far es d v)) + 1)) → ⊥
+    → timesRelabelled v (since ms empty []) ≤ floorLog (length ((chainOf es d) .edges))) → ⊥
 needs-all-edges few =
-    let two : 2 < floorLog 1 = subst (λ (n : ℕ). n < floorLog 1) (returned .times-beside)
-    (subst (λ (ss : List Pass). timesRelabelled 1 (since beside empty []) < floorLog (length ss + 1)) (returned .passes) (few beside 1 0 (omega (arith, returned .edges-beside)) (returned .meets) (returned .regular) (returned .leaf))) in
-    omega (arith, two, logarithm-of-one)
+    let most : timesRelabelled 1 (since beside empty []) ≤ floorLog 2 =
+    subst (λ (n : ℕ). timesRelabelled 1 (since beside empty []) ≤ floorLog n) (returned .chain-beside)
+    (few beside 1 0 (omega (arith, returned .edges-beside)) (returned .meets) (returned .regular) (returned .leaf)) in
+    omega (arith, most, returned .times-beside, logarithm-of-two)

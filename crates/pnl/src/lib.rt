@@ -1,5 +1,5 @@
-// The calls from C. Each grows the list in arrays of its own, asks the register, and answers in the lent slice; nothing is kept between
-// calls. include/pnl.h says the same in C.
+// The calls from C. Those of this file grow the list in arrays of their own, ask the register, and answer in the lent slice, and nothing is
+// kept between calls; `recipes` has the two on a valve's window, which take no list. include/pnl.h says the same in C.
 mod answers;
 mod checked;
 mod distances;

@@ -1,5 +1,5 @@
-//! `times`: lands the houses that return to one fitting as often as any that we know, and prints how
-//! often that is beside the bound of document 02, S-12. A bound that is passed ends it with code 1.
+//! `times`: lands houses made to return to one fitting often, and prints how often that is beside the
+//! bound of document 02, S-12. A bound that is passed ends it with code 1.
 
 use std::process::ExitCode;
 

@@ -115,7 +115,7 @@ pub fn balanced_merges(random: &mut Random, size: usize) -> Layout {
 
 /// A line through fitting 1 gives way to lines that are as long, and is then split beside it. Its part
 /// of the line, small again, gives way to lines that are as long, at last to the other part of the line:
-/// no house that we know re-hangs one tag more often.
+/// made to return to one fitting often.
 pub fn returning(_: &mut Random, size: usize) -> Layout {
     let times = (size / 6).max(1).ilog2();
     let mut layout = Layout::default();

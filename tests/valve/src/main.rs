@@ -139,11 +139,12 @@ fn ask(
     Ok(())
 }
 
-/// One series from empty, past the end of the tables more than twice, and damaged windows on the way.
+/// One series from empty, past the end of the tables, and damaged windows on the way.
 fn series(random: &mut Random, kind: usize, tally: &mut Tally) -> Result<(), String> {
     let mut mixer = Mixer::default();
     let mut window = mixer.window();
     let mut recipe_now = 0;
+    let taken_before = tally.taken;
     for number in 0..3_000 + random.below(1_000) {
         let record = draw_record(random, &mut recipe_now, kind);
         let returned = arrive(&mut window, record);
@@ -155,12 +156,12 @@ fn series(random: &mut Random, kind: usize, tally: &mut Tally) -> Result<(), Str
             true => tally.taken += 1,
             false => tally.count(returned),
         }
-        tally.pushed_out += usize::from(taken && number >= MINUTES);
         ask(random, &mixer, &window, tally)?;
         if random.below(100) == 0 {
             damaged(random, &window, tally)?;
         }
     }
+    tally.pushed_out += (tally.taken - taken_before).saturating_sub(MINUTES);
     Ok(())
 }
 
