@@ -5,7 +5,6 @@ use mathlib.Core.List.{List}
 use Prim.Native.Nat.{ℕ}
 use borrow.Author.Tests.{eq-eqb, ne-eqb}
 use lib.ListN.{getD}
-use Rattle.model.specs.Cases.{Case}
 use Rattle.counters.specs.declared.numbers.Vertex.{Vertex}
 use Rattle.tables.specs.Steps.{setPair, raiseBothIn}
 use Rattle.labels.specs.Labelling.{marksIn, extendIn}
@@ -34,17 +33,17 @@ module _ (degrees s ends l degrees′ s′ l′ : List ℕ) (blocks a b blocks�
   unfolding openedIn
   opened-law s₁ s₂ h i j k = rw (← h, ← i, ← j, ← k)
 
-  pub open-nothing : (extension said : Extension) → extension ≡ Nothing → extension ≡ said
+  pub open-nothing : (extension : Extension) → extension ≡ Nothing
       → placed degrees′ s′ l′ blocks′ m ring ≡ openedIn splits degrees s ends l blocks a b e rings
-      → placed degrees′ s′ l′ blocks′ m ring ≡ openIn splits said degrees s ends l blocks a b e rings
-  open-nothing extension said o q h = rw (← q, o) h
+      → placed degrees′ s′ l′ blocks′ m ring ≡ openIn splits extension degrees s ends l blocks a b e rings
+  open-nothing extension o h = rw o h
 
-  pub open-leaf : (extension said : Extension) (x : Vertex) (s₁ l₁ : List ℕ) (k₁ k m₁ : ℕ) (ring₁ : Bool) → extension ≡ Leaf x → extension ≡ said
+  pub open-leaf : (extension : Extension) (x : Vertex) (s₁ l₁ : List ℕ) (k₁ k m₁ : ℕ) (ring₁ : Bool) → extension ≡ Leaf x
       → placed degrees′ s₁ l₁ k₁ m₁ ring₁ ≡ openedIn splits degrees s ends l blocks a b e rings
       → marksIn s′ l′ k ≡ extendIn degrees′ s₁ ends l₁ k₁ (x .0) e → (blocks′ ≡ k) × (m ≡ m₁) × (ring ≡ false)
-      → placed degrees′ s′ l′ blocks′ m ring ≡ openIn splits said degrees s ends l blocks a b e rings
+      → placed degrees′ s′ l′ blocks′ m ring ≡ openIn splits extension degrees s ends l blocks a b e rings
   unfolding goesOnIn
-  open-leaf extension said x s₁ l₁ k₁ k m₁ ring₁ o q h g z = rw (← q, o, z .0, z .1, z .2, ← h, ← g)
+  open-leaf extension x s₁ l₁ k₁ k m₁ ring₁ o h g z = rw (o, z .0, z .1, z .2, ← h, ← g)
 
 module _ (degrees s ends l degrees′ s′ l′ : List ℕ) (blocks a b blocks′ m e : ℕ) (ring : Bool) where
   pub merged-law : changed s′ l′ blocks′ m ring ≡ mergeIn degrees s ends l blocks a b e e → degrees′ ≡ raiseBothIn degrees a b
@@ -53,6 +52,6 @@ module _ (degrees s ends l degrees′ s′ l′ : List ℕ) (blocks a b blocks�
   merged-law h j = rw (← h, ← j)
 
 -- what is done is what the case says
-pub work-given : (case : Case) (degrees s ends l : List ℕ) (blocks a b e : ℕ) (rings : Bool) (work work′ said : Work) (p : Placed) → work ≡ work′
-    → work ≡ said → p ≡ workIn work′ case degrees s ends l blocks a b e rings → p ≡ workIn said case degrees s ends l blocks a b e rings
-work-given case degrees s ends l blocks a b e rings work work′ said p q h g = rw (← h, q) g
+pub work-given : (degrees s ends l : List ℕ) (blocks a b e : ℕ) (rings : Bool) (work work′ said : Work) (p : Placed) → work ≡ work′ → work ≡ said
+    → p ≡ workIn work′ degrees s ends l blocks a b e rings → p ≡ workIn said degrees s ends l blocks a b e rings
+work-given degrees s ends l blocks a b e rings work work′ said p q h g = rw (← h, q) g

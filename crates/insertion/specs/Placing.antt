@@ -22,29 +22,16 @@ use Rattle.insertion.specs.declared.placing.Work.the-variants.{Merge, Op
 
 -- what is done in each case; a ring is closed as two chains are merged
 abbrev pub workFor : Case → ℕ → ℕ → Work
-workFor newChain a b = Open Neither
-workFor (extends firstNamed) a b = Open Neither
-workFor (extends secondNamed) a b = Open Neither
+workFor newChain a b = Open Neither Nothing
+workFor (extends firstNamed) a b = Open Neither (Leaf (vertexOf a))
+workFor (extends secondNamed) a b = Open Neither (Leaf (vertexOf b))
 workFor merges a b = Merge
 workFor closes a b = Merge
-workFor (splitExtends firstNamed) a b = Open (One (vertexOf b) (vertexOf a))
-workFor (splitExtends secondNamed) a b = Open (One (vertexOf a) (vertexOf b))
-workFor (splitNew firstNamed) a b = Open (One (vertexOf a) (vertexOf b))
-workFor (splitNew secondNamed) a b = Open (One (vertexOf b) (vertexOf a))
-workFor splitBoth a b = Open Both
-
--- the leaf whose chain then goes on
-abbrev pub extensionFor : Case → ℕ → ℕ → Extension
-extensionFor newChain a b = Nothing
-extensionFor (extends firstNamed) a b = Leaf (vertexOf a)
-extensionFor (extends secondNamed) a b = Leaf (vertexOf b)
-extensionFor merges a b = Nothing
-extensionFor closes a b = Nothing
-extensionFor (splitExtends firstNamed) a b = Leaf (vertexOf a)
-extensionFor (splitExtends secondNamed) a b = Leaf (vertexOf b)
-extensionFor (splitNew firstNamed) a b = Nothing
-extensionFor (splitNew secondNamed) a b = Nothing
-extensionFor splitBoth a b = Nothing
+workFor (splitExtends firstNamed) a b = Open (One (vertexOf b) (vertexOf a)) (Leaf (vertexOf a))
+workFor (splitExtends secondNamed) a b = Open (One (vertexOf a) (vertexOf b)) (Leaf (vertexOf b))
+workFor (splitNew firstNamed) a b = Open (One (vertexOf a) (vertexOf b)) Nothing
+workFor (splitNew secondNamed) a b = Open (One (vertexOf b) (vertexOf a)) Nothing
+workFor splitBoth a b = Open Both Nothing
 
 -- edge e comes to v: an isolated one gets e as its low side, any other is left
 unfoldable pub meetIn : List ℕ → List ℕ → ℕ → ℕ → List ℕ
@@ -87,14 +74,14 @@ mergedIn degrees sides ends labels blocks a b e =
     let c = mergeIn degrees sides ends labels blocks a b e e in
     placed (raiseBothIn degrees a b) (c .sides) (c .labels) (c .blocks) (c .relabellings) (c .ring)
 
-abbrev pub workIn : Work → Case → List ℕ → List ℕ → List ℕ → List ℕ → ℕ → ℕ → ℕ → ℕ → Bool → Placed
-workIn Merge case degrees sides ends labels blocks a b e rings = mergedIn degrees sides ends labels blocks a b e
-workIn (Open splits) case degrees sides ends labels blocks a b e rings =
-    openIn splits (extensionFor case a b) degrees sides ends labels blocks a b e rings
+abbrev pub workIn : Work → List ℕ → List ℕ → List ℕ → List ℕ → ℕ → ℕ → ℕ → ℕ → Bool → Placed
+workIn Merge degrees sides ends labels blocks a b e rings = mergedIn degrees sides ends labels blocks a b e
+workIn (Open splits extension) degrees sides ends labels blocks a b e rings =
+    openIn splits extension degrees sides ends labels blocks a b e rings
 
 abbrev pub placeIn : Case → List ℕ → List ℕ → List ℕ → List ℕ → ℕ → ℕ → ℕ → ℕ → Bool → Placed
 placeIn case degrees sides ends labels blocks a b e rings =
-    workIn (workFor case a b) case degrees sides ends labels blocks a b e rings
+    workIn (workFor case a b) degrees sides ends labels blocks a b e rings
 
 -- edge e placed in the tables, by the degrees of its ends; rings: a ring may stand
 abbrev pub placedBy : Tables → Counts → Bool → Edge → Placed

@@ -12,7 +12,7 @@ use tables::kinds::degree_of;
 use tables::kinds::put_sides;
 use tables::steps::raise_both;
 ghost use mathlib.Core.Path.{_≡_};
-ghost use Rattle.insertion.specs.Placing.{meetIn, placed, openedIn, openIn, mergedIn, workFor, extensionFor, placeIn};
+ghost use Rattle.insertion.specs.Placing.{meetIn, placed, openedIn, openIn, mergedIn, workFor, placeIn};
 ghost use Rattle.insertion.specs.Meaning.{asCase};
 
 // The leaf whose chain goes on over the edge, if one does.
@@ -25,7 +25,7 @@ pub enum Extension {
 // leaf's chain goes on.
 pub enum Work {
     Merge,
-    Open(Splits),
+    Open(Splits, Extension),
 }
 
 // Document 01's cases. Document 02's ring is closed where chains are merged, and tapped where one is split.
@@ -33,32 +33,15 @@ fn work_of(case: Case, a: Vertex, b: Vertex) -> Work
     ensures { λ r. ⌜ r ≡ workFor (asCase case) (a .0) (b .0) ⌝ }
 {
     match case {
-        Case::New => Work::Open(Splits::Neither),
-        Case::ExtendFirst => Work::Open(Splits::Neither),
-        Case::ExtendSecond => Work::Open(Splits::Neither),
+        Case::New => Work::Open(Splits::Neither, Extension::Nothing),
+        Case::ExtendFirst => Work::Open(Splits::Neither, Extension::Leaf(a)),
+        Case::ExtendSecond => Work::Open(Splits::Neither, Extension::Leaf(b)),
         Case::Merge => Work::Merge,
-        Case::SplitExtendFirst => Work::Open(Splits::One(b, a)),
-        Case::SplitExtendSecond => Work::Open(Splits::One(a, b)),
-        Case::SplitFirst => Work::Open(Splits::One(a, b)),
-        Case::SplitSecond => Work::Open(Splits::One(b, a)),
-        Case::SplitBoth => Work::Open(Splits::Both),
-    }
-}
-
-// The leaf whose chain goes on, by the case. It is asked for after both ends are opened: kept from before, it would cost two registers.
-fn extension_of(case: Case, a: Vertex, b: Vertex) -> Extension
-    ensures { λ r. ⌜ r ≡ extensionFor (asCase case) (a .0) (b .0) ⌝ }
-{
-    match case {
-        Case::New => Extension::Nothing,
-        Case::ExtendFirst => Extension::Leaf(a),
-        Case::ExtendSecond => Extension::Leaf(b),
-        Case::Merge => Extension::Nothing,
-        Case::SplitExtendFirst => Extension::Leaf(a),
-        Case::SplitExtendSecond => Extension::Leaf(b),
-        Case::SplitFirst => Extension::Nothing,
-        Case::SplitSecond => Extension::Nothing,
-        Case::SplitBoth => Extension::Nothing,
+        Case::SplitExtendFirst => Work::Open(Splits::One(b, a), Extension::Leaf(a)),
+        Case::SplitExtendSecond => Work::Open(Splits::One(a, b), Extension::Leaf(b)),
+        Case::SplitFirst => Work::Open(Splits::One(a, b), Extension::Nothing),
+        Case::SplitSecond => Work::Open(Splits::One(b, a), Extension::Nothing),
+        Case::SplitBoth => Work::Open(Splits::Both, Extension::Nothing),
     }
 }
 
@@ -109,7 +92,7 @@ fn open_both(
 // which the edge makes a loop, the leaf is labelled by what the split left, with the new degrees.
 fn place_open(
     splits: Splits,
-    case: Case,
+    extension: Extension,
     degrees: &mut [u16],
     sides: &mut [u16],
     ends: &[u16],
@@ -121,10 +104,9 @@ fn place_open(
     rings: bool,
 ) -> ChainChange
     ensures { λ r. ⌜ placed (now (degrees .exit)) (now (sides .exit)) (now (labels .exit)) (r .blocks) (r .relabellings) (r .ring)
-        ≡ openIn splits (extensionFor (asCase case) (a .0) (b .0)) (now (degrees .entry)) (now (sides .entry)) (now (ends .entry)) (now (labels .entry)) blocks (a .0) (b .0) (e .0) rings ⌝ }
+        ≡ openIn splits extension (now (degrees .entry)) (now (sides .entry)) (now (ends .entry)) (now (labels .entry)) blocks (a .0) (b .0) (e .0) rings ⌝ }
 {
     let c = open_both(splits, degrees, sides, ends, labels, blocks, a, b, e, rings);
-    let extension = extension_of(case, a, b);
     match extension {
         Extension::Nothing => c,
         Extension::Leaf(x) => {
@@ -172,9 +154,9 @@ pub fn place_edge(
     let work = work_of(case, a, b);
     match work {
         Work::Merge => place_merged(degrees, sides, ends, labels, blocks, a, b, e),
-        Work::Open(splits) => place_open(
+        Work::Open(splits, extension) => place_open(
             splits,
-            case,
+            extension,
             degrees,
             sides,
             ends,

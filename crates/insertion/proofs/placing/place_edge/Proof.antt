@@ -32,7 +32,7 @@ returns c =
     let at-place-merged = c .before .before .before .before .before .before in
     let at-enum-told = at-place-merged .before .before .before .before in
     let at-work-of = at-enum-told .before .before in
-    work-given _ _ _ _ _ _ _ _ _ _ _ _ _ _ (at-enum-told .enum-told .given .1) (at-work-of .work-of .ensures) (at-place-merged .place-merged .ensures)
+    work-given _ _ _ _ _ _ _ _ _ _ _ _ _ (at-enum-told .enum-told .given .1) (at-work-of .work-of .ensures) (at-place-merged .place-merged .ensures)
 
 same-length-4 : tie.Need-same-length-4
 same-length-4 c = search needs
@@ -48,7 +48,7 @@ returns-2 c =
     let at-place-open = c .before .before .before .before .before .before in
     let at-work = at-place-open .before .before .before .before .before in
     let at-work-of = at-work .before .before in
-    work-given _ _ _ _ _ _ _ _ _ _ _ _ _ _ (at-work .work .given .1) (at-work-of .work-of .ensures) (at-place-open .place-open .ensures)
+    work-given _ _ _ _ _ _ _ _ _ _ _ _ _ (at-work .work .given .1) (at-work-of .work-of .ensures) (at-place-open .place-open .ensures)
 
 pub place-edge-spec : {M : Type 1} → statement M
 place-edge-spec =

@@ -6,9 +6,6 @@ use Rattle.insertion.proofs.placing.place_open.Tie as tie
 open-both-requires : tie.Need-open-both-requires
 open-both-requires c κs = search needs
 
-extension-of-requires : tie.Need-extension-of-requires
-extension-of-requires c κs = search needs
-
 enum-told : tie.Need-enum-told
 enum-told c = search needs
 
@@ -32,9 +29,8 @@ same-length-3 c = search needs
 
 returns : tie.Need-returns
 returns c =
-    let at-extension-of = c .before .before in
-    let at-open-both = at-extension-of .before .before .before .before .before .before .before in
-    open-nothing _ _ _ _ _ _ _ _ _ _ _ _ _ _ _ _ _ _ (c .enum-told .given .1) (at-extension-of .extension-of .ensures) (at-open-both .open-both .ensures)
+    let at-open-both = c .before .before .before .before .before .before .before .before in
+    open-nothing _ _ _ _ _ _ _ _ _ _ _ _ _ _ _ _ _ (c .enum-told .given .1) (at-open-both .open-both .ensures)
 
 same-length-4 : tie.Need-same-length-4
 same-length-4 c = search needs
@@ -49,16 +45,14 @@ returns-2 : tie.Need-returns-2
 returns-2 c =
     let at-extend-chain = c .before .before .before .before .before in
     let at-extension = at-extend-chain .before .before .before .before .before in
-    let at-extension-of = at-extension .before .before in
-    let at-open-both = at-extension-of .before .before .before .before .before .before .before in
-    open-leaf _ _ _ _ _ _ _ _ _ _ _ _ _ _ _ _ _ _ _ _ _ _ _ _ _ (at-extension .extension .given .1) (at-extension-of .extension-of .ensures) (at-open-both .open-both .ensures) (at-extend-chain .extend-chain .ensures) (c .new .ensures)
+    let at-open-both = at-extension .before .before .before .before .before .before .before .before in
+    open-leaf _ _ _ _ _ _ _ _ _ _ _ _ _ _ _ _ _ _ _ _ _ _ _ _ (at-extension .extension .given .1) (at-open-both .open-both .ensures) (at-extend-chain .extend-chain .ensures) (c .new .ensures)
 
 pub place-open-spec : {M : Type 1} → statement M
 place-open-spec =
     tie.close
     (tie.spec
     open-both-requires
-    extension-of-requires
     enum-told
     enum-known-extension
     extend-chain-requires
