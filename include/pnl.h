@@ -1,6 +1,6 @@
 /* pnl.h: the feed main register, called from C. Link with libpnl.a (x86-64 Linux); beside it stand pnl.pc and pnl.cmake.
  *
- * Each call takes a list, the bytes of a "PNL" file, grows the register from it in tables on its own stack, and writes its answer
+ * Each call on a house takes a list, the bytes of a "PNL" file, grows the register from it in tables on its own stack, and writes its answer
  * to the front of `answer` as little-endian 32-bit numbers.
  *
  *   List       3 bytes "PNL"; a 16-bit version, 1; then records. A record is the byte 0x46 alone, which lands a fitting; or the byte
