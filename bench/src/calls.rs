@@ -154,7 +154,7 @@ fn legs(count: usize) -> Edges {
     (0..count).flat_map(|leg| [(0, 2 * leg + 1), (2 * leg + 1, 2 * leg + 2)]).collect()
 }
 
-/// Find by the age of a tag: the highest lowest tag is the newest run's, the lowest tag the oldest one's, and the last is nobody's.
+/// Find by the age of a tag: the highest tag is the newest run's, the lowest the oldest one's, and the last is nobody's.
 pub fn newest_table(random: &mut Random) {
     println!("find from the newest run, on full lists");
     println!("{:<26} {:>9} {:>9} {:>9} {:>9} {:>6}", "shape", "grow", "newest", "oldest", "none", "ratio");

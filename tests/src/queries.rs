@@ -1,4 +1,4 @@
-//! Find, reach, distance and sheet (document 01, "What may be called"; document 02, S-2).
+//! Find, reach, distance and sheet (document 01, "What may be called"; document 02, S-2 and S-3).
 
 use std::cmp::Reverse;
 use std::collections::{BTreeMap, BinaryHeap};
