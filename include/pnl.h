@@ -1,6 +1,6 @@
 /* pnl.h: the feed main register, called from C. Link with libpnl.a (x86-64 Linux); beside it stand pnl.pc and pnl.cmake.
  *
- * Each call takes a list, the bytes of a "PNL" file, grows the register from it in tables on its own stack, and writes its answer
+ * Each call on a house takes a list, the bytes of a "PNL" file, grows the register from it in tables on its own stack, and writes its answer
  * to the front of `answer` as little-endian 32-bit numbers.
  *
  *   List       3 bytes "PNL"; a 16-bit version, 1; then records. A record is the byte 0x46 alone, which lands a fitting; or the byte
@@ -47,6 +47,8 @@
  *              run, the tap's base comes first.
  *
  * A caller finds a run by a tag that somebody read in the trench. No call gives the tag of a fitting.
+ *
+ * The calls on a valve's window take no list: they stand at the end, with what they are about.
  */
 #ifndef PNL_H
 #define PNL_H
@@ -60,7 +62,7 @@ extern "C" {
 
 /* The version of these calls: it rises with each change of a call, of an answer or of a constant here. Header and archive of one folder
  * belong together; pnl.pc has the same number. (A list has a version of its own, in its header.) */
-#define PNL_VERSION 2
+#define PNL_VERSION 3
 
 /* What a call may return below 0: the refusal's number made negative. */
 enum pnl_refusal {
@@ -75,6 +77,10 @@ enum pnl_refusal {
     PNL_REFUSED_LENGTH = -7,            /* a pipe of length 0 or above 100,000 mm */
     PNL_REFUSED_TOO_MANY_FITTINGS = -22, /* a 4,097th fitting */
     PNL_REFUSED_TOO_MANY_PIPES = -23,   /* a 4,097th pipe */
+    /* The valve. */
+    PNL_REFUSED_WINDOW = -21,           /* a window that records could not have left */
+    PNL_REFUSED_WRONG_SIZE = -25,       /* a table of another size than PNL_VALVE_MINUTES */
+    PNL_REFUSED_AMOUNT = -40,           /* a record above 1,000,000 ml */
     /* The call. */
     PNL_REFUSED_NO_COUPLING = -8,       /* a tag that no coupling wears, or a fitting that is no coupling */
     PNL_REFUSED_SHORT_ANSWER = -9       /* the answer does not fit in answer_len bytes */
@@ -113,6 +119,9 @@ static inline const char *pnl_refusal_text(int32_t returned)
     case PNL_REFUSED_LENGTH: return "the pipe's length is 0 or above 100,000 mm";
     case PNL_REFUSED_TOO_MANY_FITTINGS: return "there are 4,096 fittings already";
     case PNL_REFUSED_TOO_MANY_PIPES: return "there are 4,096 pipes already";
+    case PNL_REFUSED_WINDOW: return "no records leave such a window";
+    case PNL_REFUSED_WRONG_SIZE: return "a table does not have 1,440 places";
+    case PNL_REFUSED_AMOUNT: return "the record is above 1,000,000 ml";
     case PNL_REFUSED_NO_COUPLING: return "no coupling wears that tag, or the fitting is no coupling";
     case PNL_REFUSED_SHORT_ANSWER: return "the answer does not fit in the bytes given for it";
     default: return returned < 0 ? "unknown refusal" : "no refusal";
@@ -143,6 +152,63 @@ int32_t pnl_reach(const uint8_t *list, size_t list_len, uint32_t fitting, uint8_
  *
  * Refusals: those of the list; PNL_REFUSED_NOT_LANDED if there is no such fitting, whatever the number; PNL_REFUSED_SHORT_ANSWER. */
 int32_t pnl_distance(const uint8_t *list, size_t list_len, uint32_t from, uint32_t to, uint8_t *answer, size_t answer_len);
+
+/* Which recipe is at the valve.
+ *
+ * The mixer writes a record every minute: the number of a recipe, and how many ml of it passed, 0 to 1,000,000. A window holds the last
+ * PNL_VALVE_MINUTES records; until so many have come, all. For a valve with so many ml of water between the mixer and itself it tells the
+ * recipe that is there now.
+ *
+ *   Window     the caller's own memory, which the caller keeps from minute to minute, for years: no number in it grows without end. It is
+ *              handed to each call in four parts: a table of recipes and a table of ml, each with PNL_VALVE_MINUTES places; the place
+ *              that the next record takes, which is that of the oldest; and the sum of the ml. All zero, as in
+ *              `static struct pnl_valve valve;`, it is empty. It may be written to a file and read back as it is.
+ *   Returns    0 or more, as each call says; or a refusal, below 0. Under a refusal nothing is written.
+ *   Order      WRONG_SIZE, then WINDOW: for one that no records can have left, since its next place is none of the 1,440, or one of its
+ *              amounts is above 1,000,000, or its sum is not that of its amounts. Then AMOUNT.
+ *   Lengths    recipes_len and amounts_len are in elements. A table may be null where its length is 0; `next` and `sum` may not.
+ *   Overlap    the four parts must not overlap.
+ *   Threads    a call that adds a record writes the window: no other call on that window at the same time.
+ */
+enum pnl_valve_size {
+    PNL_VALVE_MINUTES = 1440,           /* the records of a window */
+    PNL_VALVE_AMOUNT_MOST = 1000000,    /* the ml of the largest record */
+    PNL_VALVE_OLDER = 65536             /* in place of a recipe: it left the mixer before the window's records */
+};
+
+struct pnl_valve {
+    uint16_t recipes[PNL_VALVE_MINUTES];
+    uint32_t amounts[PNL_VALVE_MINUTES];
+    uint16_t next;
+    uint32_t sum;
+};
+
+/* The record of this minute: it takes the place of the oldest. Returns 0. A record of 0 ml takes a place too. C cuts a wider recipe number
+ * to 16 bits without a word: test it first.
+ *
+ * Refusals: PNL_REFUSED_WRONG_SIZE; PNL_REFUSED_WINDOW; PNL_REFUSED_AMOUNT. */
+int32_t pnl_valve_arrive(uint16_t *recipes, size_t recipes_len, uint32_t *amounts, size_t amounts_len, uint16_t *next, uint32_t *sum,
+                         uint16_t recipe, uint32_t amount);
+
+/* The recipe at a valve with `volume` ml between the mixer and itself, any number of 32 bits: the recipe of the record that holds the ml
+ * after these, counted back from now, and so for 0 the one that leaves the mixer. A record of 0 ml holds none. Returns the recipe, 0 to
+ * 65,535; or PNL_VALVE_OLDER if the records hold `volume` ml or fewer.
+ *
+ * Refusals: PNL_REFUSED_WRONG_SIZE; PNL_REFUSED_WINDOW. */
+int32_t pnl_valve_recipe(const uint16_t *recipes, size_t recipes_len, const uint32_t *amounts, size_t amounts_len, uint16_t next,
+                         uint32_t sum, uint32_t volume);
+
+/* The same two with the window as one. PNL_REFUSED_WRONG_SIZE cannot come then. */
+static inline int32_t pnl_record_arrives(struct pnl_valve *valve, uint16_t recipe, uint32_t amount)
+{
+    return pnl_valve_arrive(valve->recipes, PNL_VALVE_MINUTES, valve->amounts, PNL_VALVE_MINUTES, &valve->next, &valve->sum, recipe,
+                            amount);
+}
+
+static inline int32_t pnl_recipe_at(const struct pnl_valve *valve, uint32_t volume)
+{
+    return pnl_valve_recipe(valve->recipes, PNL_VALVE_MINUTES, valve->amounts, PNL_VALVE_MINUTES, valve->next, valve->sum, volume);
+}
 
 #ifdef __cplusplus
 }

@@ -33,14 +33,14 @@ static void compare(const char *name, int64_t constant, int64_t answered)
 
 static void compare_text(const char *name, int32_t refusal)
 {
-    static const char *seen[12];
+    static const char *seen[24];
     static size_t count = 0;
     const char *text = pnl_refusal_text(refusal);
     size_t i;
 
     for (i = 0; i < count && strcmp(seen[i], text) != 0; i++)
         ;
-    if (i == count && count < 12 && strstr(text, "refusal") == NULL) {
+    if (i == count && count < 24 && strstr(text, "refusal") == NULL) {
         seen[count++] = text;
         return;
     }
@@ -87,6 +87,21 @@ static void compare_answers(void)
     COMPARE(PNL_NOT_JOINED, answer[0] | (int64_t)answer[1] << 8 | (int64_t)answer[2] << 16 | (int64_t)answer[3] << 24);
 }
 
+static void compare_valve(void)
+{
+    static struct pnl_valve valve;
+
+    COMPARE(PNL_VALVE_OLDER, pnl_recipe_at(&valve, 0));
+    compare("a record of PNL_VALVE_AMOUNT_MOST", 0, pnl_record_arrives(&valve, 65535, PNL_VALVE_AMOUNT_MOST));
+    compare("its last ml", 65535, pnl_recipe_at(&valve, PNL_VALVE_AMOUNT_MOST - 1));
+    COMPARE(PNL_VALVE_OLDER, pnl_recipe_at(&valve, PNL_VALVE_AMOUNT_MOST));
+    REFUSED(PNL_REFUSED_AMOUNT, pnl_record_arrives(&valve, 1, PNL_VALVE_AMOUNT_MOST + 1));
+    REFUSED(PNL_REFUSED_WRONG_SIZE, pnl_valve_recipe(valve.recipes, PNL_VALVE_MINUTES - 1, valve.amounts, PNL_VALVE_MINUTES, 1, 0, 0));
+    COMPARE(PNL_REFUSED_WRONG_SIZE, pnl_valve_arrive(NULL, 0, NULL, 0, &valve.next, &valve.sum, 1, 1));
+    valve.sum++;
+    REFUSED(PNL_REFUSED_WINDOW, pnl_record_arrives(&valve, 1, PNL_VALVE_AMOUNT_MOST + 1));
+}
+
 static void compare_functions(void)
 {
     static const uint8_t bytes[] = { 0xFF, 0, 0, 0, 1, 2, 3, 0xF4 };
@@ -103,6 +118,7 @@ int main(void)
 {
     compare_refusals();
     compare_answers();
+    compare_valve();
     compare_functions();
     return differ;
 }

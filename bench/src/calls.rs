@@ -2,7 +2,7 @@
 
 use crate::edges::{comb, line, ring, tapped_rings, tree, Edges, Random};
 use crate::plain::Register;
-use crate::{compare, list, several, shuffled, stack};
+use crate::{compare, list, several, shuffled, stack, GROW};
 use std::hint::black_box;
 
 /// The bytes of the largest sheet.
@@ -146,5 +146,30 @@ pub fn table(random: &mut Random) {
             let name = calls_on(&lists[0])[kind].0;
             println!("{name:<14} {shape:<22} {proved:>9.1} {plain:>9.1} {:>6.2} {:>8}", proved / plain, most_stack(&asked));
         }
+    }
+}
+
+/// As many runs as can be that have a coupling: legs of two pipes from one fitting.
+fn legs(count: usize) -> Edges {
+    (0..count).flat_map(|leg| [(0, 2 * leg + 1), (2 * leg + 1, 2 * leg + 2)]).collect()
+}
+
+/// Find by the age of a tag: the highest tag is the newest run's, the lowest the oldest one's, and the last is nobody's.
+pub fn newest_table(random: &mut Random) {
+    println!("find from the newest run, on full lists");
+    println!("{:<26} {:>9} {:>9} {:>9} {:>9} {:>6}", "shape", "grow", "newest", "oldest", "none", "ratio");
+    let mut shapes = full_lists(random);
+    shapes.push(("2,047 legs", vec![list(4095, &legs(2047))]));
+    shapes.push(("2,047 legs in random order", several(|| list(4095, &shuffled(legs(2047), random)))));
+    for (shape, lists) in shapes {
+        let time = |call_on: &dyn Fn(&Register) -> Call| {
+            let asked: Vec<_> = lists.iter().map(|list| (call_on(&Register::grow(list).0), &list[..])).collect();
+            times(&asked, shape).0
+        };
+        let grow = time(&|_| GROW);
+        let newest = time(&|register| Call::Find(register.tags().1));
+        let oldest = time(&|register| Call::Find(register.tags().0));
+        let none = time(&|_| Call::Find(u32::MAX));
+        println!("{shape:<26} {grow:>9.1} {newest:>9.1} {oldest:>9.1} {none:>9.1} {:>6.2}", none / grow);
     }
 }

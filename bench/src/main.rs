@@ -14,8 +14,8 @@ use edges::{comb, line, ring, tapped_rings, tree, Edges, Random};
 use std::hint::black_box;
 use std::time::Instant;
 
-/// A list is grown for this call, and then nothing is left to do: no coupling wears tag 0.
-const GROW: Call = Call::Find(0);
+/// A list is grown for this call, and then nothing is left to do: no such fitting is ever landed.
+const GROW: Call = Call::Reach(u32::MAX);
 const SIZES: [usize; 4] = [512, 1024, 2048, 4096];
 
 fn list(vertices: usize, edges: &[(usize, usize)]) -> Vec<u8> {
@@ -147,4 +147,5 @@ fn main() {
     grow_table(&mut random);
     sheet_table(&mut random);
     calls::table(&mut random);
+    calls::newest_table(&mut random);
 }

@@ -18,6 +18,12 @@ impl Register {
         Some((last as u32, self.labels[last]))
     }
 
+    /// The lowest and the highest label that is worn, or 0.
+    pub fn tags(&self) -> (u32, u32) {
+        let worn = || self.labels.iter().copied().filter(|&label| label != 0);
+        (worn().min().unwrap_or(0), worn().max().unwrap_or(0))
+    }
+
     /// The name of the chain or ring of the vertex that wears a label.
     pub fn find(&self, label: u32) -> Result<u32, u32> {
         if label == 0 {

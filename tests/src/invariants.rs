@@ -10,44 +10,25 @@ use crate::queries;
 use crate::refusal::Refusal;
 use crate::ring::Ring;
 use crate::run::Run;
+use crate::times::Watched;
 
-/// A house that is landed record by record, and its re-hangings as counted from outside.
-#[derive(Default)]
-struct Watched {
-    house: House,
-    re_hung: usize,
+/// Lands a record; a refused one changes nothing.
+fn land(watched: &mut Watched, record: Record) -> Result<(), Refusal> {
+    let before = watched.clone();
+    let result = watched.land(record);
+    assert!(result.is_ok() || before == *watched);
+    result
 }
 
-impl Watched {
-    fn land(&mut self, record: Record) -> Result<(), Refusal> {
-        let before = self.house.clone();
-        let result = list::land_record(&mut self.house, record);
-        if result.is_ok() {
-            let changed = re_hung_fittings(before.tags(), self.house.tags());
-            self.re_hung += changed.len();
-        } else {
-            assert_eq!(before, self.house, "a refused record changes nothing");
-        }
-        result
-    }
-
-    fn check(&self) {
-        assert_eq!(self.house.re_hung() as usize, self.re_hung);
-        check_re_hung_bound(&self.house);
-        check_tags(&self.house);
-        check_lengths(&self.house);
-        check_reaches(&self.house);
-        check_finds(&self.house);
-    }
-}
-
-fn re_hung_fittings(before: &[Tag], after: &[Tag]) -> Vec<usize> {
-    let both_worn = |&fitting: &usize| before[fitting] != 0 && after[fitting] != 0;
-    let changed = |&fitting: &usize| before[fitting] != after[fitting];
-    (0..before.len())
-        .filter(both_worn)
-        .filter(changed)
-        .collect()
+fn check(watched: &Watched) {
+    let house = watched.house();
+    assert_eq!(house.re_hung(), watched.times().iter().sum());
+    assert!(watched.most() <= watched.bound());
+    check_re_hung_bound(house);
+    check_tags(house);
+    check_lengths(house);
+    check_reaches(house);
+    check_finds(house);
 }
 
 /// At most n times the whole part of the base-2 logarithm of n.
@@ -190,8 +171,8 @@ fn small_houses_after_every_record() {
         let random = &mut Random::of_list(101, index);
         let mut watched = Watched::default();
         for record in small_house(random, 24) {
-            assert_eq!(watched.land(record), Ok(()));
-            watched.check();
+            assert_eq!(land(&mut watched, record), Ok(()));
+            check(&watched);
         }
     }
 }
@@ -215,9 +196,9 @@ fn series_of_lists_on_one_register() {
         let mut watched = Watched::default();
         for _ in 0..random.between(1, 4) {
             refused += usize::from(land_until_refused(random, &mut watched).is_err());
-            watched.check();
+            check(&watched);
         }
-        check_distances(&watched.house);
+        check_distances(watched.house());
     }
     assert!(refused > 100, "{refused}");
 }
@@ -225,7 +206,7 @@ fn series_of_lists_on_one_register() {
 /// Records drawn from all fittings landed so far and some that are not.
 fn land_until_refused(random: &mut Random, watched: &mut Watched) -> Result<(), Refusal> {
     for _ in 0..random.below(30) {
-        let fittings = watched.house.fittings();
+        let fittings = watched.house().fittings();
         let record = if fittings < 3 || random.one_in(4) {
             Record::Fitting
         } else {
@@ -233,7 +214,7 @@ fn land_until_refused(random: &mut Random, watched: &mut Watched) -> Result<(), 
             let (first, second) = random.pair_below(fittings + not_landed);
             records::pipe(first, second, 1 + random.u32() % 500)
         };
-        watched.land(record)?;
+        land(watched, record)?;
     }
     Ok(())
 }

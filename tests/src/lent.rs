@@ -251,7 +251,15 @@ impl Lent {
         let answered = match *call {
             Call::Grow(_) => unreachable!("answered above"),
             Call::Land(ref list) => return self.land(call, house, list),
-            Call::Find(tag) => queries::find(&house, tag).map(|name| (number_of(name), 0)),
+            Call::Find(tag) => {
+                let (name, taken) = queries::search(&house, tag);
+                assert_eq!(name.ok_or(Refusal::NoCoupling), queries::find(&house, tag));
+                let Some(name) = name else {
+                    let refusal = Refusal::NoCoupling.number().unsigned_abs();
+                    return self.answer(call, Err((number_of(taken), refusal)), &[]);
+                };
+                Ok((number_of(name), number_of(taken)))
+            }
             Call::Reach(fitting) => queries::reach(&house, fitting.into()),
             Call::Distance(from, to) => queries::distance(&house, from.into(), to.into())
                 .map(|length| length.map_or((0, 0), |length| (1, length))),

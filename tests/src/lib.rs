@@ -7,7 +7,9 @@
 //! - [`calls`]: the same as calls from C answer them;
 //! - [`lent`]: the same over lent tables, and what the tables hold;
 //! - [`print`]: what the printing program prints;
+//! - [`valve`]: which recipe is at the valve;
 //! - [`gen`]: lists of every kind, drawn from a seed;
+//! - [`times`]: how often each tag is re-hung;
 //! - [`arguments`], [`child`], [`tally`] and [`workers`]: reading a command line, asking a binary,
 //!   counting outcomes, and doing so on every core.
 
@@ -25,6 +27,8 @@ pub mod refusal;
 pub mod ring;
 pub mod run;
 pub mod tally;
+pub mod times;
+pub mod valve;
 pub mod workers;
 
 #[cfg(test)]

@@ -1,4 +1,4 @@
-//! Find, reach, distance and sheet (document 01, "What may be called"; document 02, S-2).
+//! Find, reach, distance and sheet (document 01, "What may be called"; document 02, S-2 and S-3).
 
 use std::cmp::Reverse;
 use std::collections::{BTreeMap, BinaryHeap};
@@ -15,6 +15,26 @@ pub type Line = [u32; 5];
 pub fn find(house: &House, tag: Tag) -> Result<PipeNumber, Refusal> {
     let name = names_by_tag(house).get(&tag).copied();
     name.ok_or(Refusal::NoCoupling)
+}
+
+/// Document 02, S-3: the runs and rings with couplings by falling lowest tag, up to the one that holds
+/// the tag, or all: its name, and how many these are.
+pub fn search(house: &House, tag: Tag) -> (Option<PipeNumber>, usize) {
+    let (runs, rings) = house.afresh();
+    let of_runs = runs.iter().map(|run| (run.name(), run.couplings()));
+    let of_rings = rings.iter().map(|ring| (ring.name(), ring.fittings()));
+    let mut newest: Vec<(Tag, PipeNumber, Vec<Tag>)> = Vec::new();
+    for (name, couplings) in of_runs.chain(of_rings) {
+        let tags: Vec<Tag> = couplings.iter().map(|&c| house.tags()[c]).collect();
+        if let Some(&lowest) = tags.iter().min() {
+            newest.push((lowest, name, tags));
+        }
+    }
+    newest.sort_by_key(|&(lowest, ..)| Reverse(lowest));
+    match newest.iter().position(|(.., tags)| tags.contains(&tag)) {
+        Some(before) => (Some(newest[before].1), before + 1),
+        None => (None, newest.len()),
+    }
 }
 
 /// For each tag in use, the name of the run or ring whose couplings include it.

@@ -10,10 +10,11 @@ use Rattle.model.specs.Calls.{Call, Lent, allFit, bars, gate, registerFor, scra
 use Rattle.model.proofs.Basics.Booleans.{not-both}
 use Rattle.model.specs.Notions.{HeldOf}
 use Rattle.model.proofs.Registers.OnlyHeld.{only-held}
-use Rattle.tables.specs.Steps.{stored, zeroed}
+use Rattle.tables.specs.Meaning.{stored}
+use Rattle.tables.specs.Steps.{zeroed}
 use Rattle.admission.specs.Lent.{lent}
 use Rattle.holding.specs.Replay.{Regrows}
-use Rattle.holding.proofs.Held.{replay-held, replay-none}
+use Rattle.holding.proofs.HeldLaws.{replay-held, replay-none}
 use Rattle.admission.specs.Gate.{barred}
 use Rattle.admission.proofs.SizeLaws.{zeroed-cleared}
 

@@ -2,14 +2,14 @@
 use crate::sizes::sizes_fit;
 use counters::counts::Counts;
 use counters::refusals::Refusal;
-use holding::replay::is_held;
+use holding::held::is_held;
 use tables::whole::clear_tables;
 ghost use mathlib.Core.Path.{_≡_};
 ghost use mathlib.Core.Bool.{_&&_};
 ghost use Rattle.model.specs.Tables.{fits};
 ghost use Rattle.model.specs.Calls.{scratchAfter};
-ghost use Rattle.counters.specs.Answers.{countsIn};
-ghost use Rattle.tables.specs.Steps.{tables};
+ghost use Rattle.counters.specs.Answers.{asCounts};
+ghost use Rattle.tables.specs.Meaning.{tables};
 ghost use Rattle.admission.specs.Lent.{lent};
 ghost use Rattle.admission.specs.Gate.{barred, gateRefusal, zeroedIf};
 
@@ -34,12 +34,12 @@ pub fn pass_gate(
 ) -> Gate
     ensures { λ r. ⌜ (gateRefusal r ≡ barred (lent
         (tables (now (degrees .entry)) (now (sides .entry)) (now (ends .entry)) (now (lengths .entry)) (now (labels .entry)))
-        (countsIn counts)
+        (asCounts counts)
         (tables (now (sdegrees .entry)) (now (ssides .entry)) (now (sends .entry)) (now (slengths .entry)) (now (slabels .entry)))))
         × (tables (now (sdegrees .exit)) (now (ssides .exit)) (now (sends .exit)) (now (slengths .exit)) (now (slabels .exit))
         ≡ scratchAfter (lent
         (tables (now (degrees .entry)) (now (sides .entry)) (now (ends .entry)) (now (lengths .entry)) (now (labels .entry)))
-        (countsIn counts)
+        (asCounts counts)
         (tables (now (sdegrees .entry)) (now (ssides .entry)) (now (sends .entry)) (now (slengths .entry)) (now (slabels .entry))))) ⌝ }
 {
     if !sizes_fit(degrees, sides, ends, lengths, labels) {

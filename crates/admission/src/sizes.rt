@@ -5,7 +5,7 @@ use counters::sizes::SIDES;
 use counters::sizes::VERTICES;
 ghost use mathlib.Core.Path.{_≡_};
 ghost use Rattle.model.specs.Tables.{fits};
-ghost use Rattle.tables.specs.Steps.{tables};
+ghost use Rattle.tables.specs.Meaning.{tables};
 
 pub fn sizes_fit(
     degrees: &[u16],

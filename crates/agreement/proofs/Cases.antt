@@ -8,6 +8,7 @@ use lib.Dec.{eqb}
 use borrow.Author.Tests.{ne-eqb}
 use Rattle.model.specs.Basics.{if_then_else_}
 use Rattle.model.specs.Cases.{Class, branch, caseOf, classOf, isolated, leaf, regular}
+use Rattle.counters.specs.Numbers.{vertexOf}
 use Rattle.labels.specs.declared.splitting.Splits.the-variants.{Both, Neither, One}
 use Rattle.insertion.specs.Placing.{Placed, mergedIn, openIn, placeIn}
 use Rattle.insertion.specs.declared.placing.Extension.the-variants.{Leaf, Nothing}
@@ -31,11 +32,11 @@ module _ (degrees sides ends labels : List ℕ) (blocks a b e : ℕ) (rings : Bo
   byEnds la lb ra rb =
       if la
       then (if lb then mergedIn degrees sides ends labels blocks a b e
-      else if rb then openIn (One b a) (Leaf a) degrees sides ends labels blocks a b e rings
-      else openIn Neither (Leaf a) degrees sides ends labels blocks a b e rings)
-      else (if lb then (if ra then openIn (One a b) (Leaf b) degrees sides ends labels blocks a b e rings else openIn Neither (Leaf b) degrees sides ends labels blocks a b e rings)
-      else if ra then (if rb then openIn Both Nothing degrees sides ends labels blocks a b e rings else openIn (One a b) Nothing degrees sides ends labels blocks a b e rings)
-      else if rb then openIn (One b a) Nothing degrees sides ends labels blocks a b e rings
+      else if rb then openIn (One (vertexOf b) (vertexOf a)) (Leaf (vertexOf a)) degrees sides ends labels blocks a b e rings
+      else openIn Neither (Leaf (vertexOf a)) degrees sides ends labels blocks a b e rings)
+      else (if lb then (if ra then openIn (One (vertexOf a) (vertexOf b)) (Leaf (vertexOf b)) degrees sides ends labels blocks a b e rings else openIn Neither (Leaf (vertexOf b)) degrees sides ends labels blocks a b e rings)
+      else if ra then (if rb then openIn Both Nothing degrees sides ends labels blocks a b e rings else openIn (One (vertexOf a) (vertexOf b)) Nothing degrees sides ends labels blocks a b e rings)
+      else if rb then openIn (One (vertexOf b) (vertexOf a)) Nothing degrees sides ends labels blocks a b e rings
       else openIn Neither Nothing degrees sides ends labels blocks a b e rings)
 
   place-class : (c k : Class) → placeIn (caseOf c k) degrees sides ends labels blocks a b e rings ≡ byEnds (isLeafClass c) (isLeafClass k) (isRegularClass c) (isRegularClass k)

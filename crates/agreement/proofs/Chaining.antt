@@ -17,8 +17,8 @@ use Rattle.model.specs.Tables.{Tables, tablesOf}
 use Rattle.model.specs.Notions.{Reachable}
 use Rattle.tables.specs.Steps.{farIn, turnIn}
 use Rattle.tables.proofs.Sums.{sum32-is}
-use Rattle.queries.specs.Chains.{WalkEnd, goesOnIn, walkEnd, walkAhead, walkIn}
-use Rattle.queries.proofs.WalkLaws.{walkIn-on, walkIn-stop}
+use Rattle.chains.specs.Chains.{WalkEnd, goesOnIn, walkEnd, walkAhead, walkIn}
+use Rattle.chains.proofs.WalkLaws.{walkIn-on, walkIn-stop}
 use Rattle.model.proofs.Walks.Degree.{end-first, end-second}
 use Rattle.model.proofs.Walks.Turn.{At}
 use Rattle.model.proofs.Walks.Joins.{proper-at}

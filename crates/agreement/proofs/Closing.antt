@@ -14,10 +14,10 @@ use Rattle.model.specs.Graph.{Edge, Pass, degree, endsAt, far, isRegular, onlyE
 use Rattle.model.specs.Cases.{closesRing}
 use Rattle.model.specs.Labels.{Marks, attach, base, close, closeOver, inwards, labelPath, mark, next, relabelCount}
 use Rattle.tables.specs.Steps.{most16}
-use Rattle.tables.proofs.Sums.{more16-is, nextIn-is}
+use Rattle.tables.proofs.Sums.{more16-is}
+use Rattle.labels.proofs.Labels.{beyond-law, nextIn-is}
 use Rattle.labels.specs.Labelling.{MarksIn, beyondIn, countAhead, labelVertexIn, marksIn}
 use Rattle.labels.specs.Merging.{beginIn, closeIn, mergeIn}
-use Rattle.labels.proofs.Labels.{beyond-law}
 use Rattle.labels.proofs.Merges.{closes-begun, closes-on}
 use Rattle.model.proofs.Walks.Degree.{Proper, is-two}
 use Rattle.model.proofs.Walks.Turn.{At, between-back, onlyEdge-is}

@@ -11,9 +11,9 @@ use Rattle.model.specs.Basics.{maxVertices}
 use Rattle.model.specs.Graph.{Edge, Pass, degree, endsAt, far, isRegular, onlyEdge, onwards, turn, walk}
 use Rattle.model.specs.Labels.{Labelling, Marks, attach, base, extend, labelPath, next}
 use Rattle.tables.specs.Steps.{farIn, most16, most32}
-use Rattle.tables.proofs.Sums.{more16-is, nextIn-is}
+use Rattle.tables.proofs.Sums.{more16-is}
+use Rattle.labels.proofs.Labels.{beyond-law, extend-begun, extend-on, nextIn-is}
 use Rattle.labels.specs.Labelling.{countAhead, extendIn, labelVertexIn}
-use Rattle.labels.proofs.Labels.{beyond-law, extend-begun, extend-on}
 use Rattle.model.proofs.Walks.Degree.{Proper, is-two, not-two}
 use Rattle.model.proofs.Walks.Turn.{At, Between, OneEdge, one-edge, onlyEdge-is}
 use Rattle.model.proofs.Walks.Joins.{across, far-ne}

@@ -1,13 +1,11 @@
 -- Find and reach over the tables answer what the definitions answer.
-use mathlib.Core.Path.{_≡_, refl, sym, ap, _∙_}
+use mathlib.Core.Path.{_≡_, refl, sym, ap, _∙_, subst}
 use mathlib.Core.Logic.{_≢_}
-use Prim.Native.Nat.{ℕ, zero, suc, _+_, _*_, _≤_, _<_}
+use Prim.Native.Nat.{ℕ, _+_, _*_, _≤_, _<_}
 use native.Mathlib.Omega.{arith}
-use native.Mathlib.Nat.{not-suc-le-zero}
-use native.Mathlib.Decide.{ℕ-discrete}
 use mathlib.Core.Bool.{Bool, true, false, not}
-use mathlib.Core.Option.{Option, none, some, Option·none-ne-some, Option·some-injective, Option·some-ne-none}
-use mathlib.Core.List.{List, [], _∷_, map}
+use mathlib.Core.Option.{Option, none, some}
+use mathlib.Core.List.{List, map}
 use lib.ListN.{length, getD}
 use lib.Dec.{eqb, ltb}
 use borrow.Author.Tests.{eq-eqb, ne-eqb, eqb-true, eqb-false, ltb-true}
@@ -21,8 +19,10 @@ use Rattle.model.specs.Tables.{Tables, countsOf, tablesOf}
 use Rattle.model.specs.Notions.{Reachable}
 use Rattle.tables.specs.Steps.{sum32}
 use Rattle.tables.proofs.Sums.{sum32-is}
-use Rattle.queries.specs.Chains.{WalkEnd, firstAt, firstFrom}
-use Rattle.queries.specs.Finding.{endToIn, findIn, lengthToIn, reachIn, wayIn}
+use Rattle.model.specs.Newest.{Searched, replyOf, search}
+use Rattle.chains.specs.Chains.{WalkEnd}
+use Rattle.chains.specs.Newest.{Sought, searchIn}
+use Rattle.chains.specs.Finding.{endToIn, findIn, lengthToIn, reachIn, wayIn}
 use Rattle.model.proofs.Walks.Degree.{is-two, two-is}
 use Rattle.model.proofs.Walks.Turn.{At, Turned, turned, two-edges}
 use Rattle.model.proofs.Walks.Trail.{afters}
@@ -30,16 +30,16 @@ use Rattle.model.proofs.Walks.Joins.{across}
 use Rattle.model.proofs.Chains.Own.{chain-inner, lower-at, ring-both, ring-neither}
 use Rattle.model.proofs.Chains.Partition.{chain-has}
 use Rattle.model.proofs.Chains.Reaches.{along, one-length, ring-length}
-use Rattle.model.proofs.Registers.Facts.{LabelFacts}
-use Rattle.model.proofs.Registers.Founded.{Founded, regular-landed}
+use Rattle.model.proofs.Registers.Founded.{regular-landed}
 use Rattle.model.proofs.Registers.Labelled.{label-facts}
-use Rattle.model.proofs.Registers.Answers.{find-none, find-own}
+use Rattle.model.proofs.Registers.Newest.{search-finds}
 use Rattle.model.proofs.Registers.Small.{chains-small, reaches-small}
 use Rattle.agreement.proofs.Lists.{PairAt}
 use Rattle.agreement.proofs.Tables.{degrees-read, far-is, sides-linked}
-use Rattle.agreement.proofs.Registers.{few, founded, labels-long, low-at, no-label, proper, room}
+use Rattle.agreement.proofs.Registers.{few, founded, low-at, proper, room}
 use Rattle.agreement.proofs.Chaining.{length-is, walkedBy, walks}
 use Rattle.agreement.proofs.Rounds.{open-at, open-end, open-onto, open-singular, other-read, round-end, round-open, two-read}
+use Rattle.agreement.proofs.Newest.{Agrees, Wearer, search-agrees}
 use Rattle.agreement.proofs.Lowest.{nameOver, name-agrees, one-name}
 
 -- the sides of a regular vertex
@@ -159,86 +159,36 @@ reach-agrees r g v = below (ltb v (r .vertices)) refl
 
 -- ---- find
 
--- what is found has the label, ..
-record Holds (at label v : ℕ) (xs : List ℕ) : Type 0 where
-  place : ℕ
-  found-at : v ≡ at + place
-  inside : place < length xs
-  label-is : getD xs place 0 ≡ label
+-- the chain of a regular vertex, by its edge on the low side
+chain-found : (r : Register) → Reachable r → (v : ℕ) → v < maxVertices → degree (r .edges) v ≡ 2
+    → nameOver (tablesOf r) (length (r .edges)) (getD ((tablesOf r) .sides) (2 * v) 0) ≡ chainAt r v
+unfolding chainAt
+chain-found r g v h two =
+    let es : List Edge = r .edges in
+    let low : ℕ = lowEdgeOf r v in
+    let a : At es v low = low-at r g v two in
+    rw ((sides-are r g v h two) .0)
+    (name-agrees r g low (a .inside) ∙ one-name r g v low (lowerNumbered es v) (two-is es v two) a (lower-at es (proper r g) v (two-is es v two)))
 
-first-some : (at label v : ℕ) (xs : List ℕ) → firstFrom at label xs ≡ some v → Holds at label v xs
-unfolding firstFrom
-first-some at label v [] e = absurd (Option·none-ne-some v e)
-first-some at label v (x ∷ xs) e = go (eqb x label) refl (λ h. first-some (suc at) label v xs h)
+pub find-agrees : (r : Register) → Reachable r → (label : ℕ) (tree : List ℕ) → 2 * maxVertices ≤ length tree → findIn (tablesOf r) (countsOf r) tree label ≡ find r label
+unfolding findIn countsOf replyOf
+find-agrees r g label tree l = go (s .wearer) refl (a .wearer-is)
   where
-    go : (b : Bool) → eqb x label ≡ b → (firstFrom (suc at) label xs ≡ some v → Holds (suc at) label v xs) → Holds at label v (x ∷ xs)
-    go true q ih =
-        let i : at ≡ v = Option·some-injective at v (rw (q, firstFrom) at e) in
-        record { place = 0; found-at = omega arith; inside = omega arith; label-is = eqb-true x label q }
-    go false q ih =
-        let k = ih (rw (q, firstFrom) at e) in
-        record { place = suc (k .place); found-at = omega (arith, k .found-at); inside = omega (arith, k .inside); label-is = k .label-is }
+    t : Tables
+    t = tablesOf r
 
--- .. and where nothing is found nothing has it
-first-none : (at label : ℕ) (xs : List ℕ) → firstFrom at label xs ≡ none → (i : ℕ) → i < length xs → getD xs i 0 ≢ label
-unfolding firstFrom
-first-none at label [] e i h = absurd (not-suc-le-zero h)
-first-none at label (x ∷ xs) e i h = go (eqb x label) refl i h (λ k j l. first-none (suc at) label xs k j l)
-  where
-    go : (b : Bool) → eqb x label ≡ b → (i : ℕ) → i < length (x ∷ xs)
-        → (firstFrom (suc at) label xs ≡ none → (j : ℕ) → j < length xs → getD xs j 0 ≢ label) → getD (x ∷ xs) i 0 ≢ label
-    go true q i h ih = absurd (Option·some-ne-none at (rw (q, firstFrom) at e))
-    go false q zero h ih = eqb-false x label q
-    go false q (suc j) h ih = ih (rw (q, firstFrom) at e) j (omega arith)
+    s : Sought
+    s = searchIn ((tablesOf r) .degrees) ((tablesOf r) .sides) ((tablesOf r) .ends) ((tablesOf r) .labels) (r .vertices) (length (r .edges)) label tree
 
-module _ (r : Register) (g : Reachable r) where
-  -- only a regular vertex wears a label that is not 0
-  worn-regular : (v label : ℕ) → label ≢ 0 → getD (r .labels) v 0 ≡ label → degree (r .edges) v ≡ 2
-  worn-regular v label n e = go (ℕ-discrete (degree (r .edges) v) 2)
-    where
-      go : Dec (degree (r .edges) v ≡ 2) → degree (r .edges) v ≡ 2
-      go (yes two) = two
-      go (no h) = absurd (n (sym e ∙ no-label r g v h))
+    a : Agrees r g s (search r label)
+    a = search-agrees r g label tree (omega (arith, few r g))
 
-  -- the chain of a regular vertex, by its edge on the low side
-  chain-found : (v : ℕ) → v < maxVertices → degree (r .edges) v ≡ 2
-      → nameOver (tablesOf r) (length (r .edges)) (getD ((tablesOf r) .sides) (2 * v) 0) ≡ chainAt r v
-  unfolding chainAt
-  chain-found v h two =
-      let es : List Edge = r .edges in
-      let low : ℕ = lowEdgeOf r v in
-      let a : At es v low = low-at r g v two in
-      rw ((sides-are r g v h two) .0)
-      (name-agrees r g low (a .inside) ∙ one-name r g v low (lowerNumbered es v) (two-is es v two) a (lower-at es (proper r g) v (two-is es v two)))
-
-labels-are : (r : Register) → (tablesOf r) .labels ≡ r .labels
-unfolding tablesOf
-labels-are r = refl
-
-pub find-agrees : (r : Register) → Reachable r → (label : ℕ) → findIn (tablesOf r) (countsOf r) label ≡ find r label
-unfolding findIn countsOf firstAt
-find-agrees r g label = zero? (eqb label 0) refl
-  where
-    f : Founded r
-    f = founded r g
-
-    k : LabelFacts r
-    k = label-facts r g
-
-    search : label ≢ 0 → (o : Option ℕ) → firstFrom 0 label (r .labels) ≡ o → findIn (tablesOf r) (countsOf r) label ≡ find r label
-    search n none e =
-        rw (ne-eqb label 0 n, labels-are r, e, findIn)
-        (sym (find-none r label (λ v q. first-none 0 label (r .labels) e v (omega (arith, regular-landed r f v q, few r g, labels-long r g)))))
-    search n (some v) e =
-        let w : Holds 0 label v (r .labels) = first-some 0 label v (r .labels) e in
-        let i : v ≡ w .place = omega (arith, w .found-at) in
-        let l : getD (r .labels) v 0 ≡ label = rw i (w .label-is) in
-        let two : degree (r .edges) v ≡ 2 = worn-regular r g v label n l in
-        rw (ne-eqb label 0 n, labels-are r, e, findIn, chain-found r g v (omega (arith, w .inside, labels-long r g)) two)
-        (sym (find-own r f k v (two-is (r .edges) v two)) ∙ ap (find r) l)
-
-    zero? : (b : Bool) → eqb label 0 ≡ b → findIn (tablesOf r) (countsOf r) label ≡ find r label
-    zero? true e =
-        rw (e, findIn)
-        (sym (find-none r label (λ v q h. omega (arith, eqb-true label 0 e, k .not-zero v (is-two (r .edges) v q)))))
-    zero? false e = search (eqb-false label 0 e) (firstFrom 0 label (r .labels)) refl
+    go : (o : Option ℕ) → s .wearer ≡ o → Wearer r g (s .wearer) ((search r label) .holder) → findIn (tablesOf r) (countsOf r) tree label ≡ find r label
+    go none e w =
+        let h : (search r label) .holder ≡ none = rw e at w in
+        rw (e, findIn) (sym (search-finds r (founded r g) (label-facts r g) label ∙ ap replyOf h))
+    go (some v) e w =
+        let h : (isRegular (r .edges) v ≡ true) × ((search r label) .holder ≡ some (chainAt r v)) = subst (λ (o : Option ℕ). Wearer r g o ((search r label) .holder)) e w in
+        let two : degree (r .edges) v ≡ 2 = is-two (r .edges) v (h .0) in
+        rw (e, findIn, chain-found r g v (omega (arith, regular-landed r (founded r g) v (h .0), few r g)) two)
+        (sym (search-finds r (founded r g) (label-facts r g) label ∙ ap replyOf (h .1)))

@@ -11,7 +11,7 @@ use Rattle.model.specs.Basics.{maxVertices, maxEdges}
 use Rattle.model.specs.Graph.{Edge, Pass, degree, endsAt, far, isRegular, onlyEdge}
 use Rattle.model.specs.Labels.{Labelling, Marks, attach, base, inwards, joinPath, labelPath, next, relabelCount}
 use Rattle.tables.specs.Steps.{most32}
-use Rattle.tables.proofs.Sums.{nextIn-is}
+use Rattle.labels.proofs.Labels.{nextIn-is}
 use Rattle.labels.specs.Labelling.{countAhead, labelVertexIn}
 use Rattle.labels.specs.Merging.{Changed, beginIn, changed, joinIn}
 use Rattle.labels.proofs.Merges.{join-law}

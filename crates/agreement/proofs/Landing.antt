@@ -4,12 +4,14 @@ use mathlib.Core.Path.{_≡_, refl, sym, ap, ap₂, _∙_}
 use mathlib.Core.Logic.{_≢_}
 use Prim.Native.Nat.{ℕ, _+_, _≤_, _<_}
 use native.Mathlib.Omega.{arith}
-use mathlib.Core.Bool.{Bool, true, false, not, _&&_, _||_}
+use mathlib.Core.Bool.{Bool, true, false, not, _&&_, _||_, and-false}
 use mathlib.Core.List.{List, [], _∷_, _++_}
 use mathlib.Core.Option.{Option, none, some}
 use lib.ListN.{length, set}
 use lib.Dec.{eqb, leb, ltb}
-use Rattle.model.specs.Basics.{if_then_else_, maxEdges, maxLength}
+use native.Mathlib.Decide.{decLt}
+use borrow.Author.Tests.{lt-ltb, le-ltb}
+use Rattle.model.specs.Basics.{if_then_else_, maxEdges, maxLength, maxVertices}
 use Rattle.model.specs.Graph.{Edge}
 use Rattle.model.specs.Cases.{closesRing}
 use Rattle.model.specs.Labels.{labelEdge, relabelCount}
@@ -19,6 +21,7 @@ use Rattle.model.specs.Notions.{Reachable}
 use Rattle.tables.specs.Steps.{more16, setPair, sum32}
 use Rattle.tables.proofs.Sums.{more16-is, sum32-is}
 use Rattle.model.proofs.Registers.Equality.{counts-parts, tables-parts}
+use Rattle.counters.specs.Numbers.{isLanded}
 use Rattle.insertion.specs.Placing.{Placed, placedBy}
 use Rattle.insertion.specs.Insertion.{CheckIn, LandingIn, checkIn, done, failed, insertIn, landChecked, landIn, landingIn, passed, refusedIn}
 use Rattle.model.proofs.Walks.NewEdge.{length-new}
@@ -27,7 +30,7 @@ use Rattle.model.proofs.Registers.Accepted.{unrefused}
 use Rattle.agreement.proofs.Lists.{ends-stored, lengths-stored}
 use Rattle.agreement.proofs.Relabelled.{relabelled-most}
 use Rattle.agreement.proofs.Tables.{degrees-are, linked-sides}
-use Rattle.agreement.proofs.Registers.{labels-long}
+use Rattle.agreement.proofs.Registers.{few, labels-long}
 use Rattle.agreement.proofs.Standing.{Warns}
 use Rattle.agreement.proofs.Placing.{Stands}
 use Rattle.agreement.proofs.Inserting.{stands}
@@ -105,19 +108,28 @@ module _ (r : Register) (e : Edge) (rings : Bool) (g : Reachable r) (warns : War
 -- what the code's check comes to, by the model's refusal
 abbrev checkedAs : Edge → Option ℕ → CheckIn
 checkedAs e (some x) = failed x
-checkedAs e none = passed (e .len)
+checkedAs e none = passed (e .first) (e .second) (e .len)
 
 checked-if : (e : Edge) (b : Bool) (x : ℕ) (c : CheckIn) (o : Option ℕ) → c ≡ checkedAs e o → (if b then failed x else c) ≡ checkedAs e (if b then some x else o)
 checked-if e true x c o h = refl
 checked-if e false x c o h = h
 
-check-agrees : (r : Register) (e : Edge) → checkIn (countsOf r) e ≡ checkedAs e (edgeRefusal r e)
+-- a register has no vertex above the bound
+landed-is : (count v : ℕ) → count ≤ maxVertices → isLanded count v ≡ ltb v count
+landed-is count v few =
+    elim (decLt v count) [
+      | yes h ↦ rw (lt-ltb v maxVertices (omega arith))
+      | no h ↦ rw (le-ltb v count (omega arith)) (and-false (ltb v maxVertices))
+    ]
+
+check-agrees : (r : Register) (e : Edge) → r .vertices ≤ maxVertices → checkIn (countsOf r) e ≡ checkedAs e (edgeRefusal r e)
 unfolding checkIn edgeRefusal countsOf
-check-agrees r e =
-    checked-if e (not (ltb (e .first) (r .vertices) && ltb (e .second) (r .vertices))) 5 _ _
+check-agrees r e few =
+    rw (landed-is (r .vertices) (e .first) few, landed-is (r .vertices) (e .second) few)
+    (checked-if e (not (ltb (e .first) (r .vertices) && ltb (e .second) (r .vertices))) 5 _ _
     (checked-if e (eqb (e .first) (e .second)) 6 _ _
     (checked-if e (eqb (e .len) 0 || ltb maxLength (e .len)) 7 _ _
-    (checked-if e (leb maxEdges (length (r .edges))) 23 _ _ refl)))
+    (checked-if e (leb maxEdges (length (r .edges))) 23 _ _ refl))))
 
 module _ (r : Register) (e : Edge) (rings : Bool) where
   abbrev shown : Landed → LandingIn
@@ -134,7 +146,7 @@ module _ (r : Register) (e : Edge) (rings : Bool) where
 
     pub land-agrees : landIn (tablesOf r) (countsOf r) rings e ≡ shownIn r (ringsAfter r rings e) (landEdge r e)
     unfolding landIn landEdge
-    land-agrees = ap (landChecked (tablesOf r) (countsOf r) rings e) (check-agrees r e) ∙ by-refusal (edgeRefusal r e) refl
+    land-agrees = ap (landChecked (tablesOf r) (countsOf r) rings e) (check-agrees r e (few r g)) ∙ by-refusal (edgeRefusal r e) refl
 
     -- .. in two parts, for a function that goes on by the answer
     pub edge-parts : (l : Landed) → landEdge r e ≡ l → let shows = shownIn r (ringsAfter r rings e) l in

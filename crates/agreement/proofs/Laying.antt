@@ -13,9 +13,8 @@ use Rattle.model.specs.Basics.{if_then_else_, maxVertices}
 use Rattle.model.specs.Graph.{Edge, Pass, far, isRegular, turn}
 use Rattle.model.specs.Labels.{Marks, labelPath, mark, next, relabelCount}
 use Rattle.tables.specs.Steps.{most32, setPair, turnIn}
-use Rattle.tables.proofs.Sums.{nextIn-is}
+use Rattle.labels.proofs.Labels.{nextIn-is, relabel-end, relabel-none, relabel-on}
 use Rattle.labels.specs.Labelling.{MarksIn, countAhead, labelVertexIn, marksIn, orientIn, relabelIn}
-use Rattle.labels.proofs.Labels.{relabel-end, relabel-none, relabel-on}
 use Rattle.model.proofs.Walks.Degree.{Proper, is-two}
 use Rattle.model.proofs.Walks.Turn.{At, Between}
 use Rattle.model.proofs.Walks.Trail.{Trail, done, pass, Next, next-edge}

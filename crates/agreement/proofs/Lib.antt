@@ -28,4 +28,5 @@ pub mod Ends
 pub mod Lowest
 pub mod Marking
 pub mod Sheeting
+pub mod Newest
 pub mod Finding

@@ -12,8 +12,8 @@ use Rattle.model.specs.Graph.{Edge, Pass, afterOf, chainOf, edgeAt, endOf, endO
 use Rattle.model.specs.Register.{Register}
 use Rattle.model.specs.Tables.{Tables, tablesOf}
 use Rattle.model.specs.Notions.{Reachable}
-use Rattle.queries.specs.Chains.{LowEnd, goesOnIn, lowEnd, lowestIn, nameIn}
-use Rattle.queries.proofs.LookupLaws.{lowest-on, lowest-stop}
+use Rattle.chains.specs.Chains.{LowEnd, goesOnIn, lowEnd, lowestIn, nameIn}
+use Rattle.chains.proofs.LookupLaws.{lowest-on, lowest-stop}
 use Rattle.model.proofs.Basics.Booleans.{true-or-false}
 use Rattle.model.proofs.Walks.Degree.{Proper}
 use Rattle.model.proofs.Walks.Turn.{At}

@@ -13,8 +13,8 @@ use Rattle.model.specs.Graph.{Chain, Edge, Pass, afterOf, chainOf, edgeAt, endO
 use Rattle.model.specs.Register.{Register}
 use Rattle.model.specs.Tables.{Tables, tablesOf}
 use Rattle.model.specs.Notions.{Reachable}
-use Rattle.queries.specs.Chains.{Marked, goesOnIn, marked, markIn, markChainIn}
-use Rattle.queries.proofs.NameLaws.{mark-on, mark-stop}
+use Rattle.chains.specs.Chains.{Marked, goesOnIn, marked, markIn, markChainIn}
+use Rattle.chains.proofs.NameLaws.{mark-on, mark-stop}
 use Rattle.model.proofs.Basics.Booleans.{true-or-false}
 use Rattle.model.proofs.Basics.Lists.{mem-reverse}
 use Rattle.model.proofs.Walks.Turn.{At}

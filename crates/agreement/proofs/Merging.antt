@@ -16,6 +16,7 @@ use Rattle.model.specs.Labels.{Labelling, Marks, attach, inwards, joinPath, mer
 use Rattle.tables.specs.Steps.{farIn, most16}
 use Rattle.tables.proofs.Sums.{more16-is}
 use Rattle.tables.specs.Walks.{Met, lockstepIn}
+use Rattle.counters.specs.Numbers.{vertexOf}
 use Rattle.labels.specs.Merging.{Changed, closeIn, keeperFor, keeperIn, mergeIn}
 use Rattle.labels.specs.declared.merging.Keeper.{Keeper}
 use Rattle.labels.specs.declared.merging.Keeper.the-variants.{Chain, Neither}
@@ -169,13 +170,13 @@ module _ {es : List Edge} {n : Edge} {degrees sides ends labels : List ℕ} {m :
       keeps keeper g p q j =
           rw (← merge-kept degrees sides ends labels blocks a b (length es) (length es) da (far es da a) db (far es db b) met side-a side-b refl keeper (off c) p, q) j
 
-      keeps-a : Chain a b ≡ keeperFor degrees a b met → length (inwards es b) ≤ length (inwards es a) → 0 < length (inwards es a) → ChangedAs new labels merging (merge es blocks a b m)
-      keeps-a p l h = keeps (Chain a b) _ p (merge-first l) (joins k a b la lb oa ob ab blocks h)
+      keeps-a : Chain (vertexOf a) (vertexOf b) ≡ keeperFor degrees a b met → length (inwards es b) ≤ length (inwards es a) → 0 < length (inwards es a) → ChangedAs new labels merging (merge es blocks a b m)
+      keeps-a p l h = keeps (Chain (vertexOf a) (vertexOf b)) _ p (merge-first l) (joins k a b la lb oa ob ab blocks h)
 
       go : Dec (length (inwards es a) < length (inwards es b)) → Dec (length (inwards es b) < length (inwards es a)) → Dec (length (inwards es a) ≡ 0)
           → ChangedAs new labels merging (merge es blocks a b m)
       go (yes l) r z =
-          keeps (Chain b a) _ (second-keeps degrees a b met (finds .second-on l)) (merge-second l)
+          keeps (Chain (vertexOf b) (vertexOf a)) _ (second-keeps degrees a b met (finds .second-on l)) (merge-second l)
           (joins k b a lb la ob oa (λ e. ab (sym e)) blocks (omega arith))
       go (no l) (yes r) z = keeps-a (first-keeps degrees a b met (second-off (omega arith)) (finds .first-on r)) (omega arith) (omega arith)
       go (no l) (no r) (no z) =

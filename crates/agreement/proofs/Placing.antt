@@ -21,6 +21,7 @@ use Rattle.tables.specs.Rounds.{ringIn}
 use Rattle.labels.specs.Labelling.{MarksIn, extendIn}
 use Rattle.labels.specs.Merging.{Changed, changed, mergeIn}
 use Rattle.labels.specs.Splitting.{splitBothIn, splitBy, splitEndsIn, splitIn}
+use Rattle.counters.specs.Numbers.{vertexOf}
 use Rattle.labels.specs.declared.splitting.Splits.the-variants.{Both, Neither, One}
 use Rattle.insertion.specs.Placing.{Placed, goesOnIn, meetIn, mergedIn, openIn, openedIn, placed}
 use Rattle.insertion.specs.declared.placing.Extension.the-variants.{Leaf, Nothing}
@@ -218,14 +219,14 @@ module _ (r : Register) (e : Edge) (rings : Bool) (g : Reachable r) (warns : War
     new-stands la lb = opens Nobody uncut (labelling (r .blocks) m) no-cut la lb
 
     pub extend-stands : (z w : ℕ) → endsAt z e ≡ 1 → endsAt w e ≡ 1 → z ≢ w → degree es z ≡ 1 → degree es w ≢ 1
-        → Stands new (r .labels) (openIn Neither (Leaf z) degrees sides ends (r .labels) (r .blocks) a b (length es) rings) (extend es new (r .blocks) z m) false
+        → Stands new (r .labels) (openIn Neither (Leaf (vertexOf z)) degrees sides ends (r .labels) (r .blocks) a b (length es) rings) (extend es new (r .blocks) z m) false
     unfolding openedIn
     extend-stands z w oz ow zw one nw = goes-on Nobody uncut (labelling (r .blocks) m) no-cut z w oz ow zw one nw (omega (arith, few-blocks)) small refl refl
 
   -- ---- v is regular, the other end w is not
   module _ (v w : ℕ) (ov : endsAt v e ≡ 1) (ow : endsAt w e ≡ 1) (vw : v ≢ w) (two : degree es v ≡ 2) (nw : degree es w ≢ 2) where
     abbrev c : Changed
-    c = splitEndsIn (One v w) degrees sides ends (r .labels) (r .blocks) a b (length es) rings
+    c = splitEndsIn (One (vertexOf v) (vertexOf w)) degrees sides ends (r .labels) (r .blocks) a b (length es) rings
 
     abbrev left : Labelling
     left = splitOrTap es (r .blocks) v m
@@ -259,12 +260,12 @@ module _ (r : Register) (e : Edge) (rings : Bool) (g : Reachable r) (warns : War
         is-v u t (inr i) = absurd (nw (rw i at t))
 
     pub split-stands : degree es a ≢ 1 → degree es b ≢ 1
-        → Stands new (r .labels) (openIn (One v w) Nothing degrees sides ends (r .labels) (r .blocks) a b (length es) rings) left false
+        → Stands new (r .labels) (openIn (One (vertexOf v) (vertexOf w)) Nothing degrees sides ends (r .labels) (r .blocks) a b (length es) rings) left false
     unfolding openedIn
     split-stands la lb = opens (Also v Nobody) c left one-cut la lb
 
     pub split-extend-stands : degree es w ≡ 1
-        → Stands new (r .labels) (openIn (One v w) (Leaf w) degrees sides ends (r .labels) (r .blocks) a b (length es) rings) (extend es new (left .blocks) w (left .marks)) false
+        → Stands new (r .labels) (openIn (One (vertexOf v) (vertexOf w)) (Leaf (vertexOf w)) degrees sides ends (r .labels) (r .blocks) a b (length es) rings) (extend es new (left .blocks) w (left .marks)) false
     unfolding openedIn
     split-extend-stands one =
         goes-on (Also v Nobody) c left one-cut w v ow ov (λ i. vw (sym i)) one (λ t. omega arith) (omega (arith, q .blocks-few, few-blocks)) (q .small small)

@@ -16,8 +16,8 @@ use Rattle.model.specs.Queries.{row, rowsOf, sheet}
 use Rattle.model.specs.Tables.{Tables, countsOf, tablesOf}
 use Rattle.model.specs.Notions.{Reachable}
 use Rattle.tables.proofs.Sums.{sum32-is}
-use Rattle.queries.specs.Chains.{namesIn, rowIn, rowsIn, sheetIn, sweepIn}
-use Rattle.queries.proofs.SheetLaws.{sheet-count}
+use Rattle.chains.specs.Chains.{namesIn, rowIn, rowsIn, sheetIn, sweepIn}
+use Rattle.chains.proofs.SheetLaws.{sheet-count}
 use Rattle.model.proofs.Basics.Booleans.{true-or-false}
 use Rattle.model.proofs.Chains.Same.{chain-open, chain-ring}
 use Rattle.model.proofs.Chains.Reaches.{along, chain-by-walks}

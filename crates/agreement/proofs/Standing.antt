@@ -16,6 +16,7 @@ use Rattle.model.specs.Register.{Register, landEdge, landVertex, landed, withEd
 use Rattle.model.specs.Notions.{Admissible, Reachable}
 use Rattle.tables.specs.Steps.{sum32}
 use Rattle.labels.specs.Splitting.{leftFor, splitBothIn, splitEndsIn, splitIn}
+use Rattle.counters.specs.Numbers.{vertexOf}
 use Rattle.labels.specs.declared.splitting.Splits.the-variants.{Both, One}
 use Rattle.model.proofs.Basics.Booleans.{or-false, true-or-false}
 use Rattle.model.proofs.Walks.Degree.{Proper}
@@ -71,12 +72,12 @@ module _ {es : List Edge} (pr : Proper es) {degrees sides ends lows : List ℕ} 
   off v two f = k f (lowerNumbered es v) ((lower-at es pr v two) .inside)
 
   pub one-as : (v w : ℕ) → degree es v ≡ 2
-      → splitEndsIn (One v w) degrees sides ends labels blocks a b (length es) rings ≡ splitIn degrees sides ends labels blocks v w (length es)
+      → splitEndsIn (One (vertexOf v) (vertexOf w)) degrees sides ends labels blocks a b (length es) rings ≡ splitIn degrees sides ends labels blocks v w (length es)
   unfolding splitIn
   one-as v w two = go (true-or-false rings)
     where
       go : (rings ≡ true) ⊎ (rings ≡ false)
-          → splitEndsIn (One v w) degrees sides ends labels blocks a b (length es) rings ≡ splitIn degrees sides ends labels blocks v w (length es)
+          → splitEndsIn (One (vertexOf v) (vertexOf w)) degrees sides ends labels blocks a b (length es) rings ≡ splitIn degrees sides ends labels blocks v w (length es)
       go (inl t) = rw t
       go (inr f) = rw (f, ring-no pr sh v w two (off v two f))
 

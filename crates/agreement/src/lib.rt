@@ -1,1 +1,1 @@
-// What insertion and queries do to the tables is what model defines (proofs/). No code.
+// What insertion and chains do to the tables is what model defines (proofs/). No code.

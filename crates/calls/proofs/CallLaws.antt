@@ -12,9 +12,9 @@ use Rattle.model.specs.Tables.{Tables, Counts, fits, cleared, noCounts, storedO
 use Rattle.model.specs.Calls.{Call, grows, lands, allFit, registerFor, scratchAfter, effect, readEffect, lentSlice, step}
 use Rattle.model.proofs.Basics.Booleans.{and-true}
 use Rattle.model.proofs.Registers.OnlyHeld.{held-counts, held-tables}
-use Rattle.register.specs.Records.{ReadingIn, landListIn}
-use Rattle.register.proofs.ListAgrees.{shownRead, list-agrees}
-use Rattle.register.proofs.Growing.{list-leaves}
+use Rattle.landing.specs.Records.{ReadingIn, landListIn}
+use Rattle.landing.proofs.ListAgrees.{shownRead, list-agrees}
+use Rattle.landing.proofs.Growing.{list-leaves}
 use Rattle.admission.specs.Lent.{lent, outcome}
 use Rattle.admission.specs.Gate.{barred, zeroedIf}
 use Rattle.admission.proofs.SizeLaws.{zeroed-cleared}

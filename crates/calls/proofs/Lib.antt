@@ -1,6 +1,5 @@
 pub mod CallLaws
-pub mod Apart
-pub mod TakenApart
-pub mod Single
-pub mod WithList
-pub mod LentCounts
+pub mod QueryLaws
+pub mod ScratchLaws
+pub mod MeasureLaws
+pub mod CallSteps

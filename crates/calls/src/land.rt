@@ -3,12 +3,12 @@ use admission::gate::Gate;
 use admission::gate::pass_gate;
 use counters::answers::ListAnswer;
 use counters::counts::Counts;
-use register::records::land_list;
+use landing::records::land_list;
 ghost use mathlib.Core.Path.{_≡_};
 ghost use mathlib.Core.List.{[]};
 ghost use Rattle.model.specs.Calls.{lands, step};
-ghost use Rattle.counters.specs.Answers.{counts, countsIn, listReply};
-ghost use Rattle.tables.specs.Steps.{tables};
+ghost use Rattle.counters.specs.Answers.{counts, asCounts, listReply};
+ghost use Rattle.tables.specs.Meaning.{tables};
 ghost use Rattle.admission.specs.Lent.{lent, outcome};
 
 // The head's four numbers are lent one by one: `land` takes the caller's counts apart.
@@ -91,10 +91,10 @@ pub fn land(
     slabels: &mut [u32],
     list: &[u8],
 ) -> ListAnswer
-    ensures { λ r. ⌜ outcome (tables (now (degrees .exit)) (now (sides .exit)) (now (ends .exit)) (now (lengths .exit)) (now (labels .exit))) (countsIn (now (counts .exit)))
+    ensures { λ r. ⌜ outcome (tables (now (degrees .exit)) (now (sides .exit)) (now (ends .exit)) (now (lengths .exit)) (now (labels .exit))) (asCounts (now (counts .exit)))
         (tables (now (sdegrees .exit)) (now (ssides .exit)) (now (sends .exit)) (now (slengths .exit)) (now (slabels .exit))) [] (listReply r)
         ≡ step (lands (now (list .entry)))
-        (lent (tables (now (degrees .entry)) (now (sides .entry)) (now (ends .entry)) (now (lengths .entry)) (now (labels .entry))) (countsIn (now (counts .entry)))
+        (lent (tables (now (degrees .entry)) (now (sides .entry)) (now (ends .entry)) (now (lengths .entry)) (now (labels .entry))) (asCounts (now (counts .entry)))
         (tables (now (sdegrees .entry)) (now (ssides .entry)) (now (sends .entry)) (now (slengths .entry)) (now (slabels .entry)))) ⌝ }
 {
     land_with(

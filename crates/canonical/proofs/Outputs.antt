@@ -15,9 +15,9 @@ use Rattle.model.proofs.Series.Landings.{reachable-grown}
 use Rattle.agreement.proofs.Registers.{few, room}
 use Rattle.list.specs.Writing.{listIn}
 use Rattle.list.proofs.WritingLaws.{list-bytes, list-written}
-use Rattle.register.specs.Records.{ReadingIn, landListIn}
-use Rattle.register.proofs.ListAgrees.{shownRead}
-use Rattle.register.proofs.Growing.{list-leaves}
+use Rattle.landing.specs.Records.{ReadingIn, landListIn}
+use Rattle.landing.proofs.ListAgrees.{shownRead}
+use Rattle.landing.proofs.Growing.{list-leaves}
 use Rattle.io.specs.Counts.{Counts as Counted}
 use Rattle.streams.proofs.Input.{counted}
 use Rattle.text.specs.Pages.{Page, page, write}

@@ -33,9 +33,9 @@ abbrev pub sizeOf : Output → ℕ
 sizeOf (output.List n) = n
 sizeOf (output.Complaint n) = n
 
-abbrev pub outputIn : Output → List ℕ → Streams
-outputIn (output.List n) xs = gives (take n xs)
-outputIn (output.Complaint n) xs = tells (take n xs)
+abbrev pub asOutput : Output → List ℕ → Streams
+asOutput (output.List n) xs = gives (take n xs)
+asOutput (output.Complaint n) xs = tells (take n xs)
 
 -- the program's slice: 4,096 vertices and edges need 40,965 bytes, a complaint fewer
 abbrev pub roomBytes : ℕ

@@ -5,8 +5,8 @@ use counters::sizes::EDGES;
 use counters::sizes::ENDS;
 use counters::sizes::SIDES;
 use counters::sizes::VERTICES;
+use landing::records::grow_list;
 use list::writing::put_list;
-use register::records::grow_list;
 use streams::reading::MAX_LIST;
 use text::lines::put_stopped;
 use text::writing::put_text;
@@ -14,7 +14,7 @@ ghost use mathlib.Core.Path.{_≡_};
 ghost use Prim.Native.Nat.{_≤_};
 ghost use lib.ListN.{length};
 ghost use Rattle.io.specs.Counts.{Counts as Counted};
-ghost use Rattle.canonical.specs.Output.{canonical, outputIn, roomBytes, sizeOf};
+ghost use Rattle.canonical.specs.Output.{canonical, asOutput, roomBytes, sizeOf};
 
 // Room for any list that is written.
 pub const ROOM: usize = 65536;
@@ -27,7 +27,7 @@ pub enum Output {
 
 pub fn canonical_list(list: &[u8], out: &mut [u8]) -> Output
     requires { ⌜ roomBytes ≤ length (now out) ⌝ }
-    ensures { λ r. ⌜ Counted (sizeOf r) (now (out .exit)) × (outputIn r (now (out .exit)) ≡ canonical (now (list .entry))) ⌝ }
+    ensures { λ r. ⌜ Counted (sizeOf r) (now (out .exit)) × (asOutput r (now (out .exit)) ≡ canonical (now (list .entry))) ⌝ }
 {
     if MAX_LIST < list.len() {
         let long = put_text(out, 0, b"too long\n");

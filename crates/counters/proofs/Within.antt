@@ -1,13 +1,13 @@
--- The three ways out of a test of bounds, and what its answer tells; and the three of a volume.
+-- The ways out of a test of bounds, and what its answer tells; and the three of a volume.
 use mathlib.Core.Path.{_≡_, refl, sym}
 use Prim.Native.Nat.{ℕ, _≤_, _<_}
 use native.Mathlib.Omega.{arith}
 use mathlib.Core.Bool.{Bool, true, false, _&&_}
 use mathlib.Core.Option.{none, some, Option·some-injective, Option·some-ne-none}
 use lib.Dec.{leb}
-use borrow.Author.Tests.{eq-eqb, ne-eqb, le-leb, lt-leb, leb-false}
-use Rattle.model.specs.Basics.{maxVolume}
-use Rattle.counters.specs.Numbers.{within, known, unknown, outOfRange, volumeOf}
+use borrow.Author.Tests.{eq-eqb, ne-eqb, le-leb, lt-leb, leb-false, lt-ltb, le-ltb}
+use Rattle.model.specs.Basics.{maxVertices, maxVolume}
+use Rattle.counters.specs.Numbers.{within, amongLanded, isLanded, known, unknown, outOfRange, volumeOf}
 
 pub within-yes : (low high n : ℕ) → low ≤ n → n ≤ high → some n ≡ within low high n
 unfolding within
@@ -20,6 +20,20 @@ within-below low high n h = rw (lt-leb low n h)
 pub within-above : (low high n : ℕ) → low ≤ n → high < n → none ≡ within low high n
 unfolding within
 within-above low high n l h = rw (le-leb low n l, lt-leb n high h)
+
+module _ (count n : ℕ) where
+  pub landed-above : maxVertices ≤ n → none ≡ amongLanded count n
+  unfolding amongLanded
+  landed-above h = rw (le-ltb n maxVertices h)
+
+  module _ (h : n < maxVertices) where
+    pub landed-yes : n < count → some n ≡ amongLanded count n
+    unfolding amongLanded
+    landed-yes g = rw (lt-ltb n maxVertices h, lt-ltb n count g)
+
+    pub landed-no : count ≤ n → none ≡ amongLanded count n
+    unfolding amongLanded
+    landed-no g = rw (lt-ltb n maxVertices h, le-ltb n count g)
 
 pub within-is : (low high n v : ℕ) → some v ≡ within low high n → v ≡ n
 unfolding within
@@ -36,6 +50,22 @@ within-none high n e = go (leb n high) refl
     go : (b : Bool) → leb n high ≡ b → high < n
     go true q = absurd (Option·some-ne-none n (sym (rw (le-leb 0 n (omega arith), q) at e)))
     go false q = leb-false n high q
+
+pub landed-is : (count n v : ℕ) → some v ≡ amongLanded count n → (isLanded count n ≡ true) × (v ≡ n)
+unfolding amongLanded
+landed-is count n v e = go (isLanded count n) refl
+  where
+    go : (b : Bool) → isLanded count n ≡ b → (isLanded count n ≡ true) × (v ≡ n)
+    go true q = (q, Option·some-injective v n (rw q at e))
+    go false q = absurd (Option·some-ne-none v (rw q at e))
+
+pub landed-none : (count n : ℕ) → none ≡ amongLanded count n → isLanded count n ≡ false
+unfolding amongLanded
+landed-none count n e = go (isLanded count n) refl
+  where
+    go : (b : Bool) → isLanded count n ≡ b → isLanded count n ≡ false
+    go true q = absurd (Option·some-ne-none n (sym (rw q at e)))
+    go false q = q
 
 -- ---- a volume
 

@@ -10,12 +10,12 @@ use Rattle.counters.specs.declared.answers.ListAnswer.{ListAnswer}
 use Rattle.counters.specs.declared.answers.ListAnswer.the-variants.{Read, Refused}
 use Rattle.counters.specs.declared.counts.Counts.{Counts}
 
-abbrev pub stopIn : Stop → format.Stop
-stopIn Whole = format.whole
-stopIn (Stopped k x) = format.stopped k (numberOf x)
+abbrev pub asStop : Stop → format.Stop
+asStop Whole = format.whole
+asStop (Stopped k x) = format.stopped k (numberOf x)
 
 abbrev pub listReply : ListAnswer → Reply
-listReply (Read s) = read (stopIn s)
+listReply (Read s) = read (asStop s)
 listReply (Refused x) = refuses (numberOf x)
 
 -- the head's four numbers
@@ -23,5 +23,5 @@ abbrev pub counts : ℕ → ℕ → ℕ → ℕ → T.Counts
 counts vertices edges blocks relabellings =
     record { vertices = vertices; edges = edges; blocks = blocks; relabellings = relabellings }
 
-abbrev pub countsIn : Counts → T.Counts
-countsIn c = counts (c .vertices) (c .edges) (c .blocks) (c .relabellings)
+abbrev pub asCounts : Counts → T.Counts
+asCounts c = counts (c .vertices) (c .edges) (c .blocks) (c .relabellings)

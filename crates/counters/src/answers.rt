@@ -1,4 +1,4 @@
-// What grow and land answer. Definitions, `stopIn` and `listReply`, give document 01's values of each case.
+// What grow and land answer. Definitions, `asStop` and `listReply`, give document 01's values of each case.
 use crate::refusals::Refusal;
 
 // How far a list was landed: whole, or up to a record (from 0) that was refused.

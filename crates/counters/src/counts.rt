@@ -1,7 +1,7 @@
 // The head of a register: the counts of fittings, pipes and births, and the re-hung total.
 ghost use mathlib.Core.Path.{_≡_};
 ghost use Rattle.model.specs.Tables.{noCounts};
-ghost use Rattle.counters.specs.Answers.{countsIn};
+ghost use Rattle.counters.specs.Answers.{asCounts};
 
 pub struct Counts {
     pub vertices: u16,
@@ -13,7 +13,7 @@ pub struct Counts {
 impl Counts {
     // The head of an empty register.
     pub fn none() -> Counts
-        ensures { λ r. ⌜ countsIn r ≡ noCounts ⌝ }
+        ensures { λ r. ⌜ asCounts r ≡ noCounts ⌝ }
     {
         Counts {
             vertices: 0,

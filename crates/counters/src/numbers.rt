@@ -1,9 +1,10 @@
-// A fitting number, a tag, a length in millimetres and a volume in millilitres: four types, so that none stands where another is expected.
-// Each has its bounds, and a constructor that tests them, on a number that is wide enough to be out of them.
+// A fitting number, a tag, a length in millimetres and a volume in millilitres: four types, so that none stands where another is expected; and a pipe's number.
+// Each has its bounds, and a constructor that tests them, on a number that is wide enough to be out of them. What a list or a caller says
+// becomes one of them by such a constructor alone. What is read from a lent table is of the kind that the table holds (tables::kinds).
 ghost use mathlib.Core.Path.{_≡_};
 ghost use Prim.Native.Nat.{_-_, _^_};
-ghost use Rattle.counters.specs.Numbers.{within, volumeOf, vertexIn, labelIn, millimetresIn, millilitresIn};
-ghost use Rattle.model.specs.Basics.{maxVertices, maxLength};
+ghost use Rattle.counters.specs.Numbers.{within, amongLanded, volumeOf, asVertex, asEdge, asLabel, asMillimetres, asMillilitres};
+ghost use Rattle.model.specs.Basics.{maxVertices, maxEdges, maxLength};
 
 // Document 01's fitting number, from 0.
 pub struct Vertex(pub u16);
@@ -20,12 +21,50 @@ impl Vertex {
     pub const COUNT: u16 = Vertex::MAX + 1;
 
     pub fn new(n: u32) -> CheckedVertex
-        ensures { λ r. ⌜ vertexIn r ≡ within 0 (maxVertices - 1) n ⌝ }
+        ensures { λ r. ⌜ asVertex r ≡ within 0 (maxVertices - 1) n ⌝ }
     {
         if n <= (Vertex::MAX as u32) {
             return CheckedVertex::Is(Vertex(n as u16));
         }
         CheckedVertex::OutOfRange
+    }
+
+    // The stricter test: one of so many that are landed. The bound is tested too, although no register has more: then it needs no further
+    // test where the tables are read (docs/SPEED.md).
+    pub fn landed(n: u16, count: u16) -> CheckedVertex
+        ensures { λ r. ⌜ asVertex r ≡ amongLanded count n ⌝ }
+    {
+        if Vertex::COUNT <= n {
+            return CheckedVertex::OutOfRange;
+        }
+        if n < count {
+            return CheckedVertex::Is(Vertex(n));
+        }
+        CheckedVertex::OutOfRange
+    }
+}
+
+// Document 01's pipe number, from 0.
+pub struct Edge(pub u16);
+
+pub enum CheckedEdge {
+    Is(Edge),
+    OutOfRange,
+}
+
+impl Edge {
+    pub const MAX: u16 = 4095;
+
+    // "At most 4,096 of each": a 4,097th is refused.
+    pub const COUNT: u16 = Edge::MAX + 1;
+
+    pub fn new(n: u32) -> CheckedEdge
+        ensures { λ r. ⌜ asEdge r ≡ within 0 (maxEdges - 1) n ⌝ }
+    {
+        if n <= (Edge::MAX as u32) {
+            return CheckedEdge::Is(Edge(n as u16));
+        }
+        CheckedEdge::OutOfRange
     }
 }
 
@@ -40,9 +79,9 @@ pub enum CheckedLabel {
 impl Label {
     pub const MAX: u32 = 4294967295;
 
-    // Document 01 asks a checked constructor of each counter; no call here needs it.
+    // Every number of 32 bits passes; what C says goes through it.
     pub fn new(n: u64) -> CheckedLabel
-        ensures { λ r. ⌜ labelIn r ≡ within 0 (2 ^ 32 - 1) n ⌝ }
+        ensures { λ r. ⌜ asLabel r ≡ within 0 (2 ^ 32 - 1) n ⌝ }
     {
         if n <= (Label::MAX as u64) {
             return CheckedLabel::Is(Label(n as u32));
@@ -51,7 +90,7 @@ impl Label {
     }
 }
 
-// The length of one pipe.
+// A length: of one pipe by `new`, which MIN and MAX bound; a sum of them by `add_lengths` of tables.
 pub struct Millimetres(pub u32);
 
 pub enum CheckedMillimetres {
@@ -65,7 +104,7 @@ impl Millimetres {
     pub const MAX: u32 = 100000;
 
     pub fn new(n: u32) -> CheckedMillimetres
-        ensures { λ r. ⌜ millimetresIn r ≡ within 1 maxLength n ⌝ }
+        ensures { λ r. ⌜ asMillimetres r ≡ within 1 maxLength n ⌝ }
     {
         if n < Millimetres::MIN {
             return CheckedMillimetres::OutOfRange;
@@ -95,7 +134,7 @@ impl Millilitres {
     pub const MAX: u32 = 1000000;
 
     pub fn new(n: u32) -> CheckedMillilitres
-        ensures { λ r. ⌜ millilitresIn r ≡ volumeOf n ⌝ }
+        ensures { λ r. ⌜ asMillilitres r ≡ volumeOf n ⌝ }
     {
         if n < Millilitres::MIN {
             return CheckedMillilitres::Unknown;

@@ -1,2 +1,2 @@
 pub mod ReplayLaws
-pub mod Held
+pub mod HeldLaws

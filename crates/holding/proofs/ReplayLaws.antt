@@ -11,9 +11,10 @@ use lib.ListN.{getD}
 use lib.Dec.{eqb}
 use borrow.Author.Tests.{le-leb, lt-leb, eqb-true, eq-eqb}
 use Rattle.model.specs.Basics.{maxVertices}
-use Rattle.model.specs.Tables.{Tables, Counts, Stored, edgeIn}
+use Rattle.model.specs.Tables.{Tables, Counts, Stored, storedEdge}
 use Rattle.model.proofs.Registers.Equality.{counts-parts}
-use Rattle.tables.specs.Steps.{edgeOf, stored, tables, zeroed, Tells}
+use Rattle.tables.specs.Meaning.{stored, tables}
+use Rattle.tables.specs.Steps.{edgeOf, zeroed, Tells}
 use Rattle.tables.proofs.Lists.{differ}
 use Rattle.counters.specs.Answers.{counts}
 use Rattle.insertion.specs.Insertion.{AnswerIn, done, refusedIn, LandingIn, landingIn, landIn}
@@ -44,7 +45,7 @@ answer-of e = ap (λ (l : LandingIn). l .answer) e
 -- the edge that the code reads
 own-edge : (es ls : List ℕ) (e i a b l : ℕ) → i ≡ 2 * e → a ≡ getD es i 0 → b ≡ getD es (i + 1) 0 → l ≡ getD ls e 0
     → record { first = a; second = b; len = l } ≡ edgeOf es ls e
-unfolding edgeIn
+unfolding storedEdge
 own-edge es ls e i a b l p q r s = rw (q, r, s, p)
 
 module _ (es ls : List ℕ) (e : ℕ) (t t′ : Tables) (c : Counts) (rings : Bool) where

@@ -8,7 +8,8 @@ use lib.Dec.{leb}
 use Rattle.model.specs.Basics.{if_then_else_, maxVertices}
 use Rattle.model.specs.Tables.{Tables, Counts, Stored}
 use Rattle.counters.specs.Answers.{counts}
-use Rattle.tables.specs.Steps.{edgeOf, stored}
+use Rattle.tables.specs.Meaning.{stored}
+use Rattle.tables.specs.Steps.{edgeOf}
 use Rattle.insertion.specs.Insertion.{AnswerIn, done, refusedIn, LandingIn, landingIn, landIn}
 
 -- n edges of the tables of ends and lengths, from number e on, landed on t; rings: a ring may stand

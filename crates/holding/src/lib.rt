@@ -1,2 +1,3 @@
-// Refusal 21: whether lent tables and counts hold a register.
+// Refusal 21: whether lent tables and counts hold a register. replay: edges landed again; held: what that leaves, compared.
+pub mod held;
 pub mod replay;

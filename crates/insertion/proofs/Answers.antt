@@ -1,4 +1,4 @@
--- The refusals of an edge, in their order, and an insertion.
+-- A vertex; the refusals of an edge, in their order, and an insertion.
 use mathlib.Core.Path.{_≡_, refl, sym, _∙_}
 use mathlib.Core.Bool.{Bool, true, false, _||_}
 use mathlib.Core.List.{List}
@@ -9,18 +9,29 @@ use native.Mathlib.Decide.{decLe, decLt}
 use borrow.Author.Tests.{eq-eqb, ne-eqb, lt-ltb, le-ltb, le-leb, lt-leb}
 use lib.Dec.{eqb, ltb}
 use lib.ListN.{getD, set}
-use Rattle.model.specs.Basics.{if_then_else_, maxEdges, maxLength}
+use Rattle.model.specs.Basics.{if_then_else_, maxEdges, maxLength, maxVertices}
 use Rattle.model.specs.Graph.{Edge}
 use Rattle.model.specs.Cases.{Case, classOf, caseOf}
 use Rattle.model.specs.Tables.{Tables, Counts}
 use Rattle.counters.specs.Answers.{counts}
-use Rattle.counters.specs.Numbers.{within}
+use Rattle.counters.specs.Numbers.{isLanded, within}
 use Rattle.counters.proofs.Within.{within-yes, within-below, within-above}
-use Rattle.tables.specs.Steps.{tables, setPair, more16, sum32}
+use Rattle.tables.specs.Meaning.{tables}
+use Rattle.tables.specs.Steps.{setPair, more16, sum32}
 use Rattle.insertion.specs.Placing.{placed, placeIn}
-use Rattle.insertion.specs.Insertion.{done, landingIn, insertIn, passed, failed, checkIn, landChecked, landIn}
-use Rattle.insertion.specs.Meaning.{checkedIn}
-use Rattle.insertion.specs.declared.landing.Checked.{Checked}
+use Rattle.insertion.specs.Insertion.{done, refusedIn, landingIn, landVertexIn, insertIn, passed, failed, checkIn, landChecked, landIn}
+use Rattle.insertion.specs.Meaning.{asChecked}
+use Rattle.insertion.specs.declared.edges.Checked.{Checked}
+
+module _ (c : Counts) (rings : Bool) where
+  pub vertex-full : maxVertices ≤ c .vertices → refusedIn 22 ≡ landVertexIn c rings
+  unfolding landVertexIn
+  vertex-full h = rw (le-leb maxVertices (c .vertices) h)
+
+  pub vertex-more : (n : ℕ) → c .vertices < maxVertices → n ≡ more16 (c .vertices)
+      → done (counts n (c .edges) (c .blocks) (c .relabellings)) rings ≡ landVertexIn c rings
+  unfolding landVertexIn
+  vertex-more n h e = rw (lt-leb maxVertices (c .vertices) h, e)
 
 pub insert-done : (d s ends l t d′ s′ t′ ends′ l′ : List ℕ) (c : Counts) (rings ring after : Bool) (a b len da db blocks m edges n : ℕ) (k : Case)
     → da ≡ getD d a 0 → db ≡ getD d b 0 → k ≡ caseOf (classOf da) (classOf db)
@@ -64,37 +75,37 @@ module _ (c : Counts) (a b n : ℕ) where
   abbrev edge : Edge
   edge = record { first = a; second = b; len = n }
 
-  pub check-first : c .vertices ≤ a → failed 5 ≡ checkIn c edge
+  pub check-first : isLanded (c .vertices) a ≡ false → failed 5 ≡ checkIn c edge
   unfolding checkIn
-  check-first h = rw (le-ltb _ _ h)
+  check-first h = rw h
 
-  pub check-second : a < c .vertices → c .vertices ≤ b → failed 5 ≡ checkIn c edge
+  pub check-second : isLanded (c .vertices) a ≡ true → isLanded (c .vertices) b ≡ false → failed 5 ≡ checkIn c edge
   unfolding checkIn
-  check-second h g = rw (lt-ltb _ _ h, le-ltb _ _ g)
+  check-second h g = rw (h, g)
 
-  pub check-same : a < c .vertices → b < c .vertices → a ≡ b → failed 6 ≡ checkIn c edge
-  unfolding checkIn
-  check-same h g e = rw (lt-ltb _ _ h, lt-ltb _ _ g, eq-eqb _ _ e)
+  module _ (h : isLanded (c .vertices) a ≡ true) (g : isLanded (c .vertices) b ≡ true) where
+    pub check-same : a ≡ b → failed 6 ≡ checkIn c edge
+    unfolding checkIn
+    check-same e = rw (h, g, eq-eqb _ _ e)
 
-  pub check-length : a < c .vertices → b < c .vertices → (a ≡ b → ⊥) → none ≡ within 1 maxLength n → failed 7 ≡ checkIn c edge
-  unfolding checkIn
-  check-length h g e l = rw (lt-ltb _ _ h, lt-ltb _ _ g, ne-eqb _ _ e, if-none (eqb n 0 || ltb maxLength n) n (l ∙ length-test n))
+    pub check-length : (a ≡ b → ⊥) → none ≡ within 1 maxLength n → failed 7 ≡ checkIn c edge
+    unfolding checkIn
+    check-length e l = rw (h, g, ne-eqb _ _ e, if-none (eqb n 0 || ltb maxLength n) n (l ∙ length-test n))
 
-  pub check-edges : (m : ℕ) → a < c .vertices → b < c .vertices → (a ≡ b → ⊥)
-      → some m ≡ within 1 maxLength n → maxEdges ≤ c .edges → failed 23 ≡ checkIn c edge
-  unfolding checkIn
-  check-edges m h g e l o =
-      rw (lt-ltb _ _ h, lt-ltb _ _ g, ne-eqb _ _ e, if-some (eqb n 0 || ltb maxLength n) m n (l ∙ length-test n) .0, le-leb _ _ o)
+    pub check-edges : (m : ℕ) → (a ≡ b → ⊥) → some m ≡ within 1 maxLength n → maxEdges ≤ c .edges → failed 23 ≡ checkIn c edge
+    unfolding checkIn
+    check-edges m e l o =
+        rw (h, g, ne-eqb _ _ e, if-some (eqb n 0 || ltb maxLength n) m n (l ∙ length-test n) .0, le-leb _ _ o)
 
-  pub check-passed : (m : ℕ) → a < c .vertices → b < c .vertices → (a ≡ b → ⊥)
-      → some m ≡ within 1 maxLength n → c .edges < maxEdges → passed m ≡ checkIn c edge
-  unfolding checkIn
-  check-passed m h g e l o =
-      let q = if-some (eqb n 0 || ltb maxLength n) m n (l ∙ length-test n) in
-      rw (lt-ltb _ _ h, lt-ltb _ _ g, ne-eqb _ _ e, q .0, lt-leb _ _ o, q .1)
+    pub check-passed : (a′ b′ m : ℕ) → a′ ≡ a → b′ ≡ b → (a ≡ b → ⊥) → some m ≡ within 1 maxLength n → c .edges < maxEdges
+        → passed a′ b′ m ≡ checkIn c edge
+    unfolding checkIn
+    check-passed a′ b′ m x y e l o =
+        let q = if-some (eqb n 0 || ltb maxLength n) m n (l ∙ length-test n) in
+        rw (h, g, ne-eqb _ _ e, q .0, lt-leb _ _ o, q .1, x, y)
 
 -- landing goes on as the check's answer says
-pub checked-given : (t : Tables) (c : Counts) (rings : Bool) (e : Edge) (k k′ : Checked) → k ≡ k′ → checkedIn k ≡ checkIn c e
-    → landChecked t c rings e (checkedIn k′) ≡ landIn t c rings e
+pub checked-given : (t : Tables) (c : Counts) (rings : Bool) (e : Edge) (k k′ : Checked) → k ≡ k′ → asChecked k ≡ checkIn c e
+    → landChecked t c rings e (asChecked k′) ≡ landIn t c rings e
 unfolding landIn
 checked-given t c rings e k k′ q h = rw (← h, q)

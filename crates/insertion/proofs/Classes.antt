@@ -5,7 +5,7 @@ use Prim.Native.Nat.{ℕ, zero, suc}
 use denote.Enum.Declared.{tagOf}
 use types.Run.{OneOf, miss}
 use Rattle.model.specs.Cases.{Class, isolated, leaf, regular, branch, classOf, caseOf}
-use Rattle.insertion.specs.Meaning.{classIn, leafless}
+use Rattle.insertion.specs.Meaning.{asClass, leafless}
 use Rattle.insertion.specs.declared.cases.Class as declared
 use Rattle.insertion.specs.declared.cases.Class.the-variants.{Isolated, Leaf, Regular, Branch}
 use Rattle.insertion.proofs.cases.Class.{the-type}
@@ -26,7 +26,7 @@ case-branch regular = refl
 case-branch branch = refl
 
 -- an arm for several variants tells the variant's position: it is no leaf
-pub no-leaf : (x : declared.Class) → OneOf (0 ∷ 2 ∷ 3 ∷ []) (tagOf the-type x) → leafless (classIn x) ≡ classIn x
+pub no-leaf : (x : declared.Class) → OneOf (0 ∷ 2 ∷ 3 ∷ []) (tagOf the-type x) → leafless (asClass x) ≡ asClass x
 unfolding leafless
 no-leaf Isolated h = refl
 no-leaf Leaf h = absurd (miss (0 ∷ 2 ∷ 3 ∷ []) 1 tt h)
@@ -35,7 +35,7 @@ no-leaf Branch h = refl
 
 -- .. and here no regular vertex
 pub not-regular : (x : declared.Class) (second : Class) → OneOf (0 ∷ 1 ∷ 3 ∷ []) (tagOf the-type x)
-    → caseOf isolated second ≡ caseOf (leafless (classIn x)) second
+    → caseOf isolated second ≡ caseOf (leafless (asClass x)) second
 unfolding leafless
 not-regular Isolated second h = refl
 not-regular Leaf second h = refl

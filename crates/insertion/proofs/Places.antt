@@ -5,6 +5,7 @@ use mathlib.Core.List.{List}
 use Prim.Native.Nat.{ℕ}
 use borrow.Author.Tests.{eq-eqb, ne-eqb}
 use lib.ListN.{getD}
+use Rattle.counters.specs.declared.numbers.Vertex.{Vertex}
 use Rattle.tables.specs.Steps.{setPair, raiseBothIn}
 use Rattle.labels.specs.Labelling.{marksIn, extendIn}
 use Rattle.labels.specs.Merging.{changed, mergeIn}
@@ -37,9 +38,9 @@ module _ (degrees s ends l degrees′ s′ l′ : List ℕ) (blocks a b blocks�
       → placed degrees′ s′ l′ blocks′ m ring ≡ openIn splits extension degrees s ends l blocks a b e rings
   open-nothing extension o h = rw o h
 
-  pub open-leaf : (extension : Extension) (x : ℕ) (s₁ l₁ : List ℕ) (k₁ k m₁ : ℕ) (ring₁ : Bool) → extension ≡ Leaf x
+  pub open-leaf : (extension : Extension) (x : Vertex) (s₁ l₁ : List ℕ) (k₁ k m₁ : ℕ) (ring₁ : Bool) → extension ≡ Leaf x
       → placed degrees′ s₁ l₁ k₁ m₁ ring₁ ≡ openedIn splits degrees s ends l blocks a b e rings
-      → marksIn s′ l′ k ≡ extendIn degrees′ s₁ ends l₁ k₁ x e → (blocks′ ≡ k) × (m ≡ m₁) × (ring ≡ false)
+      → marksIn s′ l′ k ≡ extendIn degrees′ s₁ ends l₁ k₁ (x .0) e → (blocks′ ≡ k) × (m ≡ m₁) × (ring ≡ false)
       → placed degrees′ s′ l′ blocks′ m ring ≡ openIn splits extension degrees s ends l blocks a b e rings
   unfolding goesOnIn
   open-leaf extension x s₁ l₁ k₁ k m₁ ring₁ o h g z = rw (o, z .0, z .1, z .2, ← h, ← g)

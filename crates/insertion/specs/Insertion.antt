@@ -1,13 +1,15 @@
--- One edge into the five tables: its refusals in their order, what it leaves and its answer.
+-- One vertex or one edge into the five tables: its refusals in their order, what it leaves and its answer.
 use Prim.Native.Nat.{ℕ}
 use mathlib.Core.Bool.{Bool, not, _&&_, _||_}
 use lib.ListN.{set}
 use lib.Dec.{eqb, leb, ltb}
-use Rattle.model.specs.Basics.{if_then_else_, maxEdges, maxLength}
+use Rattle.model.specs.Basics.{if_then_else_, maxEdges, maxLength, maxVertices}
 use Rattle.model.specs.Graph.{Edge}
 use Rattle.model.specs.Tables.{Tables, Counts}
 use Rattle.counters.specs.Answers.{counts}
-use Rattle.tables.specs.Steps.{tables, setPair, more16, sum32}
+use Rattle.counters.specs.Numbers.{isLanded}
+use Rattle.tables.specs.Meaning.{tables}
+use Rattle.tables.specs.Steps.{setPair, more16, sum32}
 use Rattle.insertion.specs.Placing.{placedBy}
 
 -- the counts after a landing and whether a ring may stand then, or its refusal
@@ -23,6 +25,12 @@ pub record LandingIn : Type 0 where
 abbrev pub landingIn : Tables → AnswerIn → LandingIn
 landingIn t a = record { tables = t; answer = a }
 
+-- a vertex changes the counts alone
+unfoldable pub landVertexIn : Counts → Bool → AnswerIn
+landVertexIn c rings =
+    if leb maxVertices (c .vertices) then refusedIn 22
+    else done (counts (more16 (c .vertices)) (c .edges) (c .blocks) (c .relabellings)) rings
+
 -- an edge that passed refusals 5, 6, 7 and 23; rings: a ring may stand
 unfoldable pub insertIn : Tables → Counts → Bool → Edge → LandingIn
 insertIn t c rings e =
@@ -32,22 +40,22 @@ insertIn t c rings e =
     (tables (p .degrees) (p .sides) (setPair (t .ends) new (e .first) (e .second)) (set (t .lengths) new (e .len)) (p .labels))
     (done (counts (c .vertices) (more16 new) (p .blocks) (sum32 (c .relabellings) (p .relabellings))) (rings || p .ring))
 
--- the length of an edge that passed, or the first of refusals 5, 6, 7 and 23 that holds of it
+-- the ends and the length of an edge that passed, or the first of refusals 5, 6, 7 and 23 that holds of it
 pub data CheckIn : Type 0 where
-  passed : ℕ → CheckIn
+  passed : ℕ → ℕ → ℕ → CheckIn
   failed : ℕ → CheckIn
 
 unfoldable pub checkIn : Counts → Edge → CheckIn
 checkIn c e =
-    if not (ltb (e .first) (c .vertices) && ltb (e .second) (c .vertices)) then failed 5
+    if not (isLanded (c .vertices) (e .first) && isLanded (c .vertices) (e .second)) then failed 5
     else if eqb (e .first) (e .second) then failed 6
     else if eqb (e .len) 0 || ltb maxLength (e .len) then failed 7
     else if leb maxEdges (c .edges) then failed 23
-    else passed (e .len)
+    else passed (e .first) (e .second) (e .len)
 
 -- what landing comes to, once the edge was checked; a refused edge leaves the tables
 abbrev pub landChecked : Tables → Counts → Bool → Edge → CheckIn → LandingIn
-landChecked t c rings e (passed n) = insertIn t c rings (record { first = e .first; second = e .second; len = n })
+landChecked t c rings e (passed a b n) = insertIn t c rings (record { first = a; second = b; len = n })
 landChecked t c rings e (failed x) = landingIn t (refusedIn x)
 
 unfoldable pub landIn : Tables → Counts → Bool → Edge → LandingIn

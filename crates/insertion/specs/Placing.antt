@@ -8,6 +8,7 @@ use Rattle.model.specs.Basics.{if_then_else_}
 use Rattle.model.specs.Graph.{Edge}
 use Rattle.model.specs.Cases.{Case, newChain, extends, merges, closes, splitExtends, splitNew, splitBoth, firstNamed, secondNamed, classOf, caseOf}
 use Rattle.model.specs.Tables.{Tables, Counts}
+use Rattle.counters.specs.Numbers.{vertexOf}
 use Rattle.tables.specs.Steps.{setPair, raiseBothIn}
 use Rattle.labels.specs.Labelling.{extendIn}
 use Rattle.labels.specs.Merging.{mergeIn}
@@ -22,14 +23,14 @@ use Rattle.insertion.specs.declared.placing.Work.the-variants.{Merge, Op
 -- what is done in each case; a ring is closed as two chains are merged
 abbrev pub workFor : Case → ℕ → ℕ → Work
 workFor newChain a b = Open Neither Nothing
-workFor (extends firstNamed) a b = Open Neither (Leaf a)
-workFor (extends secondNamed) a b = Open Neither (Leaf b)
+workFor (extends firstNamed) a b = Open Neither (Leaf (vertexOf a))
+workFor (extends secondNamed) a b = Open Neither (Leaf (vertexOf b))
 workFor merges a b = Merge
 workFor closes a b = Merge
-workFor (splitExtends firstNamed) a b = Open (One b a) (Leaf a)
-workFor (splitExtends secondNamed) a b = Open (One a b) (Leaf b)
-workFor (splitNew firstNamed) a b = Open (One a b) Nothing
-workFor (splitNew secondNamed) a b = Open (One b a) Nothing
+workFor (splitExtends firstNamed) a b = Open (One (vertexOf b) (vertexOf a)) (Leaf (vertexOf a))
+workFor (splitExtends secondNamed) a b = Open (One (vertexOf a) (vertexOf b)) (Leaf (vertexOf b))
+workFor (splitNew firstNamed) a b = Open (One (vertexOf a) (vertexOf b)) Nothing
+workFor (splitNew secondNamed) a b = Open (One (vertexOf b) (vertexOf a)) Nothing
 workFor splitBoth a b = Open Both Nothing
 
 -- edge e comes to v: an isolated one gets e as its low side, any other is left
@@ -65,7 +66,7 @@ goesOnIn p ends x e =
 abbrev pub openIn : Splits → Extension → List ℕ → List ℕ → List ℕ → List ℕ → ℕ → ℕ → ℕ → ℕ → Bool → Placed
 openIn splits Nothing degrees sides ends labels blocks a b e rings = openedIn splits degrees sides ends labels blocks a b e rings
 openIn splits (Leaf x) degrees sides ends labels blocks a b e rings =
-    goesOnIn (openedIn splits degrees sides ends labels blocks a b e rings) ends x e
+    goesOnIn (openedIn splits degrees sides ends labels blocks a b e rings) ends (x .0) e
 
 -- both are leaves
 unfoldable pub mergedIn : List ℕ → List ℕ → List ℕ → List ℕ → ℕ → ℕ → ℕ → ℕ → Placed

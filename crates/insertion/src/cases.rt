@@ -1,7 +1,7 @@
 // The case of an insertion, by the degrees of the two ends before it.
 ghost use mathlib.Core.Path.{_≡_};
 ghost use Rattle.model.specs.Cases.{isolated, leaf, regular, classOf, caseOf};
-ghost use Rattle.insertion.specs.Meaning.{classIn, leafless, caseIn};
+ghost use Rattle.insertion.specs.Meaning.{asClass, leafless, asCase};
 
 // Degrees 0, 1, 2, 3 and up. Document 01 calls a regular vertex a coupling, every other one a junction, and a leaf free.
 pub enum Class {
@@ -25,7 +25,7 @@ pub enum Case {
 }
 
 pub fn class_of(degree: u16) -> Class
-    ensures { λ r. ⌜ classIn r ≡ classOf degree ⌝ }
+    ensures { λ r. ⌜ asClass r ≡ classOf degree ⌝ }
 {
     match degree {
         0 => Class::Isolated,
@@ -37,7 +37,7 @@ pub fn class_of(degree: u16) -> Class
 
 // A leaf is told from the others first: the processor mispredicts this test most, and so it has two outcomes, not four.
 pub fn case_of(first: Class, second: Class) -> Case
-    ensures { λ r. ⌜ caseIn r ≡ caseOf (classIn first) (classIn second) ⌝ }
+    ensures { λ r. ⌜ asCase r ≡ caseOf (asClass first) (asClass second) ⌝ }
 {
     match first {
         Class::Leaf => case_of_leaf(second),
@@ -47,7 +47,7 @@ pub fn case_of(first: Class, second: Class) -> Case
 
 // The first end is no leaf; a leaf would be taken as isolated.
 fn case_of_other(first: Class, second: Class) -> Case
-    ensures { λ r. ⌜ caseIn r ≡ caseOf (leafless (classIn first)) (classIn second) ⌝ }
+    ensures { λ r. ⌜ asCase r ≡ caseOf (leafless (asClass first)) (asClass second) ⌝ }
 {
     match first {
         Class::Regular => case_of_regular(second),
@@ -57,7 +57,7 @@ fn case_of_other(first: Class, second: Class) -> Case
 
 // The first end is singular and no leaf: an isolated vertex and a branch make the same cases.
 fn case_of_singular(second: Class) -> Case
-    ensures { λ r. ⌜ caseIn r ≡ caseOf isolated (classIn second) ⌝ }
+    ensures { λ r. ⌜ asCase r ≡ caseOf isolated (asClass second) ⌝ }
 {
     match second {
         Class::Isolated => Case::New,
@@ -68,7 +68,7 @@ fn case_of_singular(second: Class) -> Case
 }
 
 fn case_of_leaf(second: Class) -> Case
-    ensures { λ r. ⌜ caseIn r ≡ caseOf leaf (classIn second) ⌝ }
+    ensures { λ r. ⌜ asCase r ≡ caseOf leaf (asClass second) ⌝ }
 {
     match second {
         Class::Isolated => Case::ExtendFirst,
@@ -79,7 +79,7 @@ fn case_of_leaf(second: Class) -> Case
 }
 
 fn case_of_regular(second: Class) -> Case
-    ensures { λ r. ⌜ caseIn r ≡ caseOf regular (classIn second) ⌝ }
+    ensures { λ r. ⌜ asCase r ≡ caseOf regular (asClass second) ⌝ }
 {
     match second {
         Class::Isolated => Case::SplitFirst,

@@ -1,5 +1,7 @@
-// One edge into the five lent tables.
-// cases: which of document 01's cases it is; placing: case by case; landing: the refusals, and the edge written down.
+// One record of a list into the five lent tables.
+// vertices: a vertex, which changes the counts alone; edges: an edge, its refusals, and what is written down; cases: which of document
+// 01's cases it is; placing: case by case.
 pub mod cases;
-pub mod landing;
+pub mod edges;
 pub mod placing;
+pub mod vertices;

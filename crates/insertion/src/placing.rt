@@ -1,22 +1,24 @@
 // What an edge does to the degrees, the sides and the labels, case by case. e edges were landed before, which is fuel enough for every
 // walk.
 use crate::cases::Case;
+use counters::numbers::Edge;
+use counters::numbers::Vertex;
 use labels::labelling::extend_chain;
 use labels::merging::ChainChange;
 use labels::merging::merge_chains;
 use labels::splitting::Splits;
 use labels::splitting::split_ends;
-use tables::access::of16;
-use tables::steps::put_pair;
+use tables::kinds::degree_of;
+use tables::kinds::put_sides;
 use tables::steps::raise_both;
 ghost use mathlib.Core.Path.{_≡_};
 ghost use Rattle.insertion.specs.Placing.{meetIn, placed, openedIn, openIn, mergedIn, workFor, placeIn};
-ghost use Rattle.insertion.specs.Meaning.{caseIn};
+ghost use Rattle.insertion.specs.Meaning.{asCase};
 
 // The leaf whose chain goes on over the edge, if one does.
 pub enum Extension {
     Nothing,
-    Leaf(u16),
+    Leaf(Vertex),
 }
 
 // What is done for an edge: the chains of both ends are merged; or both ends are opened, those that are regular by a split, and then a
@@ -27,8 +29,8 @@ pub enum Work {
 }
 
 // Document 01's cases. Document 02's ring is closed where chains are merged, and tapped where one is split.
-fn work_of(case: Case, a: u16, b: u16) -> Work
-    ensures { λ r. ⌜ r ≡ workFor (caseIn case) a b ⌝ }
+fn work_of(case: Case, a: Vertex, b: Vertex) -> Work
+    ensures { λ r. ⌜ r ≡ workFor (asCase case) (a .0) (b .0) ⌝ }
 {
     match case {
         Case::New => Work::Open(Splits::Neither, Extension::Nothing),
@@ -44,11 +46,11 @@ fn work_of(case: Case, a: u16, b: u16) -> Work
 }
 
 // Edge e comes to vertex v: an isolated one becomes a leaf with e as its only edge.
-fn meet_end(degrees: &[u16], sides: &mut [u16], v: u16, e: u16)
-    ensures { λ _. ⌜ now (sides .exit) ≡ meetIn (now (degrees .entry)) (now (sides .entry)) v e ⌝ }
+fn meet_end(degrees: &[u16], sides: &mut [u16], v: Vertex, e: Edge)
+    ensures { λ _. ⌜ now (sides .exit) ≡ meetIn (now (degrees .entry)) (now (sides .entry)) (v .0) (e .0) ⌝ }
 {
-    if of16(degrees, v) == 0 {
-        put_pair(sides, v, e, 0);
+    if degree_of(degrees, v) == 0 {
+        put_sides(sides, v, e, Edge(0));
     }
 }
 
@@ -60,15 +62,26 @@ fn open_both(
     ends: &[u16],
     labels: &mut [u32],
     blocks: u16,
-    a: u16,
-    b: u16,
-    e: u16,
+    a: Vertex,
+    b: Vertex,
+    e: Edge,
     rings: bool,
 ) -> ChainChange
     ensures { λ r. ⌜ placed (now (degrees .exit)) (now (sides .exit)) (now (labels .exit)) (r .blocks) (r .relabellings) (r .ring)
-        ≡ openedIn splits (now (degrees .entry)) (now (sides .entry)) (now (ends .entry)) (now (labels .entry)) blocks a b e rings ⌝ }
+        ≡ openedIn splits (now (degrees .entry)) (now (sides .entry)) (now (ends .entry)) (now (labels .entry)) blocks (a .0) (b .0) (e .0) rings ⌝ }
 {
-    let c = split_ends(splits, degrees, sides, ends, labels, blocks, a, b, e, rings);
+    let c = split_ends(
+        splits,
+        degrees,
+        sides,
+        ends,
+        labels,
+        blocks,
+        a,
+        b,
+        e.0,
+        rings,
+    );
     meet_end(degrees, sides, a, e);
     meet_end(degrees, sides, b, e);
     raise_both(degrees, a, b);
@@ -85,13 +98,13 @@ fn place_open(
     ends: &[u16],
     labels: &mut [u32],
     blocks: u16,
-    a: u16,
-    b: u16,
-    e: u16,
+    a: Vertex,
+    b: Vertex,
+    e: Edge,
     rings: bool,
 ) -> ChainChange
     ensures { λ r. ⌜ placed (now (degrees .exit)) (now (sides .exit)) (now (labels .exit)) (r .blocks) (r .relabellings) (r .ring)
-        ≡ openIn splits extension (now (degrees .entry)) (now (sides .entry)) (now (ends .entry)) (now (labels .entry)) blocks a b e rings ⌝ }
+        ≡ openIn splits extension (now (degrees .entry)) (now (sides .entry)) (now (ends .entry)) (now (labels .entry)) blocks (a .0) (b .0) (e .0) rings ⌝ }
 {
     let c = open_both(splits, degrees, sides, ends, labels, blocks, a, b, e, rings);
     match extension {
@@ -110,14 +123,14 @@ fn place_merged(
     ends: &[u16],
     labels: &mut [u32],
     blocks: u16,
-    a: u16,
-    b: u16,
-    e: u16,
+    a: Vertex,
+    b: Vertex,
+    e: Edge,
 ) -> ChainChange
     ensures { λ r. ⌜ placed (now (degrees .exit)) (now (sides .exit)) (now (labels .exit)) (r .blocks) (r .relabellings) (r .ring)
-        ≡ mergedIn (now (degrees .entry)) (now (sides .entry)) (now (ends .entry)) (now (labels .entry)) blocks a b e ⌝ }
+        ≡ mergedIn (now (degrees .entry)) (now (sides .entry)) (now (ends .entry)) (now (labels .entry)) blocks (a .0) (b .0) (e .0) ⌝ }
 {
-    let c = merge_chains(degrees, sides, ends, labels, blocks, a, b, e, e);
+    let c = merge_chains(degrees, sides, ends, labels, blocks, a, b, e, e.0);
     raise_both(degrees, a, b);
     c
 }
@@ -130,13 +143,13 @@ pub fn place_edge(
     ends: &[u16],
     labels: &mut [u32],
     blocks: u16,
-    a: u16,
-    b: u16,
-    e: u16,
+    a: Vertex,
+    b: Vertex,
+    e: Edge,
     rings: bool,
 ) -> ChainChange
     ensures { λ r. ⌜ placed (now (degrees .exit)) (now (sides .exit)) (now (labels .exit)) (r .blocks) (r .relabellings) (r .ring)
-        ≡ placeIn (caseIn case) (now (degrees .entry)) (now (sides .entry)) (now (ends .entry)) (now (labels .entry)) blocks a b e rings ⌝ }
+        ≡ placeIn (asCase case) (now (degrees .entry)) (now (sides .entry)) (now (ends .entry)) (now (labels .entry)) blocks (a .0) (b .0) (e .0) rings ⌝ }
 {
     let work = work_of(case, a, b);
     match work {

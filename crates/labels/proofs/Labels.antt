@@ -10,10 +10,16 @@ use borrow.Author.Tests.{eq-eqb, ne-eqb}
 use lib.Dec.{eqb}
 use lib.ListN.{getD, set}
 use Rattle.model.specs.Basics.{if_then_else_}
-use Rattle.model.specs.Labels.{base, isRelabelled}
+use Rattle.model.specs.Labels.{base, isRelabelled, next}
 use Rattle.model.proofs.Basics.Booleans.{one-most}
-use Rattle.tables.specs.Steps.{farIn, turnIn, more16, nextIn}
-use Rattle.labels.specs.Labelling.{MarksIn, marksIn, countAhead, risesIn, orientIn, labelVertexIn, relabelIn, beyondIn, extendAt, extendIn}
+use Rattle.tables.specs.Steps.{farIn, turnIn, more16, more32, most32}
+use Rattle.labels.specs.Labelling.{MarksIn, marksIn, countAhead, nextIn, risesIn, orientIn, labelVertexIn, relabelIn, beyondIn, extendAt, extendIn}
+
+-- the code stops at the largest number, which no label reaches
+pub nextIn-is : (up : Bool) (label : ℕ) → label < most32 → nextIn up label ≡ next up label
+unfolding nextIn next more32
+nextIn-is true label h = omega arith
+nextIn-is false label h = refl
 
 pub label-law : (s l s′ l′ : List ℕ) (v label before after old n : ℕ) (up r : Bool) → old ≡ getD l v 0 → l′ ≡ set l v label
     → s′ ≡ orientIn up s v before after → r ≡ isRelabelled old label → n ≡ (if r then 1 else 0)

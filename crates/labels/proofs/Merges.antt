@@ -1,14 +1,17 @@
 -- Two chains joined, a chain begun, a ring closed, and the ways out of a merge.
-use mathlib.Core.Path.{_≡_}
+use mathlib.Core.Path.{_≡_, _∙_}
 use mathlib.Core.Bool.{Bool, true, false}
 use mathlib.Core.List.{List}
-use Prim.Native.Nat.{ℕ, _+_, _*_}
+use Prim.Native.Nat.{ℕ, _+_, _*_, _<_}
+use native.Mathlib.Omega.{arith}
 use borrow.Author.Tests.{eq-eqb, ne-eqb}
 use lib.ListN.{getD}
 use Rattle.model.specs.Labels.{base}
-use Rattle.tables.specs.Steps.{farIn, more16, nextIn}
+use Rattle.counters.specs.Numbers.{vertexOf}
+use Rattle.counters.specs.declared.numbers.Vertex.{Vertex}
+use Rattle.tables.specs.Steps.{farIn, more16, more32}
 use Rattle.tables.specs.Walks.{Met, lockstepIn}
-use Rattle.labels.specs.Labelling.{marksIn, countAhead, risesIn, labelVertexIn, relabelIn, beyondIn}
+use Rattle.labels.specs.Labelling.{marksIn, countAhead, risesIn, labelVertexIn, relabelIn, beyondIn, nextIn}
 use Rattle.labels.specs.Merging.{joinIn, beginIn, changed, closeIn, keeperFor, keeperIn, mergeAt, mergeIn}
 use Rattle.labels.specs.declared.merging.Keeper.{Keeper}
 use Rattle.labels.specs.declared.merging.Keeper.the-variants.{Neither, Chain}
@@ -23,21 +26,26 @@ unfolding joinIn countAhead
 join-law degrees s ends l s₁ l₁ s₂ l₂ s₃ l₃ x y e n dx dy ux uy old lx ly ly′ m₁ m₂ m₃ up a b f g h i j k o p =
     rw (← a .0, ← a .1, ← b .0, ← b .1, ← f, ← g, ← h, ← i, ← j, ← k, ← o, ← p)
 
-pub begin-law : (s l s₁ l₁ s₂ l₂ : List ℕ) (a before b after between k low m₁ m₂ : ℕ) → low ≡ base k
-    → marksIn s₁ l₁ m₁ ≡ labelVertexIn s l a low before between true
-    → marksIn s₂ l₂ m₂ ≡ labelVertexIn s₁ l₁ b (low + 1) between after true
+-- a base is far below the largest label
+base-next : (k : ℕ) → k < 65536 → nextIn true (base k) ≡ base k + 1
+unfolding nextIn more32 base
+base-next k h = omega arith
+
+pub begin-law : (s l s₁ l₁ s₂ l₂ : List ℕ) (a before b after between k low up m₁ m₂ : ℕ) → k < 65536 → low ≡ base k
+    → marksIn s₁ l₁ m₁ ≡ labelVertexIn s l a low before between true → up ≡ nextIn true low
+    → marksIn s₂ l₂ m₂ ≡ labelVertexIn s₁ l₁ b up between after true
     → marksIn s₂ l₂ 0 ≡ beginIn s l a before b after between k
 unfolding beginIn
-begin-law s l s₁ l₁ s₂ l₂ a before b after between k low m₁ m₂ h i j = rw (← h, ← i, ← j)
+begin-law s l s₁ l₁ s₂ l₂ a before b after between k low up m₁ m₂ f h i g j = rw (← base-next k f, ← h, ← g, ← i, ← j)
 
 -- which chain keeps its labels, the walks having met at m
 module _ (degrees : List ℕ) (a b : ℕ) (m : Met) where
-  pub second-keeps : getD degrees (m .second) 0 ≡ 2 → Chain b a ≡ keeperFor degrees a b m
+  pub second-keeps : getD degrees (m .second) 0 ≡ 2 → Chain (vertexOf b) (vertexOf a) ≡ keeperFor degrees a b m
   unfolding keeperFor
   second-keeps h = rw (eq-eqb _ _ h)
 
   module _ (h : getD degrees (m .second) 0 ≡ 2 → ⊥) where
-    pub first-keeps : getD degrees (m .first) 0 ≡ 2 → Chain a b ≡ keeperFor degrees a b m
+    pub first-keeps : getD degrees (m .first) 0 ≡ 2 → Chain (vertexOf a) (vertexOf b) ≡ keeperFor degrees a b m
     unfolding keeperFor
     first-keeps i = rw (ne-eqb _ _ h, eq-eqb _ _ i)
 
@@ -45,7 +53,7 @@ module _ (degrees : List ℕ) (a b : ℕ) (m : Met) where
     unfolding keeperFor
     neither-keeps i j = rw (ne-eqb _ _ h, ne-eqb _ _ i, eq-eqb _ _ j)
 
-    pub tie-keeps : (getD degrees (m .first) 0 ≡ 2 → ⊥) → (m .steps ≡ 0 → ⊥) → Chain a b ≡ keeperFor degrees a b m
+    pub tie-keeps : (getD degrees (m .first) 0 ≡ 2 → ⊥) → (m .steps ≡ 0 → ⊥) → Chain (vertexOf a) (vertexOf b) ≡ keeperFor degrees a b m
     unfolding keeperFor
     tie-keeps i j = rw (ne-eqb _ _ h, ne-eqb _ _ i, ne-eqb _ _ j)
 
@@ -62,7 +70,7 @@ module _ (degrees s ends l : List ℕ) (blocks a b e n da ua db ub : ℕ) (m : M
 
 -- what the code answers, by the chain that keeps its labels
 module _ (degrees s ends l s′ l′ : List ℕ) (blocks a b e n da db blocks′ m′ : ℕ) (ring : Bool) (keeper : Keeper) where
-  pub answer-joined : (x y m : ℕ) → keeper ≡ Chain x y → marksIn s′ l′ m ≡ joinIn degrees s ends l x y e n
+  pub answer-joined : (x y : Vertex) (m : ℕ) → keeper ≡ Chain x y → marksIn s′ l′ m ≡ joinIn degrees s ends l (x .0) (y .0) e n
       → (blocks′ ≡ blocks) × (m′ ≡ m) × (ring ≡ false) → changed s′ l′ blocks′ m′ ring ≡ keeperIn keeper degrees s ends l blocks a b e n da db
   answer-joined x y m o j z = rw (o, z .0, z .1, z .2, ← j)
 

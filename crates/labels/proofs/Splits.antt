@@ -11,6 +11,7 @@ use Rattle.tables.specs.declared.rings.Round.{Round}
 use Rattle.tables.specs.declared.rings.Round.the-variants.{NoRing, Ring, Shared}
 use Rattle.labels.specs.Labelling.{marksIn, relabelIn}
 use Rattle.labels.specs.Merging.{changed}
+use Rattle.counters.specs.declared.numbers.Vertex.{Vertex}
 use Rattle.labels.specs.Splitting.{bareIn, tapIn, splitBy, splitIn, leftFor, splitBothIn, splitOneIn, splitTwoIn, splitEndsIn}
 use Rattle.labels.specs.declared.splitting.Splits.{Splits}
 use Rattle.labels.specs.declared.splitting.Splits.the-variants.{Neither, One, Both}
@@ -78,7 +79,8 @@ module _ (degrees s ends l s′ l′ : List ℕ) (blocks a b fuel blocks′ m : 
         → changed s′ l′ blocks′ m ring ≡ splitEndsIn splits degrees s ends l blocks a b fuel rings
     ends-neither o g h z = rw (o, g, h, z .0, z .1, z .2)
 
-    pub ends-one : (v w : ℕ) → splits ≡ One v w → changed s′ l′ blocks′ m ring ≡ splitOneIn degrees s ends l blocks v w fuel rings
+    pub ends-one : (v w : Vertex) → splits ≡ One v w
+        → changed s′ l′ blocks′ m ring ≡ splitOneIn degrees s ends l blocks (v .0) (w .0) fuel rings
         → changed s′ l′ blocks′ m ring ≡ splitEndsIn splits degrees s ends l blocks a b fuel rings
     ends-one v w o g = rw o g
 

@@ -1,12 +1,12 @@
 -- What an insertion does to the sides and the labels, as functions of lists that mirror the code.
-use Prim.Native.Nat.{ℕ, zero, suc, _+_, _*_}
+use Prim.Native.Nat.{ℕ, zero, suc, _+_, _*_, _-_}
 use mathlib.Core.Bool.{Bool, true, not}
 use mathlib.Core.List.{List}
 use lib.ListN.{getD, set}
 use lib.Dec.{eqb}
 use Rattle.model.specs.Basics.{if_then_else_}
 use Rattle.model.specs.Labels.{base, isRelabelled}
-use Rattle.tables.specs.Steps.{farIn, turnIn, setPair, more16, nextIn}
+use Rattle.tables.specs.Steps.{farIn, turnIn, setPair, more16, more32}
 
 -- the two tables, and a count: of blocks, or of relabelled vertices
 pub record MarksIn : Type 0 where
@@ -20,6 +20,10 @@ marksIn sides labels count = record { sides = sides; labels = labels; count = co
 -- n counted before those of w
 unfoldable pub countAhead : ℕ → MarksIn → MarksIn
 countAhead n w = marksIn (w .sides) (w .labels) (n + w .count)
+
+-- the next label, upwards or downwards
+unfoldable pub nextIn : Bool → ℕ → ℕ
+nextIn up label = if up then more32 label else label - 1
 
 -- the sides of vertex v: upwards the edge before it is the low one
 unfoldable pub orientIn : Bool → List ℕ → ℕ → ℕ → ℕ → List ℕ

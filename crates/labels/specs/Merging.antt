@@ -6,9 +6,10 @@ use lib.ListN.{getD}
 use lib.Dec.{eqb}
 use Rattle.model.specs.Basics.{if_then_else_}
 use Rattle.model.specs.Labels.{base}
-use Rattle.tables.specs.Steps.{farIn, more16, nextIn}
+use Rattle.counters.specs.Numbers.{vertexOf}
+use Rattle.tables.specs.Steps.{farIn, more16}
 use Rattle.tables.specs.Walks.{Met, lockstepIn}
-use Rattle.labels.specs.Labelling.{MarksIn, marksIn, countAhead, risesIn, labelVertexIn, relabelIn, beyondIn}
+use Rattle.labels.specs.Labelling.{MarksIn, marksIn, countAhead, risesIn, labelVertexIn, relabelIn, beyondIn, nextIn}
 use Rattle.labels.specs.declared.merging.Keeper.{Keeper}
 use Rattle.labels.specs.declared.merging.Keeper.the-variants.{Neither, Chain}
 
@@ -57,10 +58,10 @@ closeIn sides labels blocks a b e da ua db ub =
 -- which chain keeps its labels, a's or b's, by where the walks in lockstep met
 unfoldable pub keeperFor : List ℕ → ℕ → ℕ → Met → Keeper
 keeperFor degrees a b m =
-    if eqb (getD degrees (m .second) 0) 2 then Chain b a
-    else if eqb (getD degrees (m .first) 0) 2 then Chain a b
+    if eqb (getD degrees (m .second) 0) 2 then Chain (vertexOf b) (vertexOf a)
+    else if eqb (getD degrees (m .first) 0) 2 then Chain (vertexOf a) (vertexOf b)
     else if eqb (m .steps) 0 then Neither
-    else Chain a b
+    else Chain (vertexOf a) (vertexOf b)
 
 -- the chains merged, by which of them keeps its labels
 abbrev pub keeperIn : Keeper → List ℕ → List ℕ → List ℕ → List ℕ → ℕ → ℕ → ℕ → ℕ → ℕ → ℕ → ℕ → Changed
@@ -68,7 +69,7 @@ keeperIn Neither degrees sides ends labels blocks a b e n da db =
     let g = beginIn sides labels a da b db e (more16 blocks) in
     changed (g .sides) (g .labels) (more16 blocks) 0 false
 keeperIn (Chain x y) degrees sides ends labels blocks a b e n da db =
-    let j = joinIn degrees sides ends labels x y e n in
+    let j = joinIn degrees sides ends labels (x .0) (y .0) e n in
     changed (j .sides) (j .labels) blocks (j .count) false
 
 unfoldable pub mergeAt : List ℕ → List ℕ → List ℕ → List ℕ → ℕ → ℕ → ℕ → ℕ → ℕ → ℕ → ℕ → Met → Changed

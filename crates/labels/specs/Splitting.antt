@@ -70,5 +70,6 @@ splitTwoIn degrees sides ends labels blocks a b n rings =
 -- the regular ends of the edge between a and b split
 abbrev pub splitEndsIn : Splits → List ℕ → List ℕ → List ℕ → List ℕ → ℕ → ℕ → ℕ → ℕ → Bool → Changed
 splitEndsIn Neither degrees sides ends labels blocks a b n rings = changed sides labels blocks 0 false
-splitEndsIn (One v w) degrees sides ends labels blocks a b n rings = splitOneIn degrees sides ends labels blocks v w n rings
+splitEndsIn (One v w) degrees sides ends labels blocks a b n rings =
+    splitOneIn degrees sides ends labels blocks (v .0) (w .0) n rings
 splitEndsIn Both degrees sides ends labels blocks a b n rings = splitTwoIn degrees sides ends labels blocks a b n rings

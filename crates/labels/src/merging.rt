@@ -2,12 +2,14 @@
 use crate::labelling::base;
 use crate::labelling::label_beyond;
 use crate::labelling::label_vertex;
+use crate::labelling::next_label;
 use crate::labelling::relabel_chain;
 use crate::labelling::rises;
-use tables::access::of16;
-use tables::access::of32;
+use counters::numbers::Edge;
+use counters::numbers::Vertex;
 use tables::access::one_more16;
-use tables::steps::next_label;
+use tables::kinds::degree_of;
+use tables::kinds::label_of;
 use tables::walks::Meeting;
 use tables::walks::Walker;
 use tables::walks::leave_leaf;
@@ -56,18 +58,18 @@ fn join_chains(
     sides: &mut [u16],
     ends: &[u16],
     labels: &mut [u32],
-    x: u16,
-    y: u16,
-    e: u16,
+    x: Vertex,
+    y: Vertex,
+    e: Edge,
     fuel: u16,
 ) -> u32
     ensures { λ r. ⌜ marksIn (now (sides .exit)) (now (labels .exit)) r
-        ≡ joinIn (now (degrees .entry)) (now (sides .entry)) (now (ends .entry)) (now (labels .entry)) x y e fuel ⌝ }
+        ≡ joinIn (now (degrees .entry)) (now (sides .entry)) (now (ends .entry)) (now (labels .entry)) (x .0) (y .0) (e .0) fuel ⌝ }
 {
     let kept = leave_leaf(sides, ends, x);
     let other = leave_leaf(sides, ends, y);
     let up = rises(sides, kept);
-    let lx = next_label(of32(labels, kept.at), up);
+    let lx = next_label(label_of(labels, kept.at), up);
     let ly = next_label(lx, up);
     let n = label_vertex(sides, labels, x, lx, kept.edge, e, up);
     let m = label_vertex(sides, labels, y, ly, e, other.edge, up);
@@ -80,19 +82,27 @@ fn join_chains(
 fn begin_chain(
     sides: &mut [u16],
     labels: &mut [u32],
-    a: u16,
-    before: u16,
-    b: u16,
-    after: u16,
-    between: u16,
+    a: Vertex,
+    before: Edge,
+    b: Vertex,
+    after: Edge,
+    between: Edge,
     k: u16,
 )
     ensures { λ _. ⌜ marksIn (now (sides .exit)) (now (labels .exit)) 0
-        ≡ beginIn (now (sides .entry)) (now (labels .entry)) a before b after between k ⌝ }
+        ≡ beginIn (now (sides .entry)) (now (labels .entry)) (a .0) (before .0) (b .0) (after .0) (between .0) k ⌝ }
 {
     let low = base(k);
     label_vertex(sides, labels, a, low, before, between, true);
-    label_vertex(sides, labels, b, low + 1, between, after, true);
+    label_vertex(
+        sides,
+        labels,
+        b,
+        next_label(low, true),
+        between,
+        after,
+        true,
+    );
 }
 
 // Edge e closes a ring: a and b are the leaves of one chain, which `first` and `second` have left. Each end gets the next label beyond
@@ -101,16 +111,17 @@ fn close_ring(
     sides: &mut [u16],
     labels: &mut [u32],
     blocks: u16,
-    a: u16,
-    b: u16,
-    e: u16,
+    a: Vertex,
+    b: Vertex,
+    e: Edge,
     first: Walker,
     second: Walker,
 ) -> ChainChange
     ensures { λ r. ⌜ changed (now (sides .exit)) (now (labels .exit)) (r .blocks) (r .relabellings) (r .ring)
-        ≡ closeIn (now (sides .entry)) (now (labels .entry)) blocks a b e (first .edge) (first .at) (second .edge) (second .at) ⌝ }
+        ≡ closeIn (now (sides .entry)) (now (labels .entry)) blocks (a .0) (b .0) (e .0)
+        (first .edge .0) (first .at .0) (second .edge .0) (second .at .0) ⌝ }
 {
-    if first.at == b {
+    if first.at.0 == b.0 {
         let k = one_more16(blocks);
         begin_chain(sides, labels, a, e, b, e, first.edge, k);
         return ChainChange::closing(k);
@@ -123,17 +134,17 @@ fn close_ring(
 // The leaf whose chain keeps its labels, then the other; or neither, where no chain has a regular vertex.
 pub enum Keeper {
     Neither,
-    Chain(u16, u16),
+    Chain(Vertex, Vertex),
 }
 
 // The chain with more regular vertices keeps its labels, a's on a tie: a walk that still stands at one is that of the longer chain.
-fn keeper_of(degrees: &[u16], meeting: Meeting, a: u16, b: u16) -> Keeper
-    ensures { λ r. ⌜ r ≡ keeperFor (now (degrees .entry)) a b (met (meeting .first) (meeting .second) (meeting .steps)) ⌝ }
+fn keeper_of(degrees: &[u16], meeting: Meeting, a: Vertex, b: Vertex) -> Keeper
+    ensures { λ r. ⌜ r ≡ keeperFor (now (degrees .entry)) (a .0) (b .0) (met (meeting .first .at .0) (meeting .second .at .0) (meeting .steps)) ⌝ }
 {
-    if of16(degrees, meeting.second) == 2 {
+    if degree_of(degrees, meeting.second.at) == 2 {
         return Keeper::Chain(b, a);
     }
-    if of16(degrees, meeting.first) == 2 {
+    if degree_of(degrees, meeting.first.at) == 2 {
         return Keeper::Chain(a, b);
     }
     if meeting.steps == 0 {
@@ -150,18 +161,18 @@ pub fn merge_chains(
     ends: &[u16],
     labels: &mut [u32],
     blocks: u16,
-    a: u16,
-    b: u16,
-    e: u16,
+    a: Vertex,
+    b: Vertex,
+    e: Edge,
     fuel: u16,
 ) -> ChainChange
     ensures { λ r. ⌜ changed (now (sides .exit)) (now (labels .exit)) (r .blocks) (r .relabellings) (r .ring)
-        ≡ mergeIn (now (degrees .entry)) (now (sides .entry)) (now (ends .entry)) (now (labels .entry)) blocks a b e fuel ⌝ }
+        ≡ mergeIn (now (degrees .entry)) (now (sides .entry)) (now (ends .entry)) (now (labels .entry)) blocks (a .0) (b .0) (e .0) fuel ⌝ }
 {
     let first = leave_leaf(sides, ends, a);
     let second = leave_leaf(sides, ends, b);
     let met = walk_lockstep(degrees, sides, ends, first, second, fuel);
-    if met.first == b {
+    if met.first.at.0 == b.0 {
         return close_ring(sides, labels, blocks, a, b, e, first, second);
     }
     let keeper = keeper_of(degrees, met, a, b);

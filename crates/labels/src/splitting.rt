@@ -2,24 +2,27 @@
 use crate::labelling::base;
 use crate::labelling::relabel_chain;
 use crate::merging::ChainChange;
+use counters::numbers::Edge;
+use counters::numbers::Label;
+use counters::numbers::Vertex;
 use tables::access::add32;
 use tables::access::one_more16;
-use tables::access::put32;
+use tables::kinds::put_label;
+use tables::kinds::put_sides;
 use tables::rings::Round;
 use tables::rings::leave_lower;
 use tables::rings::ring_at;
-use tables::steps::put_pair;
 ghost use mathlib.Core.Path.{_≡_};
 ghost use Rattle.labels.specs.Labelling.{marksIn};
 ghost use Rattle.labels.specs.Merging.{changed};
 ghost use Rattle.labels.specs.Splitting.{bareIn, tapIn, splitBy, leftFor, splitIn, splitBothIn, splitOneIn, splitTwoIn, splitEndsIn};
 
 // Vertex v loses its label and its sides. The pieces of its chain keep theirs: no other vertex is touched.
-fn bare_vertex(sides: &mut [u16], labels: &mut [u32], v: u16)
-    ensures { λ _. ⌜ marksIn (now (sides .exit)) (now (labels .exit)) 0 ≡ bareIn (now (sides .entry)) (now (labels .entry)) v ⌝ }
+fn bare_vertex(sides: &mut [u16], labels: &mut [u32], v: Vertex)
+    ensures { λ _. ⌜ marksIn (now (sides .exit)) (now (labels .exit)) 0 ≡ bareIn (now (sides .entry)) (now (labels .entry)) (v .0) ⌝ }
 {
-    put_pair(sides, v, 0, 0);
-    put32(labels, v as usize, 0);
+    put_sides(sides, v, Edge(0), Edge(0));
+    put_label(labels, v, Label(0));
 }
 
 // The ring of v becomes a loop at v, in block k. Labels rise round it from the neighbour along the lower-numbered edge of v; so many
@@ -29,12 +32,12 @@ fn tap_ring(
     sides: &mut [u16],
     ends: &[u16],
     labels: &mut [u32],
-    v: u16,
+    v: Vertex,
     k: u16,
     others: u16,
 ) -> u32
     ensures { λ r. ⌜ marksIn (now (sides .exit)) (now (labels .exit)) r
-        ≡ tapIn (now (degrees .entry)) (now (sides .entry)) (now (ends .entry)) (now (labels .entry)) v k others ⌝ }
+        ≡ tapIn (now (degrees .entry)) (now (sides .entry)) (now (ends .entry)) (now (labels .entry)) (v .0) k others ⌝ }
 {
     let from = leave_lower(sides, ends, v);
     let n = relabel_chain(degrees, sides, ends, labels, from, base(k), true, others);
@@ -51,11 +54,11 @@ fn split_by(
     ends: &[u16],
     labels: &mut [u32],
     blocks: u16,
-    v: u16,
-    w: u16,
+    v: Vertex,
+    w: Vertex,
 ) -> ChainChange
     ensures { λ r. ⌜ changed (now (sides .exit)) (now (labels .exit)) (r .blocks) (r .relabellings) (r .ring)
-        ≡ splitBy round (now (degrees .entry)) (now (sides .entry)) (now (ends .entry)) (now (labels .entry)) blocks v w ⌝ }
+        ≡ splitBy round (now (degrees .entry)) (now (sides .entry)) (now (ends .entry)) (now (labels .entry)) blocks (v .0) (w .0) ⌝ }
 {
     match round {
         Round::NoRing => {
@@ -68,7 +71,7 @@ fn split_by(
             ChainChange::new(k, n)
         }
         Round::Shared(others) => {
-            put32(labels, w as usize, 0);
+            put_label(labels, w, Label(0));
             let k = one_more16(blocks);
             let n = tap_ring(degrees, sides, ends, labels, v, k, others);
             ChainChange::new(k, n)
@@ -83,12 +86,12 @@ fn split_chain(
     ends: &[u16],
     labels: &mut [u32],
     blocks: u16,
-    v: u16,
-    w: u16,
+    v: Vertex,
+    w: Vertex,
     fuel: u16,
 ) -> ChainChange
     ensures { λ r. ⌜ changed (now (sides .exit)) (now (labels .exit)) (r .blocks) (r .relabellings) (r .ring)
-        ≡ splitIn (now (degrees .entry)) (now (sides .entry)) (now (ends .entry)) (now (labels .entry)) blocks v w fuel ⌝ }
+        ≡ splitIn (now (degrees .entry)) (now (sides .entry)) (now (ends .entry)) (now (labels .entry)) blocks (v .0) (w .0) fuel ⌝ }
 {
     let round = ring_at(degrees, sides, ends, v, w, fuel);
     split_by(round, degrees, sides, ends, labels, blocks, v, w)
@@ -112,12 +115,12 @@ fn split_both(
     ends: &[u16],
     labels: &mut [u32],
     blocks: u16,
-    a: u16,
-    b: u16,
+    a: Vertex,
+    b: Vertex,
     fuel: u16,
 ) -> ChainChange
     ensures { λ r. ⌜ changed (now (sides .exit)) (now (labels .exit)) (r .blocks) (r .relabellings) (r .ring)
-        ≡ splitBothIn (now (degrees .entry)) (now (sides .entry)) (now (ends .entry)) (now (labels .entry)) blocks a b fuel ⌝ }
+        ≡ splitBothIn (now (degrees .entry)) (now (sides .entry)) (now (ends .entry)) (now (labels .entry)) blocks (a .0) (b .0) fuel ⌝ }
 {
     let first = ring_at(degrees, sides, ends, a, b, fuel);
     let second = left_for(ring_at(degrees, sides, ends, b, a, fuel));
@@ -129,7 +132,7 @@ fn split_both(
 // Which ends of an edge are regular: neither; one, and then the other end; both.
 pub enum Splits {
     Neither,
-    One(u16, u16),
+    One(Vertex, Vertex),
     Both,
 }
 
@@ -140,13 +143,13 @@ fn split_one(
     ends: &[u16],
     labels: &mut [u32],
     blocks: u16,
-    v: u16,
-    w: u16,
+    v: Vertex,
+    w: Vertex,
     fuel: u16,
     rings: bool,
 ) -> ChainChange
     ensures { λ r. ⌜ changed (now (sides .exit)) (now (labels .exit)) (r .blocks) (r .relabellings) (r .ring)
-        ≡ splitOneIn (now (degrees .entry)) (now (sides .entry)) (now (ends .entry)) (now (labels .entry)) blocks v w fuel rings ⌝ }
+        ≡ splitOneIn (now (degrees .entry)) (now (sides .entry)) (now (ends .entry)) (now (labels .entry)) blocks (v .0) (w .0) fuel rings ⌝ }
 {
     if rings {
         return split_chain(degrees, sides, ends, labels, blocks, v, w, fuel);
@@ -162,13 +165,13 @@ fn split_two(
     ends: &[u16],
     labels: &mut [u32],
     blocks: u16,
-    a: u16,
-    b: u16,
+    a: Vertex,
+    b: Vertex,
     fuel: u16,
     rings: bool,
 ) -> ChainChange
     ensures { λ r. ⌜ changed (now (sides .exit)) (now (labels .exit)) (r .blocks) (r .relabellings) (r .ring)
-        ≡ splitTwoIn (now (degrees .entry)) (now (sides .entry)) (now (ends .entry)) (now (labels .entry)) blocks a b fuel rings ⌝ }
+        ≡ splitTwoIn (now (degrees .entry)) (now (sides .entry)) (now (ends .entry)) (now (labels .entry)) blocks (a .0) (b .0) fuel rings ⌝ }
 {
     if rings {
         return split_both(degrees, sides, ends, labels, blocks, a, b, fuel);
@@ -186,13 +189,13 @@ pub fn split_ends(
     ends: &[u16],
     labels: &mut [u32],
     blocks: u16,
-    a: u16,
-    b: u16,
+    a: Vertex,
+    b: Vertex,
     fuel: u16,
     rings: bool,
 ) -> ChainChange
     ensures { λ r. ⌜ changed (now (sides .exit)) (now (labels .exit)) (r .blocks) (r .relabellings) (r .ring)
-        ≡ splitEndsIn splits (now (degrees .entry)) (now (sides .entry)) (now (ends .entry)) (now (labels .entry)) blocks a b fuel rings ⌝ }
+        ≡ splitEndsIn splits (now (degrees .entry)) (now (sides .entry)) (now (ends .entry)) (now (labels .entry)) blocks (a .0) (b .0) fuel rings ⌝ }
 {
     match splits {
         Splits::Neither => ChainChange::new(blocks, 0),

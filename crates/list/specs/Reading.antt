@@ -20,8 +20,8 @@ pub record Place : Type 0 where
 abbrev pub place : ℕ → ℕ → Place
 place i version = record { at = i; version = version }
 
-abbrev pub placeIn : Cursor → Place
-placeIn c = place (c .at) (c .version)
+abbrev pub asPlace : Cursor → Place
+asPlace c = place (c .at) (c .version)
 
 -- the place behind the header, or its refusal
 pub data HeaderAt : Type 0 where
@@ -51,12 +51,12 @@ recordOf p (kind ∷ bs) =
 unfoldable pub recordAt : List ℕ → Place → RecordAt
 recordAt bs p = recordOf p (drop (p .at) bs)
 
-abbrev pub headerIn : Header → HeaderAt
-headerIn (header.Good c) = good (placeIn c)
-headerIn (header.Refused x) = badHeader (numberOf x)
+abbrev pub asHeader : Header → HeaderAt
+asHeader (header.Good c) = good (asPlace c)
+asHeader (header.Refused x) = badHeader (numberOf x)
 
-abbrev pub recordIn : Record → RecordAt
-recordIn record′.End = ends
-recordIn (record′.Vertex c) = vertexTo (placeIn c)
-recordIn (record′.Edge a b len volume c) = edgeTo (record { first = a; second = b; len = len; volume = volume }) (placeIn c)
-recordIn (record′.Refused x) = badRecord (numberOf x)
+abbrev pub asRecord : Record → RecordAt
+asRecord record′.End = ends
+asRecord (record′.Vertex c) = vertexTo (asPlace c)
+asRecord (record′.Edge a b len volume c) = edgeTo (record { first = a; second = b; len = len; volume = volume }) (asPlace c)
+asRecord (record′.Refused x) = badRecord (numberOf x)

@@ -4,7 +4,7 @@ use crate::records::Cursor;
 use crate::records::Record;
 use crate::records::next_record;
 ghost use mathlib.Core.Path.{_≡_};
-ghost use Rattle.list.specs.Reading.{place, placeIn, recordIn, recordAt};
+ghost use Rattle.list.specs.Reading.{place, asPlace, asRecord, recordAt};
 
 pub struct Reader<'a> {
     pub list: &'a [u8],
@@ -21,7 +21,7 @@ impl<'a> Reader<'a> {
 
     // The record at the index, which says where the next one stands.
     pub fn next(self) -> Record
-        ensures { λ r. ⌜ recordIn r ≡ recordAt (now (self .entry .list)) (place (self .entry .at) (self .entry .version)) ⌝ }
+        ensures { λ r. ⌜ asRecord r ≡ recordAt (now (self .entry .list)) (place (self .entry .at) (self .entry .version)) ⌝ }
     {
         next_record(
             self.list,
@@ -34,7 +34,7 @@ impl<'a> Reader<'a> {
 }
 
 pub fn record_at(list: &[u8], c: Cursor) -> Record
-    ensures { λ r. ⌜ recordIn r ≡ recordAt (now (list .entry)) (placeIn c) ⌝ }
+    ensures { λ r. ⌜ asRecord r ≡ recordAt (now (list .entry)) (asPlace c) ⌝ }
 {
     Reader::new(list, c.at, c.version).next()
 }

@@ -6,7 +6,7 @@ ghost use mathlib.Core.Path.{_≡_};
 ghost use Prim.Native.Nat.{_+_, _≤_};
 ghost use lib.ListN.{drop, length};
 ghost use Rattle.model.specs.Format.{edgeBody, hasMark, volumeIn};
-ghost use Rattle.list.specs.Reading.{headerIn, headerAt, placeIn, recordIn, recordAt};
+ghost use Rattle.list.specs.Reading.{asHeader, headerAt, asPlace, asRecord, recordAt};
 
 const VERTEX_KIND: u8 = 0x46;
 
@@ -61,7 +61,7 @@ fn has_mark(list: &[u8]) -> bool
 }
 
 pub fn read_header(list: &[u8]) -> Header
-    ensures { λ r. ⌜ headerIn r ≡ headerAt (now (list .entry)) ⌝ }
+    ensures { λ r. ⌜ asHeader r ≡ headerAt (now (list .entry)) ⌝ }
 {
     if !has_mark(list) {
         return Header::Refused(Refusal::NoMark);
@@ -106,7 +106,7 @@ fn volume_at(list: &[u8], i: usize, version: u16) -> u32
 
 // The kind comes before the cut: a last byte of no kind is refused as such.
 pub fn next_record(list: &[u8], c: Cursor) -> Record
-    ensures { λ r. ⌜ recordIn r ≡ recordAt (now (list .entry)) (placeIn c) ⌝ }
+    ensures { λ r. ⌜ asRecord r ≡ recordAt (now (list .entry)) (asPlace c) ⌝ }
 {
     let at = c.at;
     let version = c.version;

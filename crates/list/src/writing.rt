@@ -8,7 +8,7 @@ use text::records::put_vertices;
 ghost use mathlib.Core.Path.{_≡_};
 ghost use mathlib.Core.List.{[], _∷_};
 ghost use Rattle.model.specs.Basics.{upTo};
-ghost use Rattle.counters.specs.Answers.{countsIn};
+ghost use Rattle.counters.specs.Answers.{asCounts};
 ghost use Rattle.text.specs.Pages.{page, write};
 ghost use Rattle.list.specs.Writing.{listIn, recordsIn};
 
@@ -66,7 +66,7 @@ pub fn put_list(
     counts: Counts,
 ) -> usize
     ensures { λ r. ⌜ page (now (out .exit)) r
-        ≡ write (listIn (now (ends .entry)) (now (lengths .entry)) (now (volumes .entry)) (countsIn counts)) (page (now (out .entry)) 0) ⌝ }
+        ≡ write (listIn (now (ends .entry)) (now (lengths .entry)) (now (volumes .entry)) (asCounts counts)) (page (now (out .entry)) 0) ⌝ }
 {
     let vertices = put_header(out, 0);
     let edges = put_vertices(out, vertices, counts.vertices);

@@ -6,7 +6,7 @@ use mathlib.Core.List.{List, _∷_}
 use lib.ListN.{length}
 use Rattle.model.specs.Printing.{line, lines, stopLine}
 use Rattle.model.specs.Format.{stopped}
-use Rattle.queries.proofs.SheetLaws.{RowByRow}
+use Rattle.chains.proofs.SheetLaws.{RowByRow}
 use Rattle.text.specs.Pages.{Page, write}
 use Rattle.text.proofs.PageLaws.{write-at}
 use Rattle.text.proofs.Decimal.{Small, line-length}

@@ -15,9 +15,9 @@ use Rattle.model.specs.Notions.{Reachable}
 use Rattle.model.proofs.Series.Landings.{reachable-grown}
 use Rattle.agreement.proofs.Registers.{room}
 use Rattle.agreement.proofs.Sheeting.{sheet-agrees, sheetOver}
-use Rattle.register.specs.Records.{ReadingIn, landListIn}
-use Rattle.register.proofs.ListAgrees.{shownRead}
-use Rattle.register.proofs.Growing.{list-leaves}
+use Rattle.landing.specs.Records.{ReadingIn, landListIn}
+use Rattle.landing.proofs.ListAgrees.{shownRead}
+use Rattle.landing.proofs.Growing.{list-leaves}
 use Rattle.io.specs.Counts.{Counts as Counted}
 use Rattle.text.specs.Pages.{Page, page, write}
 use Rattle.text.proofs.PageLaws.{write-two, write-at, write-fits, write-room}

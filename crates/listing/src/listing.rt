@@ -1,15 +1,16 @@
 // The bytes that the printing program prints, built in a lent slice.
+use chains::marks::next_unmarked;
+use chains::names::count_chains;
+use chains::rows::Row;
+use chains::rows::take_row;
 use counters::answers::Stop;
 use counters::counts::Counts;
+use counters::numbers::Edge;
 use counters::sizes::EDGES;
 use counters::sizes::ENDS;
 use counters::sizes::SIDES;
 use counters::sizes::VERTICES;
-use queries::marks::next_unmarked;
-use queries::names::count_chains;
-use queries::rows::Row;
-use queries::rows::take_row;
-use register::records::grow_list;
+use landing::records::grow_list;
 use streams::reading::MAX_LIST;
 use text::lines::put_line4;
 use text::lines::put_line5;
@@ -20,9 +21,9 @@ ghost use Prim.Native.Nat.{_+_, _*_, _≤_};
 ghost use lib.ListN.{length, replicate, take};
 ghost use Rattle.model.specs.Basics.{maxEdges};
 ghost use Rattle.model.specs.Printing.{line, lines, printed, stopLine};
-ghost use Rattle.counters.specs.Answers.{countsIn, stopIn};
-ghost use Rattle.queries.specs.Answers.{rowOf};
-ghost use Rattle.queries.specs.Chains.{sheetIn};
+ghost use Rattle.counters.specs.Answers.{asCounts, asStop};
+ghost use Rattle.chains.specs.Answers.{rowOf};
+ghost use Rattle.chains.specs.Chains.{sheetIn};
 ghost use Rattle.io.specs.Counts.{Counts as Counted};
 ghost use Rattle.text.specs.Pages.{page, write};
 ghost use Rattle.listing.specs.Listing.{listingIn, headBytes, rowBytes, stopBytes, roomBytes};
@@ -31,14 +32,14 @@ ghost use Rattle.listing.specs.Listing.{listingIn, headBytes, rowBytes, 
 pub const ROOM: usize = 262144;
 
 // The line of a row.
-fn put_row(out: &mut [u8], at: usize, row: Row) -> usize
+fn put_row_line(out: &mut [u8], at: usize, row: Row) -> usize
     ensures { λ r. ⌜ (page (now (out .exit)) r ≡ write (line (rowOf row)) (page (now (out .entry)) at)) × (r ≤ at + rowBytes) ⌝ }
 {
-    let name = row.name;
-    let lower = row.lower;
-    let other = row.other;
+    let name = row.name.0;
+    let lower = row.lower.0;
+    let other = row.other.0;
     let inner = row.inner;
-    let length = row.length;
+    let length = row.length.0;
     put_line5(
         out,
         at,
@@ -51,7 +52,7 @@ fn put_row(out: &mut [u8], at: usize, row: Row) -> usize
 }
 
 // The sheet, one chain a line.
-fn put_sheet(
+fn put_sheet_lines(
     out: &mut [u8],
     at: usize,
     degrees: &[u16],
@@ -68,8 +69,8 @@ fn put_sheet(
     let mut next = at;
     let mut edge = next_unmarked(marks, 0, edges);
     while edge < edges {
-        let row = take_row(degrees, sides, ends, lengths, marks, edge, edges);
-        next = put_row(out, next, row);
+        let row = take_row(degrees, sides, ends, lengths, marks, Edge(edge), edges);
+        next = put_row_line(out, next, row);
         edge = next_unmarked(marks, edge + 1, edges);
     }
     next
@@ -77,7 +78,7 @@ fn put_sheet(
 
 // The line of a list that stopped.
 fn put_stop(out: &mut [u8], at: usize, stop: Stop) -> usize
-    ensures { λ r. ⌜ (page (now (out .exit)) r ≡ write (stopLine (stopIn stop)) (page (now (out .entry)) at)) × (r ≤ at + stopBytes) ⌝ }
+    ensures { λ r. ⌜ (page (now (out .exit)) r ≡ write (stopLine (asStop stop)) (page (now (out .entry)) at)) × (r ≤ at + stopBytes) ⌝ }
 {
     match stop {
         Stop::Whole => at,
@@ -99,9 +100,9 @@ fn put_listing(
     stop: Stop,
 ) -> usize
     ensures { λ r. ⌜ (page (now (out .exit)) r
-        ≡ write (listingIn (countsIn counts)
+        ≡ write (listingIn (asCounts counts)
         (sheetIn (now (degrees .entry)) (now (sides .entry)) (now (ends .entry)) (now (lengths .entry)) (counts .edges) (replicate maxEdges 0))
-        (stopIn stop)) (page (now (out .entry)) 0)) × (r ≤ headBytes + rowBytes * counts .edges + stopBytes) ⌝ }
+        (asStop stop)) (page (now (out .entry)) 0)) × (r ≤ headBytes + rowBytes * counts .edges + stopBytes) ⌝ }
 {
     let mut counting = [0u16; EDGES];
     let mut marks = [0u16; EDGES];
@@ -117,7 +118,7 @@ fn put_listing(
         chains as u64,
         relabellings as u64,
     );
-    let next = put_sheet(out, sheet, degrees, sides, ends, lengths, &mut marks, edges);
+    let next = put_sheet_lines(out, sheet, degrees, sides, ends, lengths, &mut marks, edges);
     put_stop(out, next, stop)
 }
 

@@ -1,9 +1,9 @@
--- A call whole: a list that stops, and the answer of a query on the tables that a list leaves.
+-- A call whole: a list that stops, and the answer of a question on the tables that a list leaves.
 use mathlib.Core.Path.{_≡_, sym, ap, _∙_}
-use Prim.Native.Nat.{ℕ}
+use Prim.Native.Nat.{ℕ, _*_, _≤_}
 use native.Mathlib.Omega.{arith}
 use mathlib.Core.List.{List}
-use lib.ListN.{length, take}
+use lib.ListN.{length, length-replicate, replicate}
 use lib.IntN.{ℤ, pos, negℤ}
 use Rattle.model.specs.Basics.{maxEdges, maxVertices}
 use Rattle.model.specs.Register.{Register}
@@ -15,17 +15,17 @@ use Rattle.model.specs.Tables.{Tables, Counts, cleared, noCounts, storedOf}
 use Rattle.model.specs.Notions.{HeldOf}
 use Rattle.model.proofs.Registers.OnlyHeld.{held-counts, held-tables}
 use Rattle.model.proofs.Series.Landings.{reachable-grown}
-use Rattle.tables.specs.Steps.{stored, tables}
-use Rattle.queries.specs.Finding.{findIn, reachIn}
+use Rattle.tables.specs.Meaning.{stored, tables}
+use Rattle.chains.specs.Finding.{findIn, reachIn}
 use Rattle.agreement.proofs.Sheeting.{sheet-agrees, sheetOver}
 use Rattle.agreement.proofs.Finding.{reach-agrees}
-use Rattle.register.specs.Records.{ReadingIn, readingIn, landListIn}
-use Rattle.register.proofs.ListAgrees.{shownRead}
-use Rattle.register.proofs.Growing.{list-leaves}
-use Rattle.lookups.proofs.AnswerLaws.{find-answers}
-use Rattle.distance.specs.Measure.{Measurable, measureIn}
-use Rattle.distance.proofs.Registers.{measurable}
-use Rattle.distance.proofs.Measuring.{measure-agrees}
+use Rattle.landing.specs.Records.{ReadingIn, readingIn, landListIn}
+use Rattle.landing.proofs.ListAgrees.{shownRead}
+use Rattle.landing.proofs.Growing.{list-leaves}
+use Rattle.questions.proofs.AnswerLaws.{find-answers}
+use Rattle.questions.specs.Measure.{Measurable, measureIn}
+use Rattle.questions.proofs.Searchable.{measurable}
+use Rattle.questions.proofs.Measuring.{measure-agrees}
 use Rattle.pnl.specs.FromC.{returned}
 
 -- ---- what the reading of a list says of it
@@ -41,42 +41,43 @@ module _ (bs : List ℕ) (t : Tables) (c : Counts) (s : Stop) (e : readingIn t c
   unfolding storedOf
   left-register = record { reachable = reachable-grown bs; stored-is = ap (λ (d : ReadingIn). stored (d .tables) (d .counts)) left }
 
-  pub call-stops : (query : Register → Reply) (slice : List ℕ) (k x : ℕ) (v : ℤ) → s ≡ stopped k x → v ≡ negℤ (pos x) → returned slice v ≡ fromC query bs slice
+  pub call-stops : (question : Register → Reply) (slice : List ℕ) (k x : ℕ) (v : ℤ) → s ≡ stopped k x → v ≡ negℤ (pos x) → returned slice v ≡ fromC question bs slice
   unfolding fromC returnsRefusal
-  call-stops query slice k x v f g = rw (sym left-stop ∙ f, fromC, g)
+  call-stops question slice k x v f g = rw (sym left-stop ∙ f, fromC, g)
 
   -- what the search for a distance asks
   pub call-measurable : Measurable (t .ends) (t .lengths) c
   call-measurable = measurable left-register
 
-  pub call-answers : (query : Register → Reply) (slice : List ℕ) (z : Returned) → s ≡ whole
-      → ((r : Register) → HeldOf (stored t c) r → z ≡ returnsReply r slice (query r)) → z ≡ fromC query bs slice
+  pub call-answers : (question : Register → Reply) (slice : List ℕ) (z : Returned) → s ≡ whole
+      → ((r : Register) → HeldOf (stored t c) r → z ≡ returnsReply r slice (question r)) → z ≡ fromC question bs slice
   unfolding fromC
-  call-answers query slice z f all = rw (sym left-stop ∙ f, fromC) (all ((growList bs) .register) left-register)
+  call-answers question slice z f all = rw (sym left-stop ∙ f, fromC) (all ((growList bs) .register) left-register)
 
 -- ---- the four queries
 
 module _ (d s e l lb : List ℕ) (c : Counts) (r : Register) (h : HeldOf (stored (tables d s e l lb) c) r) (slice : List ℕ) (z : Returned) where
-  pub sheet-query : z ≡ returnsNumbers slice (concat (sheetOver (tables d s e l lb) (c .edges) maxEdges)) → z ≡ returnsReply r slice (listed (length (sheet r)))
+  pub sheet-question : z ≡ returnsNumbers slice (concat (sheetOver (tables d s e l lb) (c .edges) maxEdges)) → z ≡ returnsReply r slice (listed (length (sheet r)))
   unfolding returnsReply sheetNumbers
-  sheet-query p =
+  sheet-question p =
       let k : sheetOver (tables d s e l lb) (c .edges) maxEdges ≡ sheet r = rw (held-tables h, held-counts h) at (sheet-agrees r (h .reachable) maxEdges (omega arith)) in
       p ∙ ap (λ (rows : List (List ℕ)). returnsNumbers slice (concat rows)) k
 
-  pub find-query : (label : ℕ) (a : Reply) → a ≡ findIn (tables d s e l (take maxVertices lb)) c label → z ≡ returnsReply r slice a
+  pub find-question : (label : ℕ) (a : Reply) → a ≡ findIn (tables d s e l lb) c (replicate (2 * maxVertices) 0) label → z ≡ returnsReply r slice a
       → z ≡ returnsReply r slice (find r label)
   unfolding effect answer answers
-  find-query label a p q =
-      let k = find-answers d s e l lb c label a p r h in
+  find-question label a p q =
+      let room : 2 * maxVertices ≤ length (replicate {A = ℕ} (2 * maxVertices) 0) = rw length-replicate (omega arith) in
+      let k = find-answers (tables d s e l lb) c (replicate (2 * maxVertices) 0) label a room p r h in
       q ∙ ap (returnsReply r slice) (ap (λ (x : Effect). x .reply) (sym k))
 
-  pub reach-query : (v : ℕ) (a : Reply) → a ≡ reachIn (tables d s e l lb) c v → z ≡ returnsReply r slice a → z ≡ returnsReply r slice (reach r v)
-  reach-query v a p q =
+  pub reach-question : (v : ℕ) (a : Reply) → a ≡ reachIn (tables d s e l lb) c v → z ≡ returnsReply r slice a → z ≡ returnsReply r slice (reach r v)
+  reach-question v a p q =
       let k : reachIn (tables d s e l lb) c v ≡ reach r v = rw (held-tables h, held-counts h) at (reach-agrees r (h .reachable) v) in
       q ∙ ap (returnsReply r slice) (p ∙ k)
 
-  pub distance-query : (v w : ℕ) (a : Reply) → a ≡ measureIn (tables d s e l lb) c v w → z ≡ returnsReply r slice a
+  pub distance-question : (v w : ℕ) (a : Reply) → a ≡ measureIn (tables d s e l lb) c v w → z ≡ returnsReply r slice a
       → z ≡ returnsReply r slice (measure r v w)
-  distance-query v w a p q =
+  distance-question v w a p q =
       let k : measureIn (tables d s e l lb) c v w ≡ measure r v w = rw (held-tables h, held-counts h) at (measure-agrees r v w) in
       q ∙ ap (returnsReply r slice) (p ∙ k)

@@ -11,8 +11,8 @@ use borrow.Author.Tests.{leb-true, leb-false}
 use Rattle.model.specs.Basics.{rowSize}
 use Rattle.model.specs.FromC.{bytesOf, returnsNumbers}
 use Rattle.model.specs.Queries.{concat}
-use Rattle.queries.specs.Chains.{namesIn, sheetIn}
-use Rattle.queries.proofs.SheetLaws.{RowByRow, sheet-size}
+use Rattle.chains.specs.Chains.{namesIn, sheetIn}
+use Rattle.chains.proofs.SheetLaws.{RowByRow, sheet-size}
 use Rattle.text.specs.Pages.{page, write}
 use Rattle.pnl.specs.FromC.{returned}
 use Rattle.pnl.proofs.Bytes.{bytesOf-append, numbers-short, numbers-fit}

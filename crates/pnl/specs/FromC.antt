@@ -1,21 +1,9 @@
--- How the contracts of the calls from C are put: the answer slice with the value, and what a query asks.
+-- How the contracts of the calls from C are put: the answer slice with the value.
 use Prim.Native.Nat.{ℕ}
 use mathlib.Core.List.{List}
 use lib.IntN.{ℤ}
-use lib.ListN.{length}
 use Rattle.model.specs.FromC.{Returned}
-use Rattle.model.specs.Register.{Register}
-use Rattle.model.specs.Queries.{Reply, listed, find, reach, measure, sheet}
-use Rattle.pnl.specs.declared.query.Query.{Query}
-use Rattle.pnl.specs.declared.query.Query.the-variants.{Sheet, Find, Reach, Distance}
 
 -- the answer slice afterwards, and the value
 abbrev pub returned : List ℕ → ℤ → Returned
 returned slice value = record { slice = slice; value = value }
-
--- what a query answers of a register
-abbrev pub queryMeans : Query → Register → Reply
-queryMeans Sheet = λ r. listed (length (sheet r))
-queryMeans (Find label) = λ r. find r label
-queryMeans (Reach v) = λ r. reach r v
-queryMeans (Distance v w) = λ r. measure r v w

@@ -1,9 +1,9 @@
 // What a call from C answers: 32-bit numbers in the answer slice and the count of their bytes, or a refusal's number made negative.
+use chains::numbers::wide;
 use counters::refusals::Refusal;
-use distance::measure::Measured;
-use lookups::find::FoundChain;
-use lookups::reach::Reached;
-use queries::numbers::wide;
+use questions::find::FoundChain;
+use questions::measure::Measured;
+use questions::reach::Reached;
 use search::shortest::Distance;
 use tables::access::at32;
 use text::bytes::put_word;
@@ -14,8 +14,7 @@ ghost use lib.ListN.{length};
 ghost use Rattle.model.specs.Register.{Register};
 ghost use Rattle.model.specs.FromC.{bytesOf, returnsNumbers, returnsReply};
 ghost use Rattle.counters.specs.Refusals.{numberOf};
-ghost use Rattle.lookups.specs.Meaning.{foundReply, reachedReply};
-ghost use Rattle.distance.specs.Meaning.{measuredReply};
+ghost use Rattle.questions.specs.Meaning.{foundReply, measuredReply, reachedReply};
 ghost use Rattle.text.specs.Pages.{page, write};
 ghost use Rattle.pnl.specs.FromC.{returned};
 
@@ -27,7 +26,7 @@ pub fn refused(refusal: Refusal) -> i32
 }
 
 // A count of bytes. A sheet's rows are counted by a u16: at most 65,535, of 20 bytes each, and no answer has more.
-pub fn counted(n: usize) -> i32
+pub fn byte_count(n: usize) -> i32
     requires { ⌜ n ≤ 20 * 65535 ⌝ }
     ensures { λ r. ⌜ r ≡ pos n ⌝ }
 {
@@ -56,14 +55,14 @@ fn answer_numbers(answer: &mut [u8], numbers: &[u32]) -> i32
         return refused(Refusal::ShortSlice);
     }
     put_words(answer, 0, numbers);
-    counted(size)
+    byte_count(size)
 }
 
 pub fn answer_found(answer: &mut [u8], found: FoundChain) -> i32
     ensures { λ r. ⌜ ((register : Register) → returned (now (answer .exit)) r ≡ returnsReply register (now (answer .entry)) (foundReply found)) ⌝ }
 {
     match found {
-        FoundChain::Chain(name) => answer_numbers(answer, &[wide(name)]),
+        FoundChain::Chain(name) => answer_numbers(answer, &[wide(name.0)]),
         FoundChain::Refused(refusal) => refused(refusal),
     }
 }
@@ -72,7 +71,7 @@ pub fn answer_reached(answer: &mut [u8], reached: Reached) -> i32
     ensures { λ r. ⌜ ((register : Register) → returned (now (answer .exit)) r ≡ returnsReply register (now (answer .entry)) (reachedReply reached)) ⌝ }
 {
     match reached {
-        Reached::Lengths(low, high) => answer_numbers(answer, &[low, high]),
+        Reached::Lengths(low, high) => answer_numbers(answer, &[low.0, high.0]),
         Reached::Refused(refusal) => refused(refusal),
     }
 }
@@ -85,7 +84,7 @@ pub fn answer_distance(answer: &mut [u8], measured: Measured) -> i32
 {
     match measured {
         Measured::Distance(distance) => match distance {
-            Distance::Joined(millimetres) => answer_numbers(answer, &[millimetres]),
+            Distance::Joined(millimetres) => answer_numbers(answer, &[millimetres.0]),
             Distance::NotJoined => answer_numbers(answer, &[NOT_JOINED]),
         },
         Measured::Refused(refusal) => refused(refusal),

@@ -4,15 +4,15 @@ use counters::numbers::Vertex;
 use counters::sizes::ENDS;
 use counters::sizes::SIDES;
 use counters::sizes::VERTICES;
-use distance::measure::Measured;
-use distance::measure::measure;
+use questions::measure::Measured;
+use questions::measure::measure;
 ghost use mathlib.Core.Path.{_≡_};
 ghost use mathlib.Core.List.{List};
 ghost use Prim.Native.Nat.{ℕ};
-ghost use Rattle.counters.specs.Answers.{countsIn};
-ghost use Rattle.tables.specs.Steps.{tables};
-ghost use Rattle.distance.specs.Meaning.{measuredReply};
-ghost use Rattle.distance.specs.Measure.{Measurable, measureIn};
+ghost use Rattle.counters.specs.Answers.{asCounts};
+ghost use Rattle.tables.specs.Meaning.{tables};
+ghost use Rattle.questions.specs.Meaning.{measuredReply};
+ghost use Rattle.questions.specs.Measure.{Measurable, measureIn};
 
 // The arrays are the scratch of the search.
 pub fn distance_in(
@@ -22,9 +22,9 @@ pub fn distance_in(
     from: Vertex,
     to: Vertex,
 ) -> Measured
-    requires { ⌜ Measurable (now ends) (now lengths) (countsIn counts) ⌝ }
+    requires { ⌜ Measurable (now ends) (now lengths) (asCounts counts) ⌝ }
     ensures { λ r. ⌜ ((degrees sides labels : List ℕ) → measuredReply r
-        ≡ measureIn (tables degrees sides (now (ends .entry)) (now (lengths .entry)) labels) (countsIn counts) (from .0) (to .0)) ⌝ }
+        ≡ measureIn (tables degrees sides (now (ends .entry)) (now (lengths .entry)) labels) (asCounts counts) (from .0) (to .0)) ⌝ }
 {
     let mut heads = [0u16; VERTICES];
     let mut heap = [0u16; SIDES];

@@ -1,13 +1,15 @@
-// The calls from C. Each grows the list in arrays of its own, asks the register, and answers in the lent slice; nothing is kept between
-// calls. include/pnl.h says the same in C.
+// The calls from C. Those of this file grow the list in arrays of their own, ask the register, and answer in the lent slice, and nothing is
+// kept between calls; `recipes` has the two on a valve's window, which take no list. include/pnl.h says the same in C.
 mod answers;
 mod checked;
 mod distances;
-pub mod query;
+mod finding;
+pub mod grown;
+mod recipes;
 mod sheet;
 
-use crate::query::Query;
-use crate::query::answer_call;
+use crate::grown::Question;
+use crate::grown::answer_call;
 ghost use mathlib.Core.Path.{_≡_};
 ghost use Rattle.model.specs.FromC.{cSheet, cFind, cReach, cDistance};
 ghost use Rattle.pnl.specs.FromC.{returned};
@@ -17,7 +19,7 @@ ghost use Rattle.pnl.specs.FromC.{returned};
 pub extern "C" fn pnl_sheet(list: &[u8], answer: &mut [u8]) -> i32
     ensures { λ r. ⌜ returned (now (answer .exit)) r ≡ cSheet (now (list .entry)) (now (answer .entry)) ⌝ }
 {
-    answer_call(list, Query::Sheet, answer)
+    answer_call(list, Question::Sheet, answer)
 }
 
 // Find: the name of the run or ring whose couplings include the tag.
@@ -25,7 +27,7 @@ pub extern "C" fn pnl_sheet(list: &[u8], answer: &mut [u8]) -> i32
 pub extern "C" fn pnl_find(list: &[u8], tag: u32, answer: &mut [u8]) -> i32
     ensures { λ r. ⌜ returned (now (answer .exit)) r ≡ cFind (now (list .entry)) tag (now (answer .entry)) ⌝ }
 {
-    answer_call(list, Query::Find(tag), answer)
+    answer_call(list, Question::Find(tag), answer)
 }
 
 // Reach: the lengths from a coupling to its run's low and high end; in a ring 0 and its length.
@@ -33,7 +35,7 @@ pub extern "C" fn pnl_find(list: &[u8], tag: u32, answer: &mut [u8]) -> i32
 pub extern "C" fn pnl_reach(list: &[u8], fitting: u32, answer: &mut [u8]) -> i32
     ensures { λ r. ⌜ returned (now (answer .exit)) r ≡ cReach (now (list .entry)) fitting (now (answer .entry)) ⌝ }
 {
-    answer_call(list, Query::Reach(fitting), answer)
+    answer_call(list, Question::Reach(fitting), answer)
 }
 
 // Distance: the least length of a way between two fittings, or NOT_JOINED.
@@ -41,5 +43,5 @@ pub extern "C" fn pnl_reach(list: &[u8], fitting: u32, answer: &mut [u8]) -> i32
 pub extern "C" fn pnl_distance(list: &[u8], from: u32, to: u32, answer: &mut [u8]) -> i32
     ensures { λ r. ⌜ returned (now (answer .exit)) r ≡ cDistance (now (list .entry)) from to (now (answer .entry)) ⌝ }
 {
-    answer_call(list, Query::Distance(from, to), answer)
+    answer_call(list, Question::Distance(from, to), answer)
 }

@@ -1,36 +1,41 @@
 // The sheet as a call's answer: five numbers a chain, by rising name.
-use crate::answers::counted;
+use crate::answers::byte_count;
 use crate::answers::put_words;
 use crate::answers::refused;
+use chains::marks::next_unmarked;
+use chains::names::has_room;
+use chains::numbers::wide;
+use chains::rows::ROW;
+use chains::rows::Row;
+use chains::rows::take_row;
+use counters::numbers::Edge;
 use counters::refusals::Refusal;
 use counters::sizes::EDGES;
-use queries::marks::next_unmarked;
-use queries::names::has_room;
-use queries::rows::ROW;
-use queries::rows::Row;
-use queries::rows::take_row;
 ghost use mathlib.Core.Path.{_≡_};
 ghost use lib.ListN.{length, replicate};
 ghost use Rattle.model.specs.Basics.{maxEdges};
 ghost use Rattle.model.specs.FromC.{bytesOf, returnsNumbers};
 ghost use Rattle.model.specs.Queries.{concat};
-ghost use Rattle.queries.specs.Answers.{rowOf};
-ghost use Rattle.queries.specs.Chains.{namesIn, sheetIn};
+ghost use Rattle.chains.specs.Answers.{rowOf};
+ghost use Rattle.chains.specs.Chains.{namesIn, sheetIn};
 ghost use Rattle.text.specs.Pages.{page, write};
 ghost use Rattle.pnl.specs.FromC.{returned};
 
 // Four bytes a number.
 const ROW_BYTES: usize = 4 * ROW;
 
-fn put_row(out: &mut [u8], at: usize, row: Row) -> usize
+fn put_row_bytes(out: &mut [u8], at: usize, row: Row) -> usize
     ensures { λ r. ⌜ page (now (out .exit)) r ≡ write (bytesOf (rowOf row)) (page (now (out .entry)) at) ⌝ }
 {
-    let numbers = [row.name, row.lower, row.other, row.inner, row.length];
+    let name = wide(row.name.0);
+    let lower = wide(row.lower.0);
+    let other = wide(row.other.0);
+    let numbers = [name, lower, other, row.inner, row.length.0];
     put_words(out, at, &numbers)
 }
 
 // The rows of all chains; the answer is how many there are.
-fn put_sheet(
+fn put_sheet_bytes(
     out: &mut [u8],
     degrees: &[u16],
     sides: &[u16],
@@ -48,8 +53,8 @@ fn put_sheet(
     let mut count: u16 = 0;
     let mut edge = next_unmarked(marks, 0, edges);
     while edge < edges {
-        let row = take_row(degrees, sides, ends, lengths, marks, edge, edges);
-        next = put_row(out, next, row);
+        let row = take_row(degrees, sides, ends, lengths, marks, Edge(edge), edges);
+        next = put_row_bytes(out, next, row);
         count += 1;
         edge = next_unmarked(marks, edge + 1, edges);
     }
@@ -75,6 +80,6 @@ pub fn answer_sheet(
     if !has_room(degrees, sides, ends, &mut counting, edges, rows) {
         return refused(Refusal::ShortSlice);
     }
-    let count = put_sheet(answer, degrees, sides, ends, lengths, &mut marks, edges);
-    counted(ROW_BYTES * (count as usize))
+    let count = put_sheet_bytes(answer, degrees, sides, ends, lengths, &mut marks, edges);
+    byte_count(ROW_BYTES * (count as usize))
 }

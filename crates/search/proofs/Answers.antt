@@ -9,13 +9,14 @@ use lib.ListN.{length, getD, set, length-set}
 use lib.Seq.{getD-set-same, getD-set-other}
 use borrow.Author.Count.{below-more}
 use Rattle.model.specs.Basics.{maxVertices}
-use Rattle.model.specs.Distance.{Way, IsDistance, distance}
-use Rattle.model.specs.Tables.{edgesIn}
+use Rattle.model.specs.Distance.{Way, IsDistance, joined, notJoined, distance}
+use Rattle.model.specs.Tables.{storedEdges}
 use Rattle.model.proofs.Distances.Distance.{only-distance}
-use Rattle.tables.specs.Steps.{edgesOf, tables}
-use Rattle.search.specs.Search.{unreached, Searchable, Reason, is-goal, Grounded, Started, Settled, distanceIn}
+use Rattle.tables.specs.Meaning.{tables}
+use Rattle.tables.specs.Steps.{edgesOf}
+use Rattle.search.specs.Meaning.{asDistance}
+use Rattle.search.specs.Search.{unreached, Searchable, Reason, is-goal, Grounded, Started, Settled}
 use Rattle.search.specs.declared.shortest.Distance.{Distance}
-use Rattle.search.specs.declared.shortest.Distance.the-variants.{Joined, NotJoined}
 use Rattle.search.proofs.Edges.{edges-only}
 use Rattle.search.proofs.Settled.{settled-joined, settled-none}
 
@@ -55,14 +56,14 @@ module _ (ends lengths : List ℕ) (m goal : ℕ) where
 
   -- settled distances are the model's
   pub answers : (from : ℕ) (distances distances′ : List ℕ) (d : ℕ) (r : Distance) → from < maxVertices → goal < maxVertices → Grounded ends lengths m goal distances
-      → Settled ends lengths m from distances distances′ → d ≡ getD distances′ from 0 → (d < unreached → r ≡ Joined d) × (unreached ≤ d → r ≡ NotJoined)
-      → (degrees sides labels : List ℕ) → distanceIn r ≡ distance (edgesIn (tables degrees sides ends lengths labels) m) from goal
+      → Settled ends lengths m from distances distances′ → d ≡ getD distances′ from 0 → (d < unreached → asDistance r ≡ joined d) × (unreached ≤ d → asDistance r ≡ notJoined)
+      → (degrees sides labels : List ℕ) → asDistance r ≡ distance (storedEdges (tables degrees sides ends lengths labels) m) from goal
   answers from distances distances′ d r l l′ g s q c degrees sides labels =
-      rw (edges-only degrees sides ends lengths labels m) (only-distance (edgesOf ends lengths m) from goal (distanceIn r) (go (decLt d unreached)))
+      rw (edges-only degrees sides ends lengths labels m) (only-distance (edgesOf ends lengths m) from goal (asDistance r) (go (decLt d unreached)))
     where
       g′ : Grounded ends lengths m goal distances′
       g′ = s .keeps .grounded goal g
 
-      go : Dec (d < unreached) → IsDistance (λ (k : ℕ). Way (edgesOf ends lengths m) from goal k) (distanceIn r)
+      go : Dec (d < unreached) → IsDistance (λ (k : ℕ). Way (edgesOf ends lengths m) from goal k) (asDistance r)
       go (yes b) = rw (c .0 b, q) (settled-joined ends lengths m goal from distances′ g′ (s .still) l (omega arith))
       go (no b) = rw (c .1 (omega arith)) (settled-none ends lengths m goal from distances′ g′ (s .still) l′ (omega arith))

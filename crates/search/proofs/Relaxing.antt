@@ -8,7 +8,7 @@ use lib.ListN.{length, getD, set, length-set}
 use lib.Seq.{getD-set-same, getD-set-other}
 use Rattle.model.specs.Basics.{maxVertices}
 use Rattle.model.specs.Distance.{Joins, forth, back}
-use Rattle.model.specs.Tables.{edgeIn}
+use Rattle.model.specs.Tables.{storedEdge}
 use Rattle.tables.specs.Steps.{edgeOf}
 use Rattle.search.specs.Search.{unreached, Searchable, Bounded, Reason, is-goal, over, Grounded, Keeps, Still, Within, Relaxed, rests, lowers}
 use Rattle.search.proofs.Edges.{ends-below}
@@ -59,7 +59,7 @@ end-room b k x l e = omega (arith, end-vertex (b .searchable) k l, b .room)
 
 joins-far : (ends lengths : List ℕ) (j half : ℕ) → half ≡ j / 2 → 1 ≤ half
     → Joins (edgeOf ends lengths (half - 1)) (getD ends (4 * half - 1 - j) 0) (getD ends (j - 2) 0)
-unfolding edgeIn
+unfolding storedEdge
 joins-far ends lengths j half p a = go (ℕ-discrete j (2 * half))
   where
     go : Dec (j ≡ 2 * half) → Joins (edgeOf ends lengths (half - 1)) (getD ends (4 * half - 1 - j) 0) (getD ends (j - 2) 0)

@@ -8,7 +8,7 @@ use lib.ListN.{getD}
 use Rattle.model.specs.Basics.{maxVertices, maxLength}
 use Rattle.model.specs.Graph.{Edge, edgeAt, lengthAt}
 use Rattle.model.specs.Distance.{Joins, forth, back, Way, here, along, Least}
-use Rattle.model.specs.Tables.{edgeIn}
+use Rattle.model.specs.Tables.{storedEdge}
 use Rattle.tables.specs.Steps.{edgeOf, edgesOf}
 use Rattle.search.specs.Search.{unreached, Reason, is-goal, over, Grounded, Still}
 use Rattle.search.proofs.Counting.{belows, belows-le, belows-more}
@@ -21,7 +21,7 @@ module _ (ends lengths : List ℕ) (m goal from : ℕ) (distances : List ℕ) (g
     (still : (e : ℕ) → e < m → Still ends lengths distances (getD distances from 0) e) where
   -- along an edge the distance falls by no more than its length
   step : (e v u : ℕ) → e < m → Joins (edgeOf ends lengths e) v u → min (getD distances from 0) (getD distances v 0) ≤ getD lengths e 0 + getD distances u 0
-  unfolding edgeIn
+  unfolding storedEdge
   step e v u l (forth p q) = rw (← p, ← q) (still e l .first)
   step e v u l (back p q) = rw (← p, ← q) (still e l .second)
 
@@ -36,7 +36,7 @@ module _ (ends lengths : List ℕ) (m goal from : ℕ) (distances : List ℕ) (g
   joined′ e v u l j = rw (edges-at ends lengths m e l) at j
 
   len-at : (e : ℕ) → e < m → lengthAt (edgesOf ends lengths m) e ≡ getD lengths e 0
-  unfolding lengthAt edgeIn
+  unfolding lengthAt storedEdge
   len-at e l = ap (λ (p : Edge). p .len) (edges-at ends lengths m e l)
 
   way-along : (e v u w d x : ℕ) → e < m → Joins (edgeOf ends lengths e) v u → Way (edgesOf ends lengths m) u w d → x ≡ getD lengths e 0 + d → Way (edgesOf ends lengths m) v w x

@@ -5,11 +5,8 @@ use Prim.Native.Nat.{ℕ, _+_, _*_, _≤_, _<_, min}
 use mathlib.Core.List.{List}
 use lib.ListN.{length, getD, set}
 use Rattle.model.specs.Basics.{sum, maxVertices, maxEdges, maxLength}
-use Rattle.model.specs.Distance as model
 use Rattle.model.specs.Distance.{Joins}
 use Rattle.tables.specs.Steps.{edgeOf}
-use Rattle.search.specs.declared.shortest.Distance.{Distance}
-use Rattle.search.specs.declared.shortest.Distance.the-variants.{Joined, NotJoined}
 
 -- m edges as landing leaves them: at most 4,096, within the tables, the ends below 4,096, the lengths from 1 to 100,000
 pub record Searchable (ends lengths : List ℕ) (m : ℕ) : Type 0 where
@@ -93,8 +90,3 @@ pub record Round (ends lengths : List ℕ) (m : ℕ) (distances distances′ : L
 pub record Settled (ends lengths : List ℕ) (m from : ℕ) (distances distances′ : List ℕ) : Type 0 where
   pub keeps : Keeps ends lengths m distances distances′
   pub still : (e : ℕ) → e < m → Still ends lengths distances′ (getD distances′ from 0) e
-
--- a distance as the code answers it
-abbrev pub distanceIn : Distance → model.Distance
-distanceIn (Joined d) = model.joined d
-distanceIn NotJoined = model.notJoined

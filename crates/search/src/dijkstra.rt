@@ -1,6 +1,6 @@
 // Dijkstra's order over the chains, as a hint: the vertices with the least distances come first; but for the goal, neither leaves nor
 // regular vertices are queued. What is proved is that the distances stay grounded, which they do in every order.
-use crate::chains::follow_both;
+use crate::following::follow_both;
 use crate::heap::pop;
 use crate::heap::push;
 use crate::incidence::link_all;

@@ -1,6 +1,7 @@
 // The least length of a way between two vertices.
 use crate::dijkstra::dijkstra;
 use crate::relax::settle;
+use counters::numbers::Millimetres;
 use tables::access::of32;
 use tables::access::put32;
 ghost use mathlib.Core.Path.{_≡_};
@@ -8,14 +9,15 @@ ghost use mathlib.Core.List.{List};
 ghost use Prim.Native.Nat.{ℕ, _≤_, _<_};
 ghost use lib.ListN.{length};
 ghost use Rattle.model.specs.Basics.{maxVertices};
-ghost use Rattle.model.specs.Tables.{edgesIn};
-ghost use Rattle.model.specs.Distance.{distance};
-ghost use Rattle.tables.specs.Steps.{tables};
-ghost use Rattle.search.specs.Search.{Searchable, Started, unreached, distanceIn};
+ghost use Rattle.model.specs.Tables.{storedEdges};
+ghost use Rattle.model.specs.Distance.{joined, notJoined, distance};
+ghost use Rattle.tables.specs.Meaning.{tables};
+ghost use Rattle.search.specs.Meaning.{asDistance};
+ghost use Rattle.search.specs.Search.{Searchable, Started, unreached};
 
-// A distance in millimetres, or that there is no way.
+// A distance, or that there is no way.
 pub enum Distance {
-    Joined(u32),
+    Joined(Millimetres),
     NotJoined,
 }
 
@@ -37,10 +39,10 @@ pub fn start(distances: &mut [u32], goal: u16)
 
 // The answer for a settled distance.
 fn answer_of(distance: u32) -> Distance
-    ensures { λ r. ⌜ (distance < unreached → r ≡ Distance.Joined distance) × (unreached ≤ distance → r ≡ Distance.NotJoined) ⌝ }
+    ensures { λ r. ⌜ (distance < unreached → asDistance r ≡ joined distance) × (unreached ≤ distance → asDistance r ≡ notJoined) ⌝ }
 {
     if distance < UNREACHED {
-        Distance::Joined(distance)
+        Distance::Joined(Millimetres(distance))
     } else {
         Distance::NotJoined
     }
@@ -60,8 +62,8 @@ pub fn search(
     keys: &mut [u32],
 ) -> Distance
     requires { ⌜ Searchable (now ends) (now lengths) edges × ((from < maxVertices) × ((goal < maxVertices) × (maxVertices ≤ length (now distances)))) ⌝ }
-    ensures { λ r. ⌜ ((degrees sides labels : List ℕ) → distanceIn r
-        ≡ distance (edgesIn (tables degrees sides (now (ends .entry)) (now (lengths .entry)) labels) edges) from goal) ⌝ }
+    ensures { λ r. ⌜ ((degrees sides labels : List ℕ) → asDistance r
+        ≡ distance (storedEdges (tables degrees sides (now (ends .entry)) (now (lengths .entry)) labels) edges) from goal) ⌝ }
 {
     start(distances, goal);
     dijkstra(

@@ -18,8 +18,8 @@ use Rattle.libc.specs.Io.{Moved}
 use Rattle.streams.specs.Input.{stepAfter, Held}
 use Rattle.streams.specs.declared.reading.ReadAnswer.{ReadAnswer}
 use Rattle.streams.specs.declared.reading.ReadAnswer.the-variants.{Bytes, Failed}
-use Rattle.streams.specs.declared.reading.Step.{Step}
-use Rattle.streams.specs.declared.reading.Step.the-variants.{More, Stop}
+use Rattle.streams.specs.declared.reading.ReadStep.{ReadStep}
+use Rattle.streams.specs.declared.reading.ReadStep.the-variants.{More, Stop}
 
 -- a test that held, against what it tests
 refused : (b : Bool) → b ≡ true → (T b → ⊥) → ⊥
@@ -59,15 +59,15 @@ module _ (d : ℕ) (z : ℤ) (fits : SFits w64 z) where
   pub more-fits : ltZ (pos 0) (back z) ≡ true → T (nonNeg (back z)) × Fits w64 (natAbs (back z))
   more-fits e = (above d (back z) e .0, fits-natAbs tt (subst (SFits w64) (sym (toZ-ofZ w64 z fits)) fits))
 
-abbrev isMore : Step → Bool
+abbrev isMore : ReadStep → Bool
 isMore (More n) = true
 isMore (Stop a) = false
 
-abbrev size : Step → ℕ
+abbrev size : ReadStep → ℕ
 size (More n) = n
 size (Stop a) = 0
 
-abbrev answer : Step → ReadAnswer
+abbrev answer : ReadStep → ReadAnswer
 answer (More n) = Failed
 answer (Stop a) = a
 

@@ -5,11 +5,11 @@ use lib.IntN.{ℤ, pos, negsuc}
 use Rattle.io.specs.Counts.{Counts}
 use Rattle.streams.specs.declared.reading.ReadAnswer.{ReadAnswer}
 use Rattle.streams.specs.declared.reading.ReadAnswer.the-variants.{Bytes, Failed}
-use Rattle.streams.specs.declared.reading.Step.{Step}
-use Rattle.streams.specs.declared.reading.Step.the-variants.{More, Stop}
+use Rattle.streams.specs.declared.reading.ReadStep.{ReadStep}
+use Rattle.streams.specs.declared.reading.ReadStep.the-variants.{More, Stop}
 
 -- a read's answer behind so many bytes: a number below 0 is a failure, and never the end; 0 is the end; any other counts bytes
-abbrev pub stepAfter : ℕ → ℤ → Step
+abbrev pub stepAfter : ℕ → ℤ → ReadStep
 stepAfter done (negsuc k) = Stop Failed
 stepAfter done (pos zero) = Stop (Bytes done)
 stepAfter done (pos (suc k)) = More (suc k)

@@ -12,23 +12,23 @@ pub enum ReadAnswer {
 }
 
 // How reading goes on behind a read: with so many bytes more, or not.
-pub enum Step {
+pub enum ReadStep {
     More(usize),
     Stop(ReadAnswer),
 }
 
 // What the system's read answered, behind so many bytes. One that a signal interrupted has failed too: nothing says that asking again
 // would end, and the program handles no signal, so a file, a pipe or a terminal gives it none.
-fn step_after(done: usize, got: isize) -> Step
+fn step_after(done: usize, got: isize) -> ReadStep
     ensures { λ r. ⌜ r ≡ stepAfter done got ⌝ }
 {
     if got < 0 {
-        return Step::Stop(ReadAnswer::Failed);
+        return ReadStep::Stop(ReadAnswer::Failed);
     }
     if 0 < got {
-        return Step::More(got as usize);
+        return ReadStep::More(got as usize);
     }
-    Step::Stop(ReadAnswer::Bytes(done))
+    ReadStep::Stop(ReadAnswer::Bytes(done))
 }
 
 // Reads until the slice is full, the input ends or a read fails. Which bytes a read gives, and what it answers, no contract can say: so
@@ -41,8 +41,8 @@ pub fn read_list(list: &mut [u8]) -> ReadAnswer
         let got = libc::read(libc::STDIN_FILENO, &mut list[done..]);
         let step = step_after(done, got);
         match step {
-            Step::More(count) => done += count,
-            Step::Stop(answer) => return answer,
+            ReadStep::More(count) => done += count,
+            ReadStep::Stop(answer) => return answer,
         }
     }
     ReadAnswer::Bytes(done)

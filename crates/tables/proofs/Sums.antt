@@ -1,10 +1,8 @@
 -- Where a sum does not reach the largest number, it is the sum.
-use mathlib.Core.Path.{_≡_, refl}
-use mathlib.Core.Bool.{Bool, true, false}
+use mathlib.Core.Path.{_≡_}
 use Prim.Native.Nat.{ℕ, _+_, _≤_, _<_}
 use native.Mathlib.Omega.{arith}
-use Rattle.model.specs.Labels.{next}
-use Rattle.tables.specs.Steps.{most16, most32, more16, more32, sum32, nextIn}
+use Rattle.tables.specs.Steps.{most16, most32, more16, sum32}
 
 pub more16-is : (n : ℕ) → n < most16 → more16 n ≡ n + 1
 unfolding more16
@@ -13,8 +11,3 @@ more16-is n h = omega arith
 pub sum32-is : (m n : ℕ) → m + n ≤ most32 → sum32 m n ≡ m + n
 unfolding sum32
 sum32-is m n h = omega arith
-
-pub nextIn-is : (up : Bool) (label : ℕ) → label < most32 → nextIn up label ≡ next up label
-unfolding nextIn next more32
-nextIn-is true label h = omega arith
-nextIn-is false label h = refl

@@ -1,3 +1,4 @@
+pub mod Meaning
 pub mod Steps
 pub mod Walks
 pub mod Rounds

@@ -1,19 +1,15 @@
 -- Single steps on the lent tables, as functions of lists that mirror the code. A read past a table's end gives 0 and a write past it
 -- changes nothing; a sum stops at the largest number of its type. That no register meets these ends is a theorem on the definitions.
 use mathlib.Core.Path.{_≡_}
-use Prim.Native.Nat.{ℕ, _+_, _*_, _-_, min}
+use Prim.Native.Nat.{ℕ, _+_, _*_, min}
 use mathlib.Core.Bool.{Bool, true}
 use mathlib.Core.List.{List, []}
 use lib.ListN.{length, getD, set, replicate}
 use lib.Dec.{eqb}
 use Rattle.model.specs.Basics.{if_then_else_}
 use Rattle.model.specs.Graph.{Edge}
-use Rattle.model.specs.Tables.{Tables, Counts, Stored, edgeIn, edgesIn}
-
--- the six tables as one record
-abbrev pub tables : List ℕ → List ℕ → List ℕ → List ℕ → List ℕ → List ℕ → Tables
-tables degrees sides ends lengths volumes labels =
-    record { degrees = degrees; sides = sides; ends = ends; lengths = lengths; volumes = volumes; labels = labels }
+use Rattle.model.specs.Tables.{Tables, storedEdge, storedEdges}
+use Rattle.tables.specs.Meaning.{tables}
 
 -- the answer r tells whether a is b
 abbrev pub Tells : {A : Type 0} → Bool → A → A → Type 0
@@ -47,10 +43,6 @@ more32 n = min (n + 1) most32
 unfoldable pub sum32 : ℕ → ℕ → ℕ
 sum32 m n = min (m + n) most32
 
--- the next label, upwards or downwards
-unfoldable pub nextIn : Bool → ℕ → ℕ
-nextIn up label = if up then more32 label else label - 1
-
 -- one more edge end at vertex v
 unfoldable pub raiseIn : List ℕ → ℕ → List ℕ
 raiseIn degrees v = set degrees v (more16 (getD degrees v 0))
@@ -64,13 +56,9 @@ zeroed t =
     tables (replicate (length (t .degrees)) 0) (replicate (length (t .sides)) 0) (replicate (length (t .ends)) 0)
     (replicate (length (t .lengths)) 0) (replicate (length (t .volumes)) 0) (replicate (length (t .labels)) 0)
 
--- tables and counts as one record
-abbrev pub stored : Tables → Counts → Stored
-stored t c = record { tables = t; counts = c }
-
 -- edge e, and the first m: edges stand in the tables of ends, lengths and volumes alone
 abbrev pub edgeOf : List ℕ → List ℕ → List ℕ → ℕ → Edge
-edgeOf ends lengths volumes e = edgeIn (tables [] [] ends lengths volumes []) e
+edgeOf ends lengths volumes e = storedEdge (tables [] [] ends lengths volumes []) e
 
 abbrev pub edgesOf : List ℕ → List ℕ → List ℕ → ℕ → List Edge
-edgesOf ends lengths volumes m = edgesIn (tables [] [] ends lengths volumes []) m
+edgesOf ends lengths volumes m = storedEdges (tables [] [] ends lengths volumes []) m

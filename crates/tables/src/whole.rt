@@ -1,7 +1,8 @@
 // Whole tables: cleared, and compared.
 ghost use mathlib.Core.Path.{_≡_};
 ghost use lib.ListN.{length, replicate};
-ghost use Rattle.tables.specs.Steps.{tables, Tells, zeroed};
+ghost use Rattle.tables.specs.Meaning.{tables};
+ghost use Rattle.tables.specs.Steps.{Tells, zeroed};
 
 pub fn clear16(narrow: &mut [u16])
     ensures { λ _. ⌜ now (narrow .exit) ≡ replicate (length (now (narrow .entry))) 0 ⌝ }

@@ -113,6 +113,49 @@ pub fn balanced_merges(random: &mut Random, size: usize) -> Layout {
     layout
 }
 
+/// A line through fitting 1 gives way to lines that are as long, and is then split beside it. Its part
+/// of the line, small again, gives way to lines that are as long, at last to the other part of the line:
+/// made to return to one fitting often.
+pub fn returning(_: &mut Random, size: usize) -> Layout {
+    let times = (size / 6).max(1).ilog2();
+    let mut layout = Layout::default();
+    let line = layout.line(3);
+    let mut end = given_way(&mut layout, line[2], times);
+    for _ in 0..2 {
+        end = layout.onward(end);
+    }
+    layout.onward(line[2]);
+    let other_end = given_way(&mut layout, line[0], times);
+    layout.join(end, other_end);
+    layout
+}
+
+/// A line through fitting 1 gives way to lines that are as long, is closed to a ring, and that is
+/// tapped beside it.
+pub fn merges_closed_and_tapped(_: &mut Random, size: usize) -> Layout {
+    let times = (size / 3).max(1).ilog2();
+    let mut layout = Layout::default();
+    let line = layout.line(3);
+    let end = given_way(&mut layout, line[2], times);
+    layout.join(end, line[0]);
+    layout.onward(line[0]);
+    layout
+}
+
+/// A run with one coupling gives way, so many times, to a new one with as many couplings as it has
+/// then: on a tie the run of the first named keeps its tags. Gives the free end that takes the place
+/// of `end`.
+fn given_way(layout: &mut Layout, mut end: usize, times: u32) -> usize {
+    let mut couplings = 1;
+    for _ in 0..times {
+        let line = layout.line(couplings + 2);
+        layout.join(line[0], end);
+        end = line[couplings + 1];
+        couplings = 2 * couplings + 2;
+    }
+    end
+}
+
 /// A hub with arms, and lines that leave it and come back.
 pub fn loops(random: &mut Random, size: usize) -> Layout {
     let mut layout = Layout::default();

@@ -5,13 +5,13 @@ use Prim.Native.Nat.{ℕ, _+_, _≤_, _<_, min}
 use native.Mathlib.Omega.{arith}
 use mathlib.Core.Bool.{true, false}
 use mathlib.Core.List.{List, [], _∷_, _++_, map, map-append, reverse-reverse, List·Memᴰ as Mem, List·Memᴰ·cases-cons as mem-cases}
-use lib.ListN.{length, getD}
+use lib.ListN.{length}
 use Rattle.model.specs.Basics.{sum}
 use Rattle.model.specs.Graph.{Edge, Pass, afterOf, atOf, chainOf, edgeAt, edgeOnRing, far, incident, isRegular, lengthsOf, onceRound, turn}
 use Rattle.model.specs.Distance.{ChainWay, Distance, Hop, IsDistance, arc, distance, joined, last, notJoined, stay, stop, stretch}
 use Rattle.model.specs.Notions.{ShorterWay}
 use Rattle.model.proofs.Basics.Booleans.{not-both}
-use Rattle.model.proofs.Basics.Lists.{mem-reverse, sum-append}
+use Rattle.model.proofs.Basics.Lists.{mem-reverse, pair-are, sum-append}
 use Rattle.model.proofs.Walks.Degree.{Proper, is-two}
 use Rattle.model.proofs.Walks.Turn.{At, TwoEdges, two-edges, turn-between}
 use Rattle.model.proofs.Walks.Joins.{Across, across, joins-of}
@@ -89,10 +89,6 @@ module _ (es : List Edge) (pr : Proper es) (v w : ℕ) (n : v ≢ w) (cv : isReg
         go : Meets es c (far es c v) (onceRound es c v) (k .last) v w → arc es c v w + arc es d v w ≡ sum (lengthsOf es (loopEdges es c v))
         go (misses o) = absurd (off-mem (onceRound es c v) w o m)
         go (meets front rest onto p u b o l) = behind front rest onto p u o (behind-first b l)
-
--- the two edges of a vertex
-edges-are : {c d x y : ℕ} → _≡_ {A = List ℕ} (c ∷ d ∷ []) (x ∷ y ∷ []) → (c ≡ x) × (d ≡ y)
-edges-are e = (ap (λ (l : List ℕ). getD l 0 0) e, ap (λ (l : List ℕ). getD l 1 0) e)
 
 module _ (es : List Edge) (pr : Proper es) (e v w : ℕ) (h : e < length es) (t : edgeOnRing es e ≡ true)
     (mv : Mem v ((chainOf es e) .inner)) (mw : Mem w ((chainOf es e) .inner)) (n : v ≢ w) where
@@ -190,5 +186,5 @@ module _ (es : List Edge) (pr : Proper es) (e v w : ℕ) (h : e < length es) (t 
 
   pub shorter-way : (c d : ℕ) → incident es v ≡ c ∷ d ∷ [] → ShorterWay es e v w c d
   shorter-way c d q =
-      let i = edges-are (sym q ∙ two .list) in
+      let i = pair-are (sym q ∙ two .list) in
       rw (i .0, i .1) shorter-two

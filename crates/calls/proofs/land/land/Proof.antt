@@ -5,9 +5,9 @@ use contract.Running.{givenOf, tables, tablesOf}
 use denote.Triple.Spec.{tripleOf}
 use denote.Triple.Table.{entered, cited}
 use denote.Builtin.{u8}
-use Rattle.calls.proofs.Single.{shared-told}
-use Rattle.calls.proofs.LentCounts.{lent-meets}
-use Rattle.calls.proofs.WithList.{list, reply, reply-told}
+use Rattle.lending.proofs.Single.{shared-told}
+use Rattle.lending.proofs.LentCounts.{lent-meets}
+use Rattle.lending.proofs.WithList.{list, reply, reply-told}
 use Rattle.calls.proofs.land.land_with as callee
 use Rattle.calls.proofs.land.land_with.Symbol as callee-def
 use Rattle.calls.proofs.land.land_with.Symbol.{name as #callee}

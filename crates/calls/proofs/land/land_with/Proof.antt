@@ -1,7 +1,7 @@
 use mathlib.Core.Path.{refl, sym, ap, _∙_}
 use Rattle.admission.specs.Gate.{gateRefusal}
 use Rattle.model.specs.Calls.{lands, registerFor, lentSlice}
-use Rattle.admission.proofs.QueryLaws.{query-refused}
+use Rattle.calls.proofs.QueryLaws.{query-refused}
 use Rattle.calls.proofs.CallLaws.{land-done}
 use borrow.Author.Needs.{needs}
 use Rattle.calls.proofs.land.land_with.Statement.{statement}

@@ -1,5 +1,5 @@
 use Rattle.canonical.proofs.Outputs.{too-long, whole-given, stop-told}
-use Rattle.counters.specs.Answers.{stopIn}
+use Rattle.counters.specs.Answers.{asStop}
 use Rattle.model.specs.Format.{stopped}
 use Rattle.model.specs.Tables.{cleared}
 use Rattle.model.specs.Printing.{ascii}
@@ -22,7 +22,7 @@ returns-2 c =
     let at-enum-told = c .before .before .before .before .before .before in
     let at-grow-list = at-enum-told .before .before .before .before .before .before .before in
     let at-if1 = at-grow-list .before .before .before .before .before .before in
-    whole-given _ _ _ (omega (arith, at-if1 .if1 .left)) (at-if1 .before .before .before .pre) (at-grow-list .grow-list .ensures) _ (sym (ap stopIn (at-enum-told .enum-told .given .1))) (c .before .before .put-list .ensures)
+    whole-given _ _ _ (omega (arith, at-if1 .if1 .left)) (at-if1 .before .before .before .pre) (at-grow-list .grow-list .ensures) _ (sym (ap asStop (at-enum-told .enum-told .given .1))) (c .before .before .put-list .ensures)
 
 returns-3 : tie.Need-returns-3
 unfolding cleared
@@ -32,7 +32,7 @@ returns-3 c =
     let at-grow-list = at-stop .before .before .before .before .before .before .before in
     let at-if1 = at-grow-list .before .before .before .before .before .before in
     stop-told _ _ _ (omega (arith, at-if1 .if1 .left)) (at-if1 .before .before .before .pre) (at-grow-list .grow-list .ensures) _ _ _ (omega arith) (omega (arith, at-number .number .ok))
-    (ap (λ (n : ℕ). stopped (at-stop .stop .given .0 .0) n) (at-number .number .ensures) ∙ sym (ap stopIn (at-stop .stop .given .1))) (c .before .before .put-stopped .ensures)
+    (ap (λ (n : ℕ). stopped (at-stop .stop .given .0 .0) n) (at-number .number .ensures) ∙ sym (ap asStop (at-stop .stop .given .1))) (c .before .before .put-stopped .ensures)
 
 -- the needs in the order of the code
 pub canonical-list-spec : {M : Type 1} → statement M

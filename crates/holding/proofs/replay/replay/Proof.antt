@@ -1,9 +1,9 @@
 use Rattle.holding.proofs.ReplayLaws.{replay-end, replay-on, replay-refused}
 use Rattle.tables.proofs.SameLengths.{SameLengths, same-refl, same-on}
 use Rattle.holding.specs.Replay.{replayIn}
-use Rattle.insertion.specs.Meaning.{answerIn}
-use Rattle.tables.specs.Steps.{tables}
-use Rattle.counters.specs.Answers.{countsIn}
+use Rattle.insertion.specs.Meaning.{asAnswer}
+use Rattle.tables.specs.Meaning.{tables}
+use Rattle.counters.specs.Answers.{asCounts}
 use native.Mathlib.Omega.{arith}
 use Prim.Native.Nat.{_+_, _*_, _≤_}
 use mathlib.Core.Path.{_≡_, refl, ap, sym, _∙_}
@@ -15,8 +15,8 @@ use Rattle.holding.proofs.replay.replay.Tie as tie
 abbrev Inv-loop : tie.InvT-loop
 Inv-loop ownends ownlengths first number rings degrees₀ sides₀ ends₀ lengths₀ labels₀ counts₀ ringed₀ i₀ edge₀ left₀ degrees sides ends lengths labels counts ringed i edge left =
     ((edge + left ≤ 131070) × (i ≡ 2 * edge)) × (SameLengths degrees₀ sides₀ ends₀ lengths₀ labels₀ degrees sides ends lengths labels
-    × (replayIn ownends ownlengths left edge (tables degrees sides ends lengths labels) (countsIn counts) ringed
-    ≡ replayIn ownends ownlengths left₀ edge₀ (tables degrees₀ sides₀ ends₀ lengths₀ labels₀) (countsIn counts₀) ringed₀))
+    × (replayIn ownends ownlengths left edge (tables degrees sides ends lengths labels) (asCounts counts) ringed
+    ≡ replayIn ownends ownlengths left₀ edge₀ (tables degrees₀ sides₀ ends₀ lengths₀ labels₀) (asCounts counts₀) ringed₀))
 
 abbrev μ-loop : tie.MeasureT-loop
 μ-loop ownends ownlengths first number rings degrees₀ sides₀ ends₀ lengths₀ labels₀ counts₀ ringed₀ i₀ edge₀ left₀ degrees sides ends lengths labels counts ringed i edge left = left
@@ -68,7 +68,7 @@ returns c =
     let at-loop-test = at-at16 .before .before .before .before .before .before in
     let at-loop = at-loop-test .before in
     replay-refused _ _ _ _ _ _ _ _ _ _ _ _ (at-loop-test .loop-test .taken) (at-loop .loop .inv .0 .1) (at-at16 .at16 .ensures) (at-at162 .at162 .ensures) (at-at32 .at32 .ensures) _ (at-land-edge .land-edge .ensures) _
-    (ap answerIn (c .before .inserted2 .given .1)) ∙ at-loop .loop .inv .1 .1
+    (ap asAnswer (c .before .inserted2 .given .1)) ∙ at-loop .loop .inv .1 .1
 
 add-i : tie.Need-add-i Inv-loop μ-loop
 add-i c =
@@ -104,7 +104,7 @@ loop-again c =
       (
         same-on (at-land-edge .land-edge .kept) (at-loop .loop .inv .1 .0),
         sym (replay-on _ _ _ _ _ _ _ _ _ _ _ _ (at-loop-test .loop-test .taken) (at-loop .loop .inv .0 .1) (at-at16 .at16 .ensures) (at-at162 .at162 .ensures) (at-at32 .at32 .ensures) _ (at-land-edge .land-edge .ensures) _ _
-            (ap answerIn (c .before .inserted .given .1))) ∙ at-loop .loop .inv .1 .1,
+            (ap asAnswer (c .before .inserted .given .1))) ∙ at-loop .loop .inv .1 .1,
       ),
     )
 

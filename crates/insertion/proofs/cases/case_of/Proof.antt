@@ -1,7 +1,7 @@
 use mathlib.Core.Path.{_∙_, ap}
 use borrow.Author.Needs.{needs}
 use Rattle.model.specs.Cases.{Class, caseOf}
-use Rattle.insertion.specs.Meaning.{classIn}
+use Rattle.insertion.specs.Meaning.{asClass}
 use Rattle.insertion.proofs.Classes.{no-leaf}
 use Rattle.insertion.proofs.cases.case_of.Statement.{statement}
 use Rattle.insertion.proofs.cases.case_of.Tie as tie
@@ -22,7 +22,7 @@ returns-2 : tie.Need-returns-2
 returns-2 c =
     let known = c .before .before .args in
     c .case-of-other .ensures
-    ∙ ap (λ (k : Class). caseOf k (classIn (known .second))) (no-leaf (known .first) (c .before .match .keys2))
+    ∙ ap (λ (k : Class). caseOf k (asClass (known .second))) (no-leaf (known .first) (c .before .match .keys2))
 
 pub case-of-spec : {M : Type 1} → statement M
 case-of-spec = tie.close (tie.spec enum-told case-of-leaf-requires case-of-other-requires returns returns-2)

@@ -1,6 +1,6 @@
 use mathlib.Core.Path.{_∙_}
 use borrow.Author.Needs.{needs}
-use Rattle.insertion.specs.Meaning.{classIn, leafless}
+use Rattle.insertion.specs.Meaning.{asClass, leafless}
 use Rattle.insertion.proofs.Classes.{not-regular}
 use Rattle.insertion.proofs.cases.case_of_other.Statement.{statement}
 use Rattle.insertion.proofs.cases.case_of_other.Tie as tie
@@ -21,7 +21,7 @@ returns c = rw (c .before .enum-told .given .1) (c .case-of-regular .ensures)
 returns-2 : tie.Need-returns-2
 returns-2 c =
     let known = c .before .before .args in
-    c .case-of-singular .ensures ∙ not-regular (known .first) (classIn (known .second)) (c .before .match .keys2)
+    c .case-of-singular .ensures ∙ not-regular (known .first) (asClass (known .second)) (c .before .match .keys2)
 
 pub case-of-other-spec : {M : Type 1} → statement M
 case-of-other-spec = tie.close (tie.spec enum-told case-of-regular-requires case-of-singular-requires returns returns-2)

@@ -4,11 +4,11 @@ use borrow.Author.Needs.{needs}
 use Rattle.insertion.proofs.placing.meet_end.Statement.{statement}
 use Rattle.insertion.proofs.placing.meet_end.Tie as tie
 
-of16-requires : tie.Need-of16-requires
-of16-requires c κs = search needs
+degree-of-requires : tie.Need-degree-of-requires
+degree-of-requires c κs = search needs
 
-put-pair-requires : tie.Need-put-pair-requires
-put-pair-requires c κs = search needs
+put-sides-requires : tie.Need-put-sides-requires
+put-sides-requires c κs = search needs
 
 same-length : tie.Need-same-length
 same-length c = search needs
@@ -16,11 +16,18 @@ same-length c = search needs
 returns : tie.Need-returns
 returns c =
     let at-if1 = c .before .before .before .before in
-    let at-of16 = at-if1 .before in
-    c .before .before .put-pair .ensures ∙ meet-isolated _ _ _ _ (sym (at-of16 .of16 .ensures) ∙ at-if1 .if1 .taken)
+    let at-degree-of = at-if1 .before in
+    c .before .before .put-sides .ensures ∙ meet-isolated _ _ _ _ (sym (at-degree-of .degree-of .ensures) ∙ at-if1 .if1 .taken)
 
 returns-2 : tie.Need-returns-2
-returns-2 c = meet-left _ _ _ _ (λ e. c .if1 .left (c .before .of16 .ensures ∙ e))
+returns-2 c = meet-left _ _ _ _ (λ e. c .if1 .left (c .before .degree-of .ensures ∙ e))
 
 pub meet-end-spec : {M : Type 1} → statement M
-meet-end-spec = tie.close (tie.spec of16-requires put-pair-requires same-length returns returns-2)
+meet-end-spec =
+    tie.close
+    (tie.spec
+    degree-of-requires
+    put-sides-requires
+    same-length
+    returns
+    returns-2)

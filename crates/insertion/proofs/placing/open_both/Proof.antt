@@ -2,41 +2,28 @@ use Rattle.insertion.proofs.Places.{opened-law}
 use borrow.Author.Needs.{needs}
 use Rattle.insertion.proofs.placing.open_both.Statement.{statement}
 use Rattle.insertion.proofs.placing.open_both.Tie as tie
-use Rattle.insertion.proofs.placing.open_both.Reads as reads
-use Rattle.insertion.proofs.placing.open_both.Lts as lts
-use Rattle.insertion.proofs.placing.meet_end.Reads as meet-end-reads
-use Rattle.labels.proofs.splitting.split_ends.Reads as split-ends-reads
-use Rattle.tables.proofs.steps.raise_both.Reads as raise-both-reads
 
--- src/placing.rt:71:9
 split-ends-requires : tie.Need-split-ends-requires
 split-ends-requires c κs = search needs
 
--- src/placing.rt:72:5
 meet-end-requires : tie.Need-meet-end-requires
 meet-end-requires c κs = search needs
 
--- src/placing.rt:73:5
 meet-end-requires-2 : tie.Need-meet-end-requires-2
 meet-end-requires-2 c κs = search needs
 
--- src/placing.rt:74:5
 raise-both-requires : tie.Need-raise-both-requires
 raise-both-requires c κs = search needs
 
--- src/placing.rt:56:1
 same-length : tie.Need-same-length
 same-length c = search needs
 
--- src/placing.rt:56:1
 same-length-2 : tie.Need-same-length-2
 same-length-2 c = search needs
 
--- src/placing.rt:56:1
 same-length-3 : tie.Need-same-length-3
 same-length-3 c = search needs
 
--- src/placing.rt:56:1
 returns : tie.Need-returns
 returns c =
     let at-meet-end2 = c .before .before .before .before .before .before in

@@ -2,63 +2,45 @@ use Rattle.insertion.proofs.Places.{open-nothing, open-leaf}
 use borrow.Author.Needs.{needs}
 use Rattle.insertion.proofs.placing.place_open.Statement.{statement}
 use Rattle.insertion.proofs.placing.place_open.Tie as tie
-use Rattle.insertion.proofs.placing.place_open.Reads as reads
-use Rattle.insertion.proofs.placing.place_open.Lts as lts
-use Rattle.insertion.proofs.placing.open_both.Reads as open-both-reads
-use Rattle.labels.proofs.labelling.extend_chain.Reads as extend-chain-reads
-use Rattle.labels.proofs.merging.ChainChange.new.Reads as new-reads
 
--- src/placing.rt:96:9
 open-both-requires : tie.Need-open-both-requires
 open-both-requires c κs = search needs
 
--- src/placing.rt:98:31
 enum-told : tie.Need-enum-told
 enum-told c = search needs
 
--- src/placing.rt:99:25
 enum-known-extension : tie.Need-enum-known-extension
 enum-known-extension c = search needs
 
--- src/placing.rt:100:17
 extend-chain-requires : tie.Need-extend-chain-requires
 extend-chain-requires c κs = search needs
 
--- src/placing.rt:101:13
 new-requires : tie.Need-new-requires
 new-requires c κs = search needs
 
--- src/placing.rt:80:1
 same-length : tie.Need-same-length
 same-length c = search needs
 
--- src/placing.rt:80:1
 same-length-2 : tie.Need-same-length-2
 same-length-2 c = search needs
 
--- src/placing.rt:80:1
 same-length-3 : tie.Need-same-length-3
 same-length-3 c = search needs
 
--- src/placing.rt:80:1
 returns : tie.Need-returns
 returns c =
     let at-open-both = c .before .before .before .before .before .before .before .before in
     open-nothing _ _ _ _ _ _ _ _ _ _ _ _ _ _ _ _ _ (c .enum-told .given .1) (at-open-both .open-both .ensures)
 
--- src/placing.rt:80:1
 same-length-4 : tie.Need-same-length-4
 same-length-4 c = search needs
 
--- src/placing.rt:80:1
 same-length-5 : tie.Need-same-length-5
 same-length-5 c = search needs
 
--- src/placing.rt:80:1
 same-length-6 : tie.Need-same-length-6
 same-length-6 c = search needs
 
--- src/placing.rt:80:1
 returns-2 : tie.Need-returns-2
 returns-2 c =
     let at-extend-chain = c .before .before .before .before .before in

@@ -10,19 +10,19 @@ use Rattle.labels.proofs.labelling.relabel_chain.Tie as tie
 
 -- what is left to relabel, with the count so far in front, is the whole; the tables keep their lengths
 abbrev Inv-loop : tie.InvT-loop
-Inv-loop degrees sides₀ ends labels₀ label up fuel w₀ next₀ count₀ left₀ sides labels w next count left =
+Inv-loop degrees sides₀ ends labels₀ up fuel w₀ next₀ count₀ left₀ sides labels w next count left =
     (count + left ≤ fuel) × ((length sides ≡ length sides₀) × ((length labels ≡ length labels₀) × (countAhead count
-    (relabelIn degrees ends up left sides labels (w .edge) (w .at) next) ≡ relabelIn degrees ends up fuel sides₀ labels₀ (w₀ .edge)
-    (w₀ .at) label)))
+    (relabelIn degrees ends up left sides labels (w .edge .0) (w .at .0) (next .0)) ≡ relabelIn degrees ends up fuel sides₀ labels₀ (w₀ .edge .0)
+    (w₀ .at .0) (next₀ .0))))
 
 abbrev μ-loop : tie.MeasureT-loop
-μ-loop degrees sides₀ ends labels₀ label up fuel w₀ next₀ count₀ left₀ sides labels w next count left = left
+μ-loop degrees sides₀ ends labels₀ up fuel w₀ next₀ count₀ left₀ sides labels w next count left = left
 
 loop-holds : tie.Need-loop-holds Inv-loop μ-loop
 loop-holds c = (omega arith, (refl, (refl, sym (ahead-none _))))
 
-of16-requires : tie.Need-of16-requires Inv-loop μ-loop
-of16-requires c κs = search needs
+degree-of-requires : tie.Need-degree-of-requires Inv-loop μ-loop
+degree-of-requires c κs = search needs
 
 step-over-requires : tie.Need-step-over-requires Inv-loop μ-loop
 step-over-requires c κs = search needs
@@ -52,12 +52,12 @@ loop-again c =
     let at-label-vertex = c .before .before .before .before .before in
     let at-step-over = at-label-vertex .before .before .before in
     let at-if1 = at-step-over .before .before in
-    let at-of16 = at-if1 .before in
-    let at-loop-test = at-of16 .before in
+    let at-degree-of = at-if1 .before in
+    let at-loop-test = at-degree-of .before in
     let at-loop = at-loop-test .before in
     let inv = at-loop .loop .inv in
     let l = at-loop-test .loop-test .taken in
-    let h = sym (at-of16 .of16 .ensures) ∙ at-if1 .if1 .left in
+    let h = sym (at-degree-of .degree-of .ensures) ∙ at-if1 .if1 .left in
     let g = at-label-vertex .label-vertex .ensures in
     let m = label-le _ _ _ _ _ _ _ _ _ _ g in (
       omega arith,
@@ -88,7 +88,7 @@ same-length-4 c = c .before .before .before .loop .inv .1 .1 .0
 
 returns-2 : tie.Need-returns-2 Inv-loop μ-loop
 returns-2 c =
-    loop-end _ _ _ _ (relabel-end _ _ _ _ _ _ _ _ _ (λ e. c .if1 .taken (c .before .of16 .ensures ∙ e)))
+    loop-end _ _ _ _ (relabel-end _ _ _ _ _ _ _ _ _ (λ e. c .if1 .taken (c .before .degree-of .ensures ∙ e)))
     ∙ c .before .before .before .loop .inv .1 .1 .1
 
 pub relabel-chain-spec : {M : Type 1} → statement M
@@ -98,7 +98,7 @@ relabel-chain-spec =
     Inv-loop
     μ-loop
     loop-holds
-    of16-requires
+    degree-of-requires
     step-over-requires
     label-vertex-requires
     add-count

@@ -6,7 +6,7 @@ low-edge-requires : tie.Need-low-edge-requires
 low-edge-requires c κs = search needs
 
 returns : tie.Need-returns
-returns c = rw (c .before .low-edge .ensures)
+returns c = rw (c .before .before .low-edge .ensures)
 
 pub rises-spec : {M : Type 1} → statement M
 rises-spec = tie.close (tie.spec low-edge-requires returns)

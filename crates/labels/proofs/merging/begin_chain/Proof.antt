@@ -1,7 +1,5 @@
-use native.Mathlib.Omega.{arith}
-use borrow.Author.Needs.{needs}
-use Rattle.model.specs.Labels.{base}
 use Rattle.labels.proofs.Merges.{begin-law}
+use borrow.Author.Needs.{needs}
 use Rattle.labels.proofs.merging.begin_chain.Statement.{statement}
 use Rattle.labels.proofs.merging.begin_chain.Tie as tie
 
@@ -11,12 +9,8 @@ base-requires c κs = search needs
 label-vertex-requires : tie.Need-label-vertex-requires
 label-vertex-requires c κs = search needs
 
-add-label-vertex : tie.Need-add-label-vertex
-unfolding base
-add-label-vertex c =
-    let at-base = c .before .before .before .before .before .before .before .before .before in
-    let at-fits = at-base .before .before .before in
-    omega (arith, at-base .base .ensures, at-fits .fits .k .fits)
+next-label-requires : tie.Need-next-label-requires
+next-label-requires c κs = search needs
 
 label-vertex-requires-2 : tie.Need-label-vertex-requires-2
 label-vertex-requires-2 c κs = search needs
@@ -30,9 +24,11 @@ same-length-2 c = search needs
 returns : tie.Need-returns
 returns c =
     let at-label-vertex2 = c .before .before .before .before in
-    let at-label-vertex = at-label-vertex2 .before .before .before .before .before .before .before in
+    let at-next-label = at-label-vertex2 .before in
+    let at-label-vertex = at-next-label .before .before .before .before .before .before .before in
     let at-base = at-label-vertex .before .before .before in
-    begin-law _ _ _ _ _ _ _ _ _ _ _ _ _ _ _ (at-base .base .ensures) (at-label-vertex .label-vertex .ensures)
+    let at-fits = at-base .before .before .before in
+    begin-law _ _ _ _ _ _ _ _ _ _ _ _ _ _ _ _ (at-fits .fits .k .fits) (at-base .base .ensures) (at-label-vertex .label-vertex .ensures) (at-next-label .next-label .ensures)
     (at-label-vertex2 .label-vertex2 .ensures)
 
 pub begin-chain-spec : {M : Type 1} → statement M
@@ -41,7 +37,7 @@ begin-chain-spec =
     (tie.spec
     base-requires
     label-vertex-requires
-    add-label-vertex
+    next-label-requires
     label-vertex-requires-2
     same-length
     same-length-2

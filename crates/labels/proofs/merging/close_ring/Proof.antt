@@ -2,34 +2,22 @@ use Rattle.labels.proofs.Merges.{closes-begun, closes-on}
 use borrow.Author.Needs.{needs}
 use Rattle.labels.proofs.merging.close_ring.Statement.{statement}
 use Rattle.labels.proofs.merging.close_ring.Tie as tie
-use Rattle.labels.proofs.merging.close_ring.Reads as reads
-use Rattle.labels.proofs.merging.close_ring.Lts as lts
-use Rattle.labels.proofs.labelling.label_beyond.Reads as label-beyond-reads
-use Rattle.labels.proofs.merging.ChainChange.closing.Reads as closing-reads
-use Rattle.labels.proofs.merging.begin_chain.Reads as begin-chain-reads
-use Rattle.tables.proofs.access.one_more16.Reads as one-more16-reads
 
--- src/merging.rt:114:13
 one-more16-requires : tie.Need-one-more16-requires
 one-more16-requires c κs = search needs
 
--- src/merging.rt:115:9
 begin-chain-requires : tie.Need-begin-chain-requires
 begin-chain-requires c κs = search needs
 
--- src/merging.rt:116:9
 closing-requires : tie.Need-closing-requires
 closing-requires c κs = search needs
 
--- src/merging.rt:116:9
 same-length : tie.Need-same-length
 same-length c = search needs
 
--- src/merging.rt:116:9
 same-length-2 : tie.Need-same-length-2
 same-length-2 c = search needs
 
--- src/merging.rt:116:9
 returns : tie.Need-returns
 returns c =
     let at-begin-chain = c .before .before .before .before .before in
@@ -37,27 +25,21 @@ returns c =
     let at-if1 = at-one-more16 .before in
     closes-begun _ _ _ _ _ _ _ _ _ _ _ _ _ _ _ _ (at-if1 .if1 .taken) (at-one-more16 .one-more16 .ensures) (at-begin-chain .begin-chain .ensures) (c .closing .ensures)
 
--- src/merging.rt:118:5
 label-beyond-requires : tie.Need-label-beyond-requires
 label-beyond-requires c κs = search needs
 
--- src/merging.rt:119:5
 label-beyond-requires-2 : tie.Need-label-beyond-requires-2
 label-beyond-requires-2 c κs = search needs
 
--- src/merging.rt:120:5
 closing-requires-2 : tie.Need-closing-requires-2
 closing-requires-2 c κs = search needs
 
--- src/merging.rt:100:1
 same-length-3 : tie.Need-same-length-3
 same-length-3 c = search needs
 
--- src/merging.rt:100:1
 same-length-4 : tie.Need-same-length-4
 same-length-4 c = search needs
 
--- src/merging.rt:100:1
 returns-2 : tie.Need-returns-2
 returns-2 c =
     let at-label-beyond2 = c .before .before .before .before .before in

@@ -1,7 +1,7 @@
 use native.Mathlib.Omega.{arith}
-use borrow.Author.Needs.{needs}
 use Rattle.labels.proofs.Merges.{join-law}
 use Rattle.labels.proofs.Labels.{label-le, relabel-le}
+use borrow.Author.Needs.{needs}
 use Rattle.labels.proofs.merging.join_chains.Statement.{statement}
 use Rattle.labels.proofs.merging.join_chains.Tie as tie
 
@@ -14,8 +14,8 @@ leave-leaf-requires-2 c κs = search needs
 rises-requires : tie.Need-rises-requires
 rises-requires c κs = search needs
 
-of32-requires : tie.Need-of32-requires
-of32-requires c κs = search needs
+label-of-requires : tie.Need-label-of-requires
+label-of-requires c κs = search needs
 
 next-label-requires : tie.Need-next-label-requires
 next-label-requires c κs = search needs
@@ -39,6 +39,7 @@ add-result : tie.Need-add-result
 add-result c =
     let at-relabel-chain = c .before .before .before .before in
     let at-label-vertex2 = at-relabel-chain .before .before .before .before .before .before .before .before in
+    let at-fits = at-label-vertex2 .before .before .before .before .before .before .before .before .before .before .before .before .before .before .before .before .before .before .before .before .before .before .before .before in
     let at-fits =
     at-label-vertex2 .before .before .before .before .before .before .before .before .before .before .before .before .before
     .before .before .before .before .before .before .before .before .before .before .before in
@@ -51,6 +52,7 @@ add-result-2 c =
     let at-relabel-chain = c .before .before .before .before in
     let at-label-vertex2 = at-relabel-chain .before .before .before .before .before .before .before .before in
     let at-label-vertex = at-label-vertex2 .before .before .before .before .before .before .before in
+    let at-fits = at-label-vertex .before .before .before .before .before .before .before .before .before .before .before .before .before .before .before .before .before in
     let at-fits =
     at-label-vertex .before .before .before .before .before .before .before .before .before .before .before .before .before
     .before .before .before .before in
@@ -73,13 +75,13 @@ returns c =
     let at-label-vertex = at-label-vertex2 .before .before .before .before .before .before .before in
     let at-next-label2 = at-label-vertex .before .before .before in
     let at-next-label = at-next-label2 .before in
-    let at-of32 = at-next-label .before in
-    let at-rises = at-of32 .before .before in
+    let at-label-of = at-next-label .before in
+    let at-rises = at-label-of .before .before in
     let at-leave-leaf2 = at-rises .before .before in
     let at-leave-leaf = at-leave-leaf2 .before .before in
     join-law _ _ _ _ _ _ _ _ _ _ _ _ _ _ _ _ _ _ _ _ _ _ _ _ _ _
     (at-leave-leaf .leave-leaf .ensures) (at-leave-leaf2 .leave-leaf2 .ensures)
-    (at-rises .rises .ensures) (at-of32 .of32 .ensures) (at-next-label .next-label .ensures) (at-next-label2 .next-label2 .ensures)
+    (at-rises .rises .ensures) (at-label-of .label-of .ensures) (at-next-label .next-label .ensures) (at-next-label2 .next-label2 .ensures)
     (at-label-vertex .label-vertex .ensures) (at-label-vertex2 .label-vertex2 .ensures) (at-next-label3 .next-label3 .ensures)
     (at-relabel-chain .relabel-chain .ensures)
 
@@ -90,7 +92,7 @@ join-chains-spec =
     leave-leaf-requires
     leave-leaf-requires-2
     rises-requires
-    of32-requires
+    label-of-requires
     next-label-requires
     next-label-requires-2
     label-vertex-requires

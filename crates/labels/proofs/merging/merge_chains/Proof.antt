@@ -26,7 +26,7 @@ returns : tie.Need-returns
 returns c =
     let at-close-ring = c .before .before .before .before in
     let at-if1 = at-close-ring .before .before .before in
-    let at-walk-lockstep = at-if1 .before .before in
+    let at-walk-lockstep = at-if1 .before .before .before in
     let at-leave-leaf2 = at-walk-lockstep .before .before in
     let at-leave-leaf = at-leave-leaf2 .before .before in
     at-close-ring .close-ring .ensures ∙ merge-closes _ _ _ _ _ _ _ _ _ _ _ _ _ _ (at-leave-leaf .leave-leaf .ensures) (at-leave-leaf2 .leave-leaf2 .ensures) (at-walk-lockstep .walk-lockstep .ensures) (at-if1 .if1 .taken)
@@ -68,7 +68,7 @@ returns-2 c =
     let at-enum-told = at-one-more16 .before in
     let at-keeper-of = at-enum-told .before .before in
     let at-if1 = at-keeper-of .before in
-    let at-walk-lockstep = at-if1 .before .before in
+    let at-walk-lockstep = at-if1 .before .before .before in
     let at-leave-leaf2 = at-walk-lockstep .before .before in
     let at-leave-leaf = at-leave-leaf2 .before .before in
     answer-begun _ _ _ _ _ _ _ _ _ _ _ _ _ _ _ _ _ _ (at-enum-told .enum-told .given .1) (at-one-more16 .one-more16 .ensures) (at-begin-chain .begin-chain .ensures) (c .new .ensures)
@@ -86,7 +86,7 @@ returns-3 c =
     let at-keeper = at-join-chains .before .before .before .before in
     let at-keeper-of = at-keeper .before .before in
     let at-if1 = at-keeper-of .before in
-    let at-walk-lockstep = at-if1 .before .before in
+    let at-walk-lockstep = at-if1 .before .before .before in
     let at-leave-leaf2 = at-walk-lockstep .before .before in
     let at-leave-leaf = at-leave-leaf2 .before .before in
     answer-joined _ _ _ _ _ _ _ _ _ _ _ _ _ _ _ _ _ _ _ _ (at-keeper .keeper .given .1) (at-join-chains .join-chains .ensures) (c .new2 .ensures)

@@ -3,11 +3,11 @@ use borrow.Author.Needs.{needs}
 use Rattle.labels.proofs.splitting.bare_vertex.Statement.{statement}
 use Rattle.labels.proofs.splitting.bare_vertex.Tie as tie
 
-put-pair-requires : tie.Need-put-pair-requires
-put-pair-requires c κs = search needs
+put-sides-requires : tie.Need-put-sides-requires
+put-sides-requires c κs = search needs
 
-put32-requires : tie.Need-put32-requires
-put32-requires c κs = search needs
+put-label-requires : tie.Need-put-label-requires
+put-label-requires c κs = search needs
 
 same-length : tie.Need-same-length
 same-length c = search needs
@@ -17,9 +17,9 @@ same-length-2 c = search needs
 
 returns : tie.Need-returns
 returns c =
-    let at-put-pair = c .before .before .before .before .before .before in
-    bare-law _ _ _ _ _ (at-put-pair .put-pair .ensures) (c .before .before .put32 .ensures)
+    let at-put-sides = c .before .before .before .before .before .before in
+    bare-law _ _ _ _ _ (at-put-sides .put-sides .ensures) (c .before .before .put-label .ensures)
 
 pub bare-vertex-spec : {M : Type 1} → statement M
 bare-vertex-spec =
-    tie.close (tie.spec put-pair-requires put32-requires same-length same-length-2 returns)
+    tie.close (tie.spec put-sides-requires put-label-requires same-length same-length-2 returns)

@@ -27,8 +27,8 @@ new-requires-2 c κs = search needs
 enum-known-round-2 : tie.Need-enum-known-round-2
 enum-known-round-2 c = search needs
 
-put32-requires : tie.Need-put32-requires
-put32-requires c κs = search needs
+put-label-requires : tie.Need-put-label-requires
+put-label-requires c κs = search needs
 
 one-more16-requires-2 : tie.Need-one-more16-requires-2
 one-more16-requires-2 c κs = search needs
@@ -74,9 +74,9 @@ returns-3 : tie.Need-returns-3
 returns-3 c =
     let at-tap-ring2 = c .before .before .before .before .before in
     let at-one-more162 = at-tap-ring2 .before .before .before in
-    let at-put32 = at-one-more162 .before .before .before in
-    let at-round2 = at-put32 .before .before .before in
-    by-shared _ _ _ _ _ _ _ _ _ _ _ _ _ _ _ _ _ (at-round2 .round2 .given .1) (at-put32 .put32 .ensures) (at-one-more162 .one-more162 .ensures) (at-tap-ring2 .tap-ring2 .ensures) (c .new3 .ensures)
+    let at-put-label = at-one-more162 .before .before .before in
+    let at-round2 = at-put-label .before .before .before in
+    by-shared _ _ _ _ _ _ _ _ _ _ _ _ _ _ _ _ _ (at-round2 .round2 .given .1) (at-put-label .put-label .ensures) (at-one-more162 .one-more162 .ensures) (at-tap-ring2 .tap-ring2 .ensures) (c .new3 .ensures)
 
 pub split-by-spec : {M : Type 1} → statement M
 split-by-spec =
@@ -90,7 +90,7 @@ split-by-spec =
     tap-ring-requires
     new-requires-2
     enum-known-round-2
-    put32-requires
+    put-label-requires
     one-more16-requires-2
     tap-ring-requires-2
     new-requires-3

@@ -2,48 +2,34 @@ use Rattle.labels.proofs.Splits.{one-looked, one-bare}
 use borrow.Author.Needs.{needs}
 use Rattle.labels.proofs.splitting.split_one.Statement.{statement}
 use Rattle.labels.proofs.splitting.split_one.Tie as tie
-use Rattle.labels.proofs.splitting.split_one.Reads as reads
-use Rattle.labels.proofs.splitting.split_one.Lts as lts
-use Rattle.labels.proofs.merging.ChainChange.new.Reads as new-reads
-use Rattle.labels.proofs.splitting.bare_vertex.Reads as bare-vertex-reads
-use Rattle.labels.proofs.splitting.split_chain.Reads as split-chain-reads
 
--- src/splitting.rt:152:9
 split-chain-requires : tie.Need-split-chain-requires
 split-chain-requires c κs = search needs
 
--- src/splitting.rt:152:9
 same-length : tie.Need-same-length
 same-length c = search needs
 
--- src/splitting.rt:152:9
 same-length-2 : tie.Need-same-length-2
 same-length-2 c = search needs
 
--- src/splitting.rt:152:9
 returns : tie.Need-returns
 returns c =
     let at-split-chain = c .before .before .before .before in
     let at-if1 = at-split-chain .before .before .before in
     one-looked _ _ _ _ _ _ _ _ _ _ _ _ _ _ (at-if1 .if1 .taken) (at-split-chain .split-chain .ensures)
 
--- src/splitting.rt:154:5
 bare-vertex-requires : tie.Need-bare-vertex-requires
 bare-vertex-requires c κs = search needs
 
--- src/splitting.rt:155:5
 new-requires : tie.Need-new-requires
 new-requires c κs = search needs
 
--- src/splitting.rt:137:1
 same-length-3 : tie.Need-same-length-3
 same-length-3 c = search needs
 
--- src/splitting.rt:137:1
 same-length-4 : tie.Need-same-length-4
 same-length-4 c = search needs
 
--- src/splitting.rt:137:1
 returns-2 : tie.Need-returns-2
 returns-2 c =
     let at-bare-vertex = c .before .before .before .before .before in

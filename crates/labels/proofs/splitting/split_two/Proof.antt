@@ -2,52 +2,37 @@ use Rattle.labels.proofs.Splits.{two-looked, two-bare}
 use borrow.Author.Needs.{needs}
 use Rattle.labels.proofs.splitting.split_two.Statement.{statement}
 use Rattle.labels.proofs.splitting.split_two.Tie as tie
-use Rattle.labels.proofs.splitting.split_two.Reads as reads
-use Rattle.labels.proofs.splitting.split_two.Lts as lts
-use Rattle.labels.proofs.merging.ChainChange.new.Reads as new-reads
-use Rattle.labels.proofs.splitting.bare_vertex.Reads as bare-vertex-reads
-use Rattle.labels.proofs.splitting.split_both.Reads as split-both-reads
 
--- src/splitting.rt:174:9
 split-both-requires : tie.Need-split-both-requires
 split-both-requires c κs = search needs
 
--- src/splitting.rt:174:9
 same-length : tie.Need-same-length
 same-length c = search needs
 
--- src/splitting.rt:174:9
 same-length-2 : tie.Need-same-length-2
 same-length-2 c = search needs
 
--- src/splitting.rt:174:9
 returns : tie.Need-returns
 returns c =
     let at-split-both = c .before .before .before .before in
     let at-if1 = at-split-both .before .before .before in
     two-looked _ _ _ _ _ _ _ _ _ _ _ _ _ _ (at-if1 .if1 .taken) (at-split-both .split-both .ensures)
 
--- src/splitting.rt:176:5
 bare-vertex-requires : tie.Need-bare-vertex-requires
 bare-vertex-requires c κs = search needs
 
--- src/splitting.rt:177:5
 bare-vertex-requires-2 : tie.Need-bare-vertex-requires-2
 bare-vertex-requires-2 c κs = search needs
 
--- src/splitting.rt:178:5
 new-requires : tie.Need-new-requires
 new-requires c κs = search needs
 
--- src/splitting.rt:159:1
 same-length-3 : tie.Need-same-length-3
 same-length-3 c = search needs
 
--- src/splitting.rt:159:1
 same-length-4 : tie.Need-same-length-4
 same-length-4 c = search needs
 
--- src/splitting.rt:159:1
 returns-2 : tie.Need-returns-2
 returns-2 c =
     let at-bare-vertex2 = c .before .before .before .before .before in

@@ -1,6 +1,6 @@
 use mathlib.Core.Path.{sym, _∙_}
 use native.Mathlib.Omega.{arith}
-use Rattle.queries.proofs.SheetLaws.{sheet-count}
+use Rattle.chains.proofs.SheetLaws.{sheet-count}
 use Rattle.listing.proofs.Lines.{line-at}
 use Rattle.listing.proofs.Whole.{listing-parts}
 use borrow.Author.Needs.{needs}
@@ -36,12 +36,12 @@ put-line4-requires : tie.Need-put-line4-requires
 put-line4-requires c κs = search needs
 
 -- src/listing.rt:123:69
-slice-aggregate-put-sheet : tie.Need-slice-aggregate-put-sheet
-slice-aggregate-put-sheet c = search needs
+slice-aggregate-put-sheet-lines : tie.Need-slice-aggregate-put-sheet-lines
+slice-aggregate-put-sheet-lines c = search needs
 
 -- src/listing.rt:123:9
-put-sheet-requires : tie.Need-put-sheet-requires
-put-sheet-requires c κs = search needs
+put-sheet-lines-requires : tie.Need-put-sheet-lines-requires
+put-sheet-lines-requires c κs = search needs
 
 -- src/listing.rt:124:5
 put-stop-requires : tie.Need-put-stop-requires
@@ -54,11 +54,11 @@ same-length c = search needs
 -- src/listing.rt:95:1
 returns : tie.Need-returns
 returns c =
-    let at-put-sheet = c .before .before .before .before .before .before .before in
-    let at-put-line4 = at-put-sheet .before .before .before .before .before in
+    let at-put-sheet-lines = c .before .before .before .before .before .before .before in
+    let at-put-line4 = at-put-sheet-lines .before .before .before .before .before in
     let at-count-chains = at-put-line4 .before .before .before in
     let at-good = at-count-chains .before .before .before .before .before .before .before in
-    (listing-parts _ _ _ _ _ _ _ _ (at-count-chains .count-chains .ensures ∙ sym (sheet-count _ _ _ _ _ _)) (at-put-line4 .put-line4 .ensures) (at-put-sheet .put-sheet .ensures .0) (c .before .before .put-stop .ensures .0), omega (arith, c .before .before .put-stop .ensures .1, at-put-sheet .put-sheet .ensures .1, line-at _ _ _ _ (omega (arith, at-good .good), (omega (arith, at-good .good), (omega (arith, at-count-chains .count-chains .ok), (omega (arith, at-good .good), tt)))) (at-put-line4 .put-line4 .ensures)))
+    (listing-parts _ _ _ _ _ _ _ _ (at-count-chains .count-chains .ensures ∙ sym (sheet-count _ _ _ _ _ _)) (at-put-line4 .put-line4 .ensures) (at-put-sheet-lines .put-sheet-lines .ensures .0) (c .before .before .put-stop .ensures .0), omega (arith, c .before .before .put-stop .ensures .1, at-put-sheet-lines .put-sheet-lines .ensures .1, line-at _ _ _ _ (omega (arith, at-good .good), (omega (arith, at-good .good), (omega (arith, at-count-chains .count-chains .ok), (omega (arith, at-good .good), tt)))) (at-put-line4 .put-line4 .ensures)))
 
 pub put-listing-spec : {M : Type 1} → statement M
 put-listing-spec =
@@ -71,8 +71,8 @@ put-listing-spec =
     cast-put-line4-3
     cast-put-line4-4
     put-line4-requires
-    slice-aggregate-put-sheet
-    put-sheet-requires
+    slice-aggregate-put-sheet-lines
+    put-sheet-lines-requires
     put-stop-requires
     same-length
     returns)

@@ -12,7 +12,7 @@ returns c = numbers-short _ _ _ refl _ (c .before .if1 .taken) (value-kept (c .r
 returns-2 : tie.Need-returns-2
 returns-2 c =
     let at-if1 = c .before .before .before .before .before in
-    numbers-fit _ _ _ refl _ _ _ (omega (arith, at-if1 .if1 .left)) (c .before .before .before .put-words .ensures) (value-kept (c .counted .ok) ∙ c .counted .ensures)
+    numbers-fit _ _ _ refl _ _ _ (omega (arith, at-if1 .if1 .left)) (c .before .before .before .put-words .ensures) (value-kept (c .byte-count .ok) ∙ c .byte-count .ensures)
 
 -- the needs in the order of the code
 pub answer-numbers-spec : {M : Type 1} → statement M

@@ -23,24 +23,24 @@ returns : tie.Need-returns
 returns c = sheet-short _ _ _ _ _ _ _ _ (c .before .before .before .has-room .ensures) _ (not-true _ (c .before .if1 .taken)) (value-kept (c .refused .ok) ∙ c .refused .ensures)
 
 -- src/sheet.rt:77:66
-slice-aggregate-put-sheet : tie.Need-slice-aggregate-put-sheet
-slice-aggregate-put-sheet c = search needs
+slice-aggregate-put-sheet-bytes : tie.Need-slice-aggregate-put-sheet-bytes
+slice-aggregate-put-sheet-bytes c = search needs
 
 -- src/sheet.rt:77:9
-put-sheet-requires : tie.Need-put-sheet-requires
-put-sheet-requires c κs = search needs
+put-sheet-bytes-requires : tie.Need-put-sheet-bytes-requires
+put-sheet-bytes-requires c κs = search needs
 
 -- src/sheet.rt:78:26
-cast-counted : tie.Need-cast-counted
-cast-counted c = search needs
+cast-byte-count : tie.Need-cast-byte-count
+cast-byte-count c = search needs
 
 -- src/sheet.rt:78:13
-mul-counted : tie.Need-mul-counted
-mul-counted c = search needs
+mul-byte-count : tie.Need-mul-byte-count
+mul-byte-count c = search needs
 
 -- src/sheet.rt:78:5
-counted-requires : tie.Need-counted-requires
-counted-requires c κs = search needs
+byte-count-requires : tie.Need-byte-count-requires
+byte-count-requires c κs = search needs
 
 -- src/sheet.rt:59:1
 same-length : tie.Need-same-length
@@ -49,10 +49,10 @@ same-length c = search needs
 -- src/sheet.rt:59:1
 returns-2 : tie.Need-returns-2
 returns-2 c =
-    let at-put-sheet = c .before .before .before .before in
-    let at-if1 = at-put-sheet .before .before .before in
+    let at-put-sheet-bytes = c .before .before .before .before in
+    let at-if1 = at-put-sheet-bytes .before .before .before in
     let at-has-room = at-if1 .before .before in
-    sheet-whole _ _ _ _ _ _ _ _ (at-has-room .has-room .ensures) _ _ _ (not-false _ (at-if1 .if1 .left)) (at-put-sheet .put-sheet .ensures .0) (at-put-sheet .put-sheet .ensures .1) (value-kept (c .counted .ok) ∙ c .counted .ensures)
+    sheet-whole _ _ _ _ _ _ _ _ (at-has-room .has-room .ensures) _ _ _ (not-false _ (at-if1 .if1 .left)) (at-put-sheet-bytes .put-sheet-bytes .ensures .0) (at-put-sheet-bytes .put-sheet-bytes .ensures .1) (value-kept (c .byte-count .ok) ∙ c .byte-count .ensures)
 
 pub answer-sheet-spec : {M : Type 1} → statement M
 answer-sheet-spec =
@@ -62,10 +62,10 @@ answer-sheet-spec =
     has-room-requires
     refused-requires
     returns
-    slice-aggregate-put-sheet
-    put-sheet-requires
-    cast-counted
-    mul-counted
-    counted-requires
+    slice-aggregate-put-sheet-bytes
+    put-sheet-bytes-requires
+    cast-byte-count
+    mul-byte-count
+    byte-count-requires
     same-length
     returns-2)

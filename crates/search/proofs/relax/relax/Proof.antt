@@ -1,6 +1,6 @@
 use Rattle.search.proofs.Relaxing.{still-long, still-of, lowered}
 use Rattle.model.specs.Distance.{forth, back}
-use Rattle.model.specs.Tables.{edgeIn}
+use Rattle.model.specs.Tables.{storedEdge}
 use Rattle.search.specs.Search.{rests, unreached}
 use native.Mathlib.Omega.{arith}
 use Prim.Native.Nat.{_+_, _≤_, min, max}
@@ -69,7 +69,7 @@ same-length-2 : tie.Need-same-length-2
 same-length-2 c = search needs
 
 returns-3 : tie.Need-returns-3
-unfolding edgeIn
+unfolding storedEdge
 returns-3 c =
     let at-if3 = c .before .before .before .before in
     let at-if2 = at-if3 .before in
@@ -90,7 +90,7 @@ same-length-3 : tie.Need-same-length-3
 same-length-3 c = search needs
 
 returns-4 : tie.Need-returns-4
-unfolding edgeIn
+unfolding storedEdge
 returns-4 c =
     let at-if3 = c .before .before .before .before in
     let at-if2 = at-if3 .before in

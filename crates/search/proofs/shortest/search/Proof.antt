@@ -46,7 +46,7 @@ returns c =
     let at-start = at-dijkstra .before .before .before .before .before .before .before .before in
     let pre = at-start .before .before .before .before .before .before .before .before .before .pre in
     let g = started _ _ _ _ _ (pre .0) (pre .1 .1 .1) (at-start .start .kept .0) (at-start .start .ensures) in
-    answers _ _ _ _ _ _ _ _ _ (pre .1 .0) (pre .1 .1 .0) (at-dijkstra .dijkstra .ensures .grounded _ g) (at-settle .settle .ensures) (c .before .of32 .ensures) (c .answer-of .ensures)
+    answers _ _ _ _ _ _ _ _ (c .answer-of .result) (pre .1 .0) (pre .1 .1 .0) (at-dijkstra .dijkstra .ensures .grounded _ g) (at-settle .settle .ensures) (c .before .of32 .ensures) (c .answer-of .ensures)
 
 pub search-spec : {M : Type 1} → statement M
 search-spec =

@@ -6,7 +6,7 @@ returns : tie.Need-returns
 returns c = search needs
 
 returns-2 : tie.Need-returns-2
-returns-2 c = rw (c .if1 .left)
+returns-2 c = rw (c .before .before .if1 .left)
 
 pub meets-spec : {M : Type 1} → statement M
 meets-spec = tie.close (tie.spec returns returns-2)

@@ -13,7 +13,7 @@ walk-round-requires : tie.Need-walk-round-requires
 walk-round-requires c κs = search needs
 
 returns : tie.Need-returns
-returns c = ring-law _ _ _ _ _ _ _ _ _ _ _ (c .before .before .leave-lower .ensures) (c .before .step-over .ensures) (c .walk-round .ensures)
+returns c = ring-law _ _ _ _ _ _ _ _ _ _ _ (c .before .before .before .leave-lower .ensures) (c .before .step-over .ensures) (c .walk-round .ensures)
 
 pub ring-at-spec : {M : Type 1} → statement M
 ring-at-spec =

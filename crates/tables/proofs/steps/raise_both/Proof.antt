@@ -1,5 +1,5 @@
-use borrow.Author.Needs.{needs}
 use Rattle.tables.specs.Steps.{raiseBothIn}
+use borrow.Author.Needs.{needs}
 use Rattle.tables.proofs.steps.raise_both.Statement.{statement}
 use Rattle.tables.proofs.steps.raise_both.Tie as tie
 

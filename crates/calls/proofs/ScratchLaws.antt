@@ -1,0 +1,56 @@
+-- Find and the sheet behind an open gate: the scratch that serves them is left as the gate left it.
+use mathlib.Core.Path.{_≡_, ap, _∙_}
+use Prim.Native.Nat.{ℕ, _*_, _≤_}
+use native.Mathlib.Omega.{arith}
+use mathlib.Core.Option.{none}
+use mathlib.Core.List.{List, []}
+use lib.ListN.{length, replicate, length-replicate}
+use Rattle.model.specs.Basics.{maxVertices}
+use Rattle.model.specs.Queries.{Reply}
+use Rattle.model.specs.Tables.{Tables, Counts, cleared}
+use Rattle.model.specs.Calls.{finds, sheets, scratchAfter, step}
+use Rattle.model.proofs.Series.Calls.{scratch-cleared}
+use Rattle.tables.specs.Meaning.{tables}
+use Rattle.admission.specs.Lent.{lent, outcome}
+use Rattle.admission.specs.Gate.{barred}
+use Rattle.admission.proofs.GateLaws.{opened}
+use Rattle.questions.specs.Answering.{answered, sheetedIn}
+use Rattle.questions.proofs.AnswerLaws.{sheet-answers}
+use Rattle.questions.proofs.Answers.{Answers}
+use Rattle.calls.proofs.QueryLaws.{query-answered}
+
+-- Find and the sheet over scratch g that the gate left. Its sides served for the tournament; its degrees and its sides for marks. They are
+-- zeros again.
+module _ (t : Tables) (c : Counts) (s g : Tables) (h : none ≡ barred (lent t c s)) (e : g ≡ scratchAfter (lent t c s)) where
+  zeros : g ≡ cleared
+  zeros = e ∙ scratch-cleared (lent t c s) ((opened (lent t c s) h) .fit)
+
+  degrees-are : g .degrees ≡ replicate maxVertices 0
+  unfolding cleared
+  degrees-are = ap (λ (x : Tables). x .degrees) zeros
+
+  sides-are : g .sides ≡ replicate (2 * maxVertices) 0
+  unfolding cleared
+  sides-are = ap (λ (x : Tables). x .sides) zeros
+
+  again : (xs : List ℕ) (n : ℕ) → xs ≡ replicate n 0 → replicate (length xs) 0 ≡ xs
+  again xs n q = rw (q, length-replicate)
+
+  pub find-answered : (tree : List ℕ) (label : ℕ) (a : Reply) → (2 * maxVertices ≤ length (g .sides) → Answers (finds label) t c [] a)
+      → tree ≡ replicate (length (g .sides)) 0
+      → outcome t c (tables (g .degrees) tree (g .ends) (g .lengths) (g .labels)) [] a ≡ step (finds label) (lent t c s)
+  find-answered tree label a f n =
+      let n′ : tree ≡ g .sides = n ∙ again (g .sides) (2 * maxVertices) sides-are in
+      let u : tables (g .degrees) tree (g .ends) (g .lengths) (g .labels) ≡ g = rw n′ in
+      let l : 2 * maxVertices ≤ length (g .sides) = rw (sides-are, length-replicate) (omega arith) in
+      query-answered (finds label) (lent t c s) _ [] a h (u ∙ e) (f l)
+
+  pub sheet-answered : (counting marks xs ys : List ℕ) (a : Reply) → answered ys a ≡ sheetedIn t c (g .degrees) (g .sides) xs
+      → counting ≡ replicate (length (g .degrees)) 0 → marks ≡ replicate (length (g .sides)) 0
+      → outcome t c (tables counting marks (g .ends) (g .lengths) (g .labels)) ys a ≡ step (sheets xs) (lent t c s)
+  sheet-answered counting marks xs ys a q m n =
+      let m′ : counting ≡ g .degrees = m ∙ again (g .degrees) maxVertices degrees-are in
+      let n′ : marks ≡ g .sides = n ∙ again (g .sides) (2 * maxVertices) sides-are in
+      let u : tables counting marks (g .ends) (g .lengths) (g .labels) ≡ g = rw (m′, n′) in
+      query-answered (sheets xs) (lent t c s) _ ys a h (u ∙ e)
+      (sheet-answers t c maxVertices (2 * maxVertices) (g .degrees) (g .sides) xs ys a (omega arith) (omega arith) degrees-are sides-are q)

@@ -1,0 +1,44 @@
+use mathlib.Core.Path.{refl, sym, ap, _∙_}
+use Rattle.model.specs.Calls.{writes, registerFor, lentSlice, lentTo}
+use Rattle.admission.specs.Gate.{gateRefusal}
+use Rattle.questions.proofs.WritingLaws.{write-answers}
+use Rattle.calls.proofs.QueryLaws.{query-refused, query-answered}
+use borrow.Author.Needs.{needs}
+use Rattle.calls.proofs.write.write.Statement.{statement}
+use Rattle.calls.proofs.write.write.Tie as tie
+
+returns : tie.Need-returns
+returns c =
+    let at-enum-told = c .before .before .before .before in
+    let at-pass-gate = at-enum-told .before .before .before .before .before .before .before .before .before .before .before .before in
+    query-answered (writes _) _ _ _ _ (ap gateRefusal (sym (at-enum-told .enum-told .given .1)) ∙ at-pass-gate .pass-gate .ensures .0) (at-pass-gate .pass-gate .ensures .1)
+    (write-answers _ _ _ _ _ _ _ _ _ (c .before .before .write-in .ensures))
+
+returns-2 : tie.Need-returns-2
+unfolding registerFor lentSlice lentTo
+returns-2 c =
+    let at-pass-gate = c .before .before .before .before .before .before .before .before .before .before .before .before .before in
+    query-refused (writes _) _ refl _ _ (ap gateRefusal (sym (c .before .passed .given .1)) ∙ at-pass-gate .pass-gate .ensures .0) (at-pass-gate .pass-gate .ensures .1)
+
+-- the needs in the order of the code
+pub write-spec : {M : Type 1} → statement M
+write-spec =
+    tie.close
+    (tie.spec
+    (λ c κs. search needs)
+    (λ c. search needs)
+    (λ c κs. search needs)
+    (λ c. search needs)
+    (λ c. search needs)
+    (λ c. search needs)
+    (λ c. search needs)
+    (λ c. search needs)
+    (λ c. search needs)
+    (λ c. search needs)
+    returns
+    (λ c. search needs)
+    (λ c. search needs)
+    (λ c. search needs)
+    (λ c. search needs)
+    (λ c. search needs)
+    returns-2)

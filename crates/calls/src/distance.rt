@@ -1,0 +1,65 @@
+// Distance: the least length of a way between two vertices (document 01: fittings): 25, 21, then 5.
+use admission::gate::Gate;
+use admission::gate::pass_gate;
+use counters::counts::Counts;
+use counters::numbers::Vertex;
+use questions::measure::Measured;
+use questions::measure::measure;
+ghost use mathlib.Core.Path.{_≡_};
+ghost use mathlib.Core.List.{[]};
+ghost use Rattle.model.specs.Calls.{measures, step};
+ghost use Rattle.counters.specs.Answers.{asCounts};
+ghost use Rattle.tables.specs.Meaning.{tables};
+ghost use Rattle.admission.specs.Lent.{lent, outcome};
+ghost use Rattle.questions.specs.Meaning.{measuredReply};
+
+pub fn distance(
+    degrees: &[u16],
+    sides: &[u16],
+    ends: &[u16],
+    lengths: &[u32],
+    labels: &[u32],
+    counts: Counts,
+    sdegrees: &mut [u16],
+    ssides: &mut [u16],
+    sends: &mut [u16],
+    slengths: &mut [u32],
+    slabels: &mut [u32],
+    from: Vertex,
+    to: Vertex,
+) -> Measured
+    ensures { λ r. ⌜ outcome (tables (now (degrees .entry)) (now (sides .entry)) (now (ends .entry)) (now (lengths .entry)) (now (labels .entry))) (asCounts counts)
+        (tables (now (sdegrees .exit)) (now (ssides .exit)) (now (sends .exit)) (now (slengths .exit)) (now (slabels .exit))) [] (measuredReply r)
+        ≡ step (measures (from .0) (to .0))
+        (lent (tables (now (degrees .entry)) (now (sides .entry)) (now (ends .entry)) (now (lengths .entry)) (now (labels .entry))) (asCounts counts)
+        (tables (now (sdegrees .entry)) (now (ssides .entry)) (now (sends .entry)) (now (slengths .entry)) (now (slabels .entry)))) ⌝ }
+{
+    let passed = pass_gate(
+        degrees,
+        sides,
+        ends,
+        lengths,
+        labels,
+        counts,
+        sdegrees,
+        ssides,
+        sends,
+        slengths,
+        slabels,
+    );
+    match passed {
+        Gate::Open => measure(
+            ends,
+            lengths,
+            counts,
+            sdegrees,
+            ssides,
+            sends,
+            slengths,
+            slabels,
+            from,
+            to,
+        ),
+        Gate::Refused(refusal) => Measured::Refused(refusal),
+    }
+}

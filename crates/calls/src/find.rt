@@ -1,0 +1,58 @@
+// Find: a label (document 01: tag) gives the name of its chain (run): 25, 21, then 8.
+use admission::gate::Gate;
+use admission::gate::pass_gate;
+use counters::counts::Counts;
+use counters::numbers::Label;
+use questions::find::FoundChain;
+use questions::find::find_cleared;
+ghost use mathlib.Core.Path.{_≡_};
+ghost use mathlib.Core.List.{[]};
+ghost use Rattle.model.specs.Calls.{finds, step};
+ghost use Rattle.counters.specs.Answers.{asCounts};
+ghost use Rattle.tables.specs.Meaning.{tables};
+ghost use Rattle.admission.specs.Lent.{lent, outcome};
+ghost use Rattle.questions.specs.Meaning.{foundReply};
+
+// The scratch's sides serve as the tree of the search.
+pub fn find(
+    degrees: &[u16],
+    sides: &[u16],
+    ends: &[u16],
+    lengths: &[u32],
+    labels: &[u32],
+    counts: Counts,
+    sdegrees: &mut [u16],
+    ssides: &mut [u16],
+    sends: &mut [u16],
+    slengths: &mut [u32],
+    slabels: &mut [u32],
+    label: Label,
+) -> FoundChain
+    ensures { λ r. ⌜ outcome
+        (tables (now (degrees .entry)) (now (sides .entry)) (now (ends .entry)) (now (lengths .entry)) (now (labels .entry)))
+        (asCounts counts)
+        (tables (now (sdegrees .exit)) (now (ssides .exit)) (now (sends .exit)) (now (slengths .exit)) (now (slabels .exit)))
+        [] (foundReply r)
+        ≡ step (finds (label .0))
+        (lent (tables (now (degrees .entry)) (now (sides .entry)) (now (ends .entry)) (now (lengths .entry)) (now (labels .entry)))
+        (asCounts counts)
+        (tables (now (sdegrees .entry)) (now (ssides .entry)) (now (sends .entry)) (now (slengths .entry)) (now (slabels .entry)))) ⌝ }
+{
+    let passed = pass_gate(
+        degrees,
+        sides,
+        ends,
+        lengths,
+        labels,
+        counts,
+        sdegrees,
+        ssides,
+        sends,
+        slengths,
+        slabels,
+    );
+    match passed {
+        Gate::Open => find_cleared(degrees, sides, ends, labels, counts, ssides, label),
+        Gate::Refused(refusal) => FoundChain::Refused(refusal),
+    }
+}

@@ -1,0 +1,160 @@
+// The landing of one edge: the refusals in their order, then the tables and the counts.
+use crate::cases::case_of;
+use crate::cases::class_of;
+use crate::placing::place_edge;
+use counters::counts::Counts;
+use counters::numbers::CheckedMillimetres;
+use counters::numbers::CheckedVertex;
+use counters::numbers::Edge;
+use counters::numbers::Millimetres;
+use counters::numbers::Vertex;
+use counters::refusals::Refusal;
+use counters::sizes::MAX_EDGES;
+use tables::access::add32;
+use tables::access::one_more16;
+use tables::kinds::degree_of;
+use tables::kinds::put_ends;
+use tables::kinds::put_length;
+ghost use mathlib.Core.Path.{_≡_};
+ghost use lib.ListN.{set};
+ghost use Rattle.counters.specs.Answers.{asCounts};
+ghost use Rattle.tables.specs.Meaning.{tables};
+ghost use Rattle.tables.specs.Steps.{setPair};
+ghost use Rattle.insertion.specs.Insertion.{landingIn, insertIn, checkIn, landIn};
+ghost use Rattle.insertion.specs.Meaning.{asAnswer, asChecked};
+
+// The counts after the edge (document 01: the head) and whether a ring may stand then; or the edge's refusal.
+pub enum Inserted {
+    Done(Counts, bool),
+    Refused(Refusal),
+}
+
+// The first of refusals 5, 6, 7 and 23 that holds of an edge (document 01: pipe), or its ends and its length where none does.
+pub enum Checked {
+    Passed(Vertex, Vertex, Millimetres),
+    Refused(Refusal),
+}
+
+// Document 01's order. These refusals look at no table. What a record says is a plain number until it is tested here.
+fn check_edge(counts: Counts, first: u16, second: u16, length: u32) -> Checked
+    ensures { λ r. ⌜ asChecked r ≡ checkIn (asCounts counts) (record { first = first; second = second; len = length }) ⌝ }
+{
+    let CheckedVertex::Is(a) = Vertex::landed(first, counts.vertices) else {
+        return Checked::Refused(Refusal::NotLanded);
+    };
+    let CheckedVertex::Is(b) = Vertex::landed(second, counts.vertices) else {
+        return Checked::Refused(Refusal::NotLanded);
+    };
+    if first == second {
+        return Checked::Refused(Refusal::SameVertex);
+    }
+    let CheckedMillimetres::Is(millimetres) = Millimetres::new(length) else {
+        return Checked::Refused(Refusal::Length);
+    };
+    if MAX_EDGES <= counts.edges {
+        return Checked::Refused(Refusal::TooManyEdges);
+    }
+    Checked::Passed(a, b, millimetres)
+}
+
+// Edge e is written down, and nothing that another edge wrote is touched.
+fn record_edge(
+    ends: &mut [u16],
+    lengths: &mut [u32],
+    e: Edge,
+    a: Vertex,
+    b: Vertex,
+    length: Millimetres,
+)
+    ensures { λ _. ⌜ (now (ends .exit) ≡ setPair (now (ends .entry)) (e .0) (a .0) (b .0))
+        × (now (lengths .exit) ≡ set (now (lengths .entry)) (e .0) (length .0)) ⌝ }
+{
+    put_ends(ends, e, a, b);
+    put_length(lengths, e, length);
+}
+
+// An edge that no refusal of `check_edge` holds of. Whether a ring may stand is carried along: a ring comes by a closing alone, so that
+// a list grown without one never looks for it.
+fn insert_edge(
+    degrees: &mut [u16],
+    sides: &mut [u16],
+    ends: &mut [u16],
+    lengths: &mut [u32],
+    labels: &mut [u32],
+    counts: Counts,
+    first: Vertex,
+    second: Vertex,
+    length: Millimetres,
+    rings: bool,
+) -> Inserted
+    ensures { λ r. ⌜ landingIn
+        (tables (now (degrees .exit)) (now (sides .exit)) (now (ends .exit)) (now (lengths .exit)) (now (labels .exit))) (asAnswer r)
+        ≡ insertIn
+        (tables (now (degrees .entry)) (now (sides .entry)) (now (ends .entry)) (now (lengths .entry)) (now (labels .entry)))
+        (asCounts counts) rings (record { first = first .0; second = second .0; len = length .0 }) ⌝ }
+{
+    // below MAX_EDGES: 23 was tested
+    let e = Edge(counts.edges);
+    let case = case_of(
+        class_of(degree_of(degrees, first)),
+        class_of(degree_of(degrees, second)),
+    );
+    let p = place_edge(
+        case,
+        degrees,
+        sides,
+        ends,
+        labels,
+        counts.blocks,
+        first,
+        second,
+        e,
+        rings,
+    );
+    record_edge(ends, lengths, e, first, second, length);
+    let after = Counts {
+        vertices: counts.vertices,
+        edges: one_more16(counts.edges),
+        blocks: p.blocks,
+        relabellings: add32(counts.relabellings, p.relabellings),
+    };
+    Inserted::Done(after, rings || p.ring)
+}
+
+// Every refusal in its order; a refused edge leaves the tables. `rings` may be false only where no ring stands; the
+// answer's is then false only where none stands after the edge.
+pub fn land_edge(
+    degrees: &mut [u16],
+    sides: &mut [u16],
+    ends: &mut [u16],
+    lengths: &mut [u32],
+    labels: &mut [u32],
+    counts: Counts,
+    first: u16,
+    second: u16,
+    length: u32,
+    rings: bool,
+) -> Inserted
+    ensures { λ r. ⌜ landingIn
+        (tables (now (degrees .exit)) (now (sides .exit)) (now (ends .exit)) (now (lengths .exit)) (now (labels .exit))) (asAnswer r)
+        ≡ landIn
+        (tables (now (degrees .entry)) (now (sides .entry)) (now (ends .entry)) (now (lengths .entry)) (now (labels .entry)))
+        (asCounts counts) rings (record { first = first; second = second; len = length }) ⌝ }
+{
+    let checked = check_edge(counts, first, second, length);
+    match checked {
+        Checked::Passed(a, b, millimetres) => insert_edge(
+            degrees,
+            sides,
+            ends,
+            lengths,
+            labels,
+            counts,
+            a,
+            b,
+            millimetres,
+            rings,
+        ),
+        Checked::Refused(refusal) => Inserted::Refused(refusal),
+    }
+}

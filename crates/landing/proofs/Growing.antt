@@ -1,0 +1,23 @@
+-- What a list leaves that is landed on cleared tables: the tables, the counts and the answer that model defines.
+use mathlib.Core.Path.{_≡_, refl}
+use Prim.Native.Nat.{ℕ}
+use mathlib.Core.List.{List}
+use Rattle.model.specs.Register.{empty}
+use Rattle.model.specs.Format.{growList}
+use Rattle.model.specs.Tables.{tablesOf, countsOf, cleared, noCounts}
+use Rattle.model.proofs.Computing.{computing}
+use Rattle.model.proofs.Registers.Reachable.{reachable-empty}
+use Rattle.landing.specs.Records.{landListIn}
+use Rattle.landing.proofs.ListAgrees.{list-agrees, shownRead}
+
+empty-tables : tablesOf empty ≡ cleared
+unfolding computing
+empty-tables = refl
+
+empty-counts : countsOf empty ≡ noCounts
+unfolding computing
+empty-counts = refl
+
+pub list-leaves : (bs : List ℕ) → landListIn cleared noCounts bs ≡ shownRead (growList bs)
+unfolding growList
+list-leaves bs = rw (empty-tables, empty-counts) at (list-agrees empty bs reachable-empty)

@@ -1,0 +1,81 @@
+-- The ways out of landing one record, and a turn of the loop over records.
+use mathlib.Core.Path.{_≡_, refl, ap}
+use Prim.Native.Nat.{ℕ, zero, suc, _+_, _-_, _≤_, _<_}
+use native.Mathlib.Nat.{not-suc-le-zero}
+use native.Mathlib.Numerals.{sub-one}
+use mathlib.Core.Bool.{Bool}
+use mathlib.Core.List.{List}
+use lib.ListN.{length}
+use lib.Dec.{ltb}
+use Rattle.model.specs.Graph.{Edge}
+use Rattle.model.specs.Format.{whole, stopped}
+use Rattle.model.specs.Tables.{Tables, Counts}
+use Rattle.counters.specs.Answers.{counts}
+use Rattle.insertion.specs.Insertion.{AnswerIn, done, refusedIn, landingIn, landIn, landVertexIn}
+use Rattle.list.specs.Reading.{good, badHeader, RecordAt, ends, vertexTo, edgeTo, badRecord, headerAt, recordAt}
+use Rattle.landing.specs.Records.{StepIn, ended, wentOn, stoppedIn, SteppedIn, steppedIn, stepOf, landRecordIn, ReadingIn, readingIn, landRecordsIn, landListIn}
+
+-- ---- one record
+
+module _ (t : Tables) (c : Counts) (rings : Bool) (d : RecordAt) where
+  pub record-ends : ends ≡ d → steppedIn t ended ≡ landRecordIn t c rings d
+  unfolding landRecordIn
+  record-ends e = rw (← e)
+
+  pub record-vertex : (i : ℕ) (a : AnswerIn) (s : StepIn) → vertexTo i ≡ d → a ≡ landVertexIn c rings → s ≡ stepOf i a
+      → steppedIn t s ≡ landRecordIn t c rings d
+  unfolding landRecordIn
+  record-vertex i a s e f g = rw (← e, ← f, g)
+
+  pub record-edge : (t′ : Tables) (e : Edge) (i : ℕ) (a : AnswerIn) (s : StepIn) → edgeTo e i ≡ d
+      → landingIn t′ a ≡ landIn t c rings e → s ≡ stepOf i a → steppedIn t′ s ≡ landRecordIn t c rings d
+  unfolding landRecordIn
+  record-edge t′ e i a s p q g = rw (← p, ← q, g)
+
+  pub record-bad : (x : ℕ) → badRecord x ≡ d → steppedIn t (stoppedIn x) ≡ landRecordIn t c rings d
+  unfolding landRecordIn
+  record-bad x e = rw (← e)
+
+-- ---- the loop
+
+tables-of : {x y : SteppedIn} → x ≡ y → x .tables ≡ y .tables
+tables-of e = ap (λ (s : SteppedIn). s .tables) e
+
+steps-are : {x y : SteppedIn} → x ≡ y → x .step ≡ y .step
+steps-are e = ap (λ (s : SteppedIn). s .step) e
+
+module _ (bs : List ℕ) where
+  pub records-none : (n k : ℕ) (t : Tables) (c : Counts) (rings : Bool) (i : ℕ) → n ≤ 0 → readingIn t c whole ≡ landRecordsIn bs n k t c rings i
+  unfolding landRecordsIn
+  records-none zero k t c rings i h = refl
+  records-none (suc n) k t c rings i h = absurd (not-suc-le-zero h)
+
+  pub records-end : (n k : ℕ) (t t′ : Tables) (c : Counts) (rings : Bool) (i : ℕ) → 0 < n → steppedIn t′ ended ≡ landRecordIn t c rings (recordAt bs i)
+      → readingIn t′ c whole ≡ landRecordsIn bs n k t c rings i
+  unfolding landRecordsIn
+  records-end zero k t t′ c rings i h e = absurd (not-suc-le-zero h)
+  records-end (suc n) k t t′ c rings i h e = rw (← steps-are e, landRecordsIn, ← tables-of e)
+
+  pub records-stop : (n k : ℕ) (t t′ : Tables) (c : Counts) (rings : Bool) (i x : ℕ) → 0 < n
+      → steppedIn t′ (stoppedIn x) ≡ landRecordIn t c rings (recordAt bs i) → readingIn t′ c (stopped k x) ≡ landRecordsIn bs n k t c rings i
+  unfolding landRecordsIn
+  records-stop zero k t t′ c rings i x h e = absurd (not-suc-le-zero h)
+  records-stop (suc n) k t t′ c rings i x h e = rw (← steps-are e, landRecordsIn, ← tables-of e)
+
+  pub records-on : (n k : ℕ) (t t′ : Tables) (c c′ : Counts) (rings rings′ : Bool) (i i′ : ℕ) → 0 < n
+      → steppedIn t′ (wentOn c′ rings′ i′) ≡ landRecordIn t c rings (recordAt bs i)
+      → landRecordsIn bs n k t c rings i ≡ landRecordsIn bs (n - 1) (k + 1) t′ c′ rings′ i′
+  unfolding landRecordsIn
+  records-on zero k t t′ c c′ rings rings′ i i′ h e = absurd (not-suc-le-zero h)
+  records-on (suc n) k t t′ c c′ rings rings′ i i′ h e = rw (← steps-are e, sub-one, landRecordsIn, ← tables-of e)
+
+-- ---- the header
+
+pub list-records : (t : Tables) (c : Counts) (bs : List ℕ) (i : ℕ) (d : ReadingIn) → good i ≡ headerAt bs
+    → d ≡ landRecordsIn bs (length bs) 0 t c (ltb 0 (c .edges)) i → d ≡ landListIn t c bs
+unfolding landListIn
+list-records t c bs i d e f = rw (← e, landListIn) f
+
+pub list-bad : (t : Tables) (c : Counts) (bs : List ℕ) (x : ℕ) → badHeader x ≡ headerAt bs → readingIn t c (stopped 0 x) ≡ landListIn t c bs
+unfolding landListIn
+list-bad t c bs x e = rw (← e, landListIn)

@@ -1,0 +1,5 @@
+pub mod Apart
+pub mod TakenApart
+pub mod Single
+pub mod WithList
+pub mod LentCounts

@@ -1,0 +1,100 @@
+// A list grown in arrays of its own, and the answer to a question about the register that it leaves.
+use crate::answers::answer_distance;
+use crate::answers::answer_found;
+use crate::answers::answer_reached;
+use crate::answers::refused;
+use crate::checked::find_checked;
+use crate::checked::measure_checked;
+use crate::checked::reach_checked;
+use crate::sheet::answer_sheet;
+use counters::answers::Stop;
+use counters::counts::Counts;
+use counters::sizes::EDGES;
+use counters::sizes::ENDS;
+use counters::sizes::SIDES;
+use counters::sizes::VERTICES;
+use landing::records::grow_list;
+ghost use mathlib.Core.Path.{_≡_};
+ghost use Rattle.model.specs.Register.{Register};
+ghost use Rattle.model.specs.FromC.{fromC, returnsReply};
+ghost use Rattle.model.specs.Notions.{HeldOf};
+ghost use Rattle.counters.specs.Answers.{asCounts};
+ghost use Rattle.tables.specs.Meaning.{stored, tables};
+ghost use Rattle.questions.specs.Measure.{Measurable};
+ghost use Rattle.pnl.specs.Questions.{asQuestion};
+ghost use Rattle.pnl.specs.FromC.{returned};
+
+// What may be asked from C.
+pub enum Question {
+    Sheet,
+    Find(u32),
+    Reach(u32),
+    Distance(u32, u32),
+}
+
+// The tables are a register's, so there is no gate to pass.
+fn answer_question(
+    answer: &mut [u8],
+    degrees: &[u16],
+    sides: &[u16],
+    ends: &[u16],
+    lengths: &[u32],
+    labels: &[u32],
+    counts: Counts,
+    question: Question,
+) -> i32
+    requires { ⌜ Measurable (now ends) (now lengths) (asCounts counts) ⌝ }
+    ensures { λ r. ⌜ ((register : Register)
+        → HeldOf (stored (tables (now (degrees .entry)) (now (sides .entry)) (now (ends .entry)) (now (lengths .entry)) (now (labels .entry))) (asCounts counts)) register
+        → returned (now (answer .exit)) r ≡ returnsReply register (now (answer .entry)) (asQuestion question register)) ⌝ }
+{
+    match question {
+        Question::Sheet => answer_sheet(answer, degrees, sides, ends, lengths, counts.edges),
+        Question::Find(label) => {
+            let found = find_checked(degrees, sides, ends, labels, counts, label);
+            answer_found(answer, found)
+        }
+        Question::Reach(vertex) => {
+            let reached = reach_checked(degrees, sides, ends, lengths, counts, vertex);
+            answer_reached(answer, reached)
+        }
+        Question::Distance(from, to) => {
+            let measured = measure_checked(ends, lengths, counts, from, to);
+            answer_distance(answer, measured)
+        }
+    }
+}
+
+// The tables of a call are its own, all zero at the start.
+pub fn answer_call(list: &[u8], question: Question, answer: &mut [u8]) -> i32
+    ensures { λ r. ⌜ returned (now (answer .exit)) r ≡ fromC (asQuestion question) (now (list .entry)) (now (answer .entry)) ⌝ }
+{
+    let mut degrees = [0u16; VERTICES];
+    let mut sides = [0u16; SIDES];
+    let mut ends = [0u16; ENDS];
+    let mut lengths = [0u32; EDGES];
+    let mut labels = [0u32; VERTICES];
+    let reading = grow_list(
+        &mut degrees,
+        &mut sides,
+        &mut ends,
+        &mut lengths,
+        &mut labels,
+        list,
+    );
+    let counts = reading.counts;
+    let stop = reading.stop;
+    match stop {
+        Stop::Whole => answer_question(
+            answer,
+            &degrees,
+            &sides,
+            &ends,
+            &lengths,
+            &labels,
+            counts,
+            question,
+        ),
+        Stop::Stopped(record, refusal) => refused(refusal),
+    }
+}

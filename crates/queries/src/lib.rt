@@ -1,7 +1,0 @@
-// Chains found by walking over the lent tables: names, rows of the sheet, and the vertex that has a label.
-pub mod lookup;
-pub mod marks;
-pub mod names;
-pub mod numbers;
-pub mod rows;
-pub mod walks;

@@ -1,0 +1,64 @@
+-- What find, reach and sheet compute over the tables of a register is what they are defined to answer.
+use mathlib.Core.Path.{_≡_, refl, sym, ap, _∙_}
+use Prim.Native.Nat.{ℕ, _*_, _≤_}
+use native.Mathlib.Omega.{arith}
+use mathlib.Core.Bool.{Bool, true, false}
+use mathlib.Core.List.{List, []}
+use lib.ListN.{length, replicate}
+use lib.Dec.{ltb}
+use borrow.Author.Tests.{ltb-false}
+use Rattle.model.specs.Basics.{maxEdges, maxVertices, inFront, rowSize}
+use Rattle.model.specs.Register.{Register}
+use Rattle.model.specs.Queries.{Reply, concat, find, reach, sheet, sheetNumbers}
+use Rattle.model.specs.Tables.{Tables, Counts, tablesOf}
+use Rattle.model.specs.Calls.{Answer, answer, answers, effect, fills, finds, reaches, sheets}
+use Rattle.model.specs.Notions.{Reachable}
+use Rattle.model.proofs.Chains.Sheet.{sheet-length}
+use Rattle.model.proofs.Registers.OnlyHeld.{held-counts, held-tables}
+use Rattle.tables.specs.Meaning.{tables}
+use Rattle.text.proofs.PageLaws.{write-front}
+use Rattle.chains.specs.Chains.{namesIn, sheetIn}
+use Rattle.chains.specs.Finding.{findIn, reachIn}
+use Rattle.agreement.proofs.Finding.{find-agrees, reach-agrees}
+use Rattle.agreement.proofs.Sheeting.{names-counted, sheet-agrees}
+use Rattle.questions.specs.Answering.{answered, sheetedIn}
+use Rattle.questions.proofs.Answers.{Answers}
+
+pub find-answers : (t : Tables) (c : Counts) (tree : List ℕ) (label : ℕ) (a : Reply) → 2 * maxVertices ≤ length tree
+    → a ≡ findIn t c tree label → Answers (finds label) t c [] a
+unfolding effect answer answers
+find-answers t c tree label a l h r k =
+    let f : findIn t c tree label ≡ find r label = rw (held-tables k, held-counts k) at (find-agrees r (k .reachable) label tree l) in
+    rw (h, f)
+
+pub reach-answers : (t : Tables) (c : Counts) (v : ℕ) (a : Reply) → a ≡ reachIn t c v → Answers (reaches v) t c [] a
+unfolding effect answer answers
+reach-answers t c v a h r k =
+    let f : reachIn t c v ≡ reach r v = rw (held-tables k, held-counts k) at (reach-agrees r (k .reachable) v) in
+    rw (h, f)
+
+numbers-are : (r : Register) → concat (sheet r) ≡ sheetNumbers r
+unfolding sheetNumbers
+numbers-are r = refl
+
+pub sheet-answers : (t : Tables) (c : Counts) (m n : ℕ) (counting marks xs ys : List ℕ) (a : Reply) → maxEdges ≤ m → maxEdges ≤ n
+    → counting ≡ replicate m 0 → marks ≡ replicate n 0 → answered ys a ≡ sheetedIn t c counting marks xs → Answers (sheets xs) t c ys a
+unfolding effect answer fills sheetedIn
+sheet-answers t c m n counting marks xs ys a l o p q h r k = go (ltb (length xs) (rowSize * length (sheet r))) refl
+  where
+    rows-are : sheetIn (t .degrees) (t .sides) (t .ends) (t .lengths) (c .edges) marks ≡ sheet r
+    rows-are = rw (← q, held-tables k, held-counts k) at (sheet-agrees r (k .reachable) n o)
+
+    count : length (namesIn (t .degrees) (t .sides) (t .ends) (c .edges) counting) ≡ length (sheet r)
+    count = rw (← p, held-tables k, held-counts k) at (names-counted r (k .reachable) m l)
+
+    go : (b : Bool) → ltb (length xs) (rowSize * length (sheet r)) ≡ b
+        → effect (sheets xs) r ≡ record { leaves = r; slice = ys; reply = a }
+    go true e =
+        let q = rw (count, e) at h in
+        rw (sheet-length r, e, ap (λ (x : Answer). x .slice) q, ap (λ (x : Answer). x .reply) q)
+    go false e =
+        let q = rw (count, rows-are, numbers-are r, e) at h in
+        let fits : length (sheetNumbers r) ≤ length xs = omega (arith, sheet-length r, ltb-false (length xs) (rowSize * length (sheet r)) e) in
+        let front : ys ≡ inFront (sheetNumbers r) xs = ap (λ (x : Answer). x .slice) q ∙ write-front (sheetNumbers r) xs _ _ fits refl in
+        rw (sheet-length r, e, front, ap (λ (x : Answer). x .reply) q)
