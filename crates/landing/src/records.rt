@@ -119,7 +119,18 @@ fn land_records(
             blocks: *blocks,
             relabellings: *relabellings,
         };
-        let step = land_record(degrees, sides, ends, lengths, volumes, labels, head, list, at, rings);
+        let step = land_record(
+            degrees,
+            sides,
+            ends,
+            lengths,
+            volumes,
+            labels,
+            head,
+            list,
+            at,
+            rings,
+        );
         match step {
             Step::End => {
                 return Stop::Whole;
