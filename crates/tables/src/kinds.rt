@@ -1,5 +1,5 @@
-// Reads and writes by kind: a table of labels gives and takes labels, one of lengths lengths, one of volumes volumes, the ends vertices, the sides edges. The
-// lent tables are slices of numbers; here and in steps a number that is read from one gets its kind.
+// Reads and writes by kind: a table of labels gives and takes labels, one of lengths lengths, one of volumes volumes, the ends vertices,
+// the sides edges. The lent tables are slices of numbers; here and in steps a number that is read from one gets its kind.
 use crate::access::at16;
 use crate::access::of16;
 use crate::access::of32;
@@ -46,7 +46,7 @@ pub fn put_length(lengths: &mut [u32], e: Edge, length: Millimetres)
     put32(lengths, e.0 as usize, length.0);
 }
 
-// 0 where it is unknown.
+// `Millilitres::UNKNOWN` where that of e is.
 pub fn volume_of(volumes: &[u32], e: Edge) -> Millilitres
     ensures { λ r. ⌜ r .0 ≡ getD (now (volumes .entry)) (e .0) 0 ⌝ }
 {
