@@ -50,7 +50,15 @@ fn answer_question(
         → returned (now (answer .exit)) r ≡ returnsReply register (now (answer .entry)) (asQuestion question register)) ⌝ }
 {
     match question {
-        Question::Sheet => answer_sheet(answer, degrees, sides, ends, lengths, volumes, counts.edges),
+        Question::Sheet => answer_sheet(
+            answer,
+            degrees,
+            sides,
+            ends,
+            lengths,
+            volumes,
+            counts.edges,
+        ),
         Question::Find(label) => {
             let found = find_checked(degrees, sides, ends, labels, counts, label);
             answer_found(answer, found)
