@@ -4,7 +4,7 @@
 compile() {
     local program=$root/target/$1 source=$root/examples/$1.c archive=$root/target/staticlib/libpnl.a file
     "$root/build" --if-needed >&2 || fail "the library is not built"
-    for file in "$archive" "$source" "$root/include/pnl.h"; do
+    for file in "$archive" "$source" "$root/examples/lines.h" "$root/include/pnl.h"; do
         [ "$program" -nt "$file" ] && continue
         command -v cc > /dev/null || fail "needs cc, a C compiler, on the path (README.md)"
         # in a file of its own first: another command may be running the old one

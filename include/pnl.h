@@ -48,7 +48,7 @@
  *
  * A caller finds a run by a tag that somebody read in the trench. No call gives the tag of a fitting.
  *
- * The calls on a valve's window take no list: they stand at the end, with what they are about.
+ * The calls on a valve's window, and the one that plans a change, take no list: they stand at the end, with what they are about.
  */
 #ifndef PNL_H
 #define PNL_H
@@ -62,7 +62,7 @@ extern "C" {
 
 /* The version of these calls: it rises with each change of a call, of an answer or of a constant here. Header and archive of one folder
  * belong together; pnl.pc has the same number. (A list has a version of its own, in its header.) */
-#define PNL_VERSION 3
+#define PNL_VERSION 4
 
 /* What a call may return below 0: the refusal's number made negative. */
 enum pnl_refusal {
@@ -81,6 +81,9 @@ enum pnl_refusal {
     PNL_REFUSED_WINDOW = -21,           /* a window that records could not have left */
     PNL_REFUSED_WRONG_SIZE = -25,       /* a table of another size than PNL_VALVE_MINUTES */
     PNL_REFUSED_AMOUNT = -40,           /* a record above 1,000,000 ml */
+    /* The planner. */
+    PNL_REFUSED_PLAN_BOUNDS = -34,      /* a flow of 0 or above 1,000,000 ml a minute, a minute above 10,079, or more than 32 windows */
+    PNL_REFUSED_PLAN_WINDOWS = -35,     /* a window that is empty, ends above 10,080, or starts before the previous one's end */
     /* The call. */
     PNL_REFUSED_NO_COUPLING = -8,       /* a tag that no coupling wears, or a fitting that is no coupling */
     PNL_REFUSED_SHORT_ANSWER = -9       /* the answer does not fit in answer_len bytes */
@@ -122,6 +125,8 @@ static inline const char *pnl_refusal_text(int32_t returned)
     case PNL_REFUSED_WINDOW: return "no records leave such a window";
     case PNL_REFUSED_WRONG_SIZE: return "a table does not have 1,440 places";
     case PNL_REFUSED_AMOUNT: return "the record is above 1,000,000 ml";
+    case PNL_REFUSED_PLAN_BOUNDS: return "the flow is not 1 to 1,000,000 ml a minute, the minute is above 10,079, or there are more than 32 windows";
+    case PNL_REFUSED_PLAN_WINDOWS: return "a window does not start before its end, ends above 10,080, or starts before the previous one's end";
     case PNL_REFUSED_NO_COUPLING: return "no coupling wears that tag, or the fitting is no coupling";
     case PNL_REFUSED_SHORT_ANSWER: return "the answer does not fit in the bytes given for it";
     default: return returned < 0 ? "unknown refusal" : "no refusal";
@@ -208,6 +213,47 @@ static inline int32_t pnl_record_arrives(struct pnl_valve *valve, uint16_t recip
 static inline int32_t pnl_recipe_at(const struct pnl_valve *valve, uint32_t volume)
 {
     return pnl_valve_recipe(valve->recipes, PNL_VALVE_MINUTES, valve->amounts, PNL_VALVE_MINUTES, valve->next, valve->sum, volume);
+}
+
+/* When a change of recipe can go through.
+ *
+ * A compartment may be fed within its windows alone, the same each week. A change needs its transit: as many minutes as the volume between
+ * the mixer and the compartment takes at the given flow, the quotient rounded up. The call tells the first minute from which the whole
+ * transit lies inside one window.
+ *
+ *   Minute     of the week, 0 to 10,079; those of the next week are counted on, 10,080 to 20,159.
+ *   Window     two numbers: the minute at which it starts, and the one at which it ends, which is no longer inside, at most 10,080. The
+ *              windows of a week stand in their order. One may start where the previous one ends: they stay two windows, and no
+ *              transit goes from one into the other. Nor does one go over the end of a week.
+ *   Returns    0 or more: a minute, PNL_PLAN_NONE or PNL_PLAN_UNKNOWN; or a refusal, below 0.
+ *   Order      PLAN_BOUNDS, then PLAN_WINDOWS, of all windows. Both come before PNL_PLAN_UNKNOWN.
+ *   Lengths    windows_len is in numbers, two for each window; a last number without an end is refused with PLAN_WINDOWS. `windows` may be
+ *              null where it is 0. C cuts a wider number to 16 bits without a word: test it first.
+ *   Threads    nothing is kept, and nothing written.
+ */
+enum pnl_plan_size {
+    PNL_PLAN_WINDOWS = 32,              /* the most windows */
+    PNL_PLAN_FLOW_MOST = 1000000,       /* the largest flow, in ml a minute */
+    PNL_PLAN_WEEK = 10080,              /* the minutes of a week: the first minute of the next one */
+    PNL_PLAN_NONE = 20160,              /* in place of a minute: no window is as long as the transit */
+    PNL_PLAN_UNKNOWN = 20161            /* in place of a minute: the volume is 0, which is unknown */
+};
+
+struct pnl_window {
+    uint16_t start;
+    uint16_t end;
+};
+
+/* The first minute at or after `minute`, this week or the next, from which `volume` ml at `flow` ml a minute lie inside one window: 0 to
+ * 20,159; PNL_PLAN_NONE if no window is that long; PNL_PLAN_UNKNOWN for the volume 0. A volume is any number of 32 bits.
+ *
+ * Refusals: PNL_REFUSED_PLAN_BOUNDS; PNL_REFUSED_PLAN_WINDOWS. */
+int32_t pnl_plan(const uint16_t *windows, size_t windows_len, uint32_t volume, uint32_t flow, uint32_t minute);
+
+/* The same with so many windows as structs. */
+static inline int32_t pnl_plan_windows(const struct pnl_window *windows, size_t count, uint32_t volume, uint32_t flow, uint32_t minute)
+{
+    return pnl_plan((const uint16_t *)windows, 2 * count, volume, flow, minute);
 }
 
 #ifdef __cplusplus

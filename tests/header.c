@@ -102,6 +102,24 @@ static void compare_valve(void)
     REFUSED(PNL_REFUSED_WINDOW, pnl_record_arrives(&valve, 1, PNL_VALVE_AMOUNT_MOST + 1));
 }
 
+static void compare_plan(void)
+{
+    static const struct pnl_window two[] = { { 60, 120 }, { 200, PNL_PLAN_WEEK } };
+    static const uint16_t odd[] = { 60, 120, 200 };
+    static const uint16_t many[2 * PNL_PLAN_WINDOWS + 2];
+
+    compare("the last minute of PNL_PLAN_WEEK", PNL_PLAN_WEEK - 1, pnl_plan_windows(two, 2, 1, PNL_PLAN_FLOW_MOST, PNL_PLAN_WEEK - 1));
+    compare("a minute of the next week", PNL_PLAN_WEEK + 60, pnl_plan_windows(two, 2, 2, 1, PNL_PLAN_WEEK - 1));
+    COMPARE(PNL_PLAN_NONE, pnl_plan_windows(two, 2, UINT32_MAX, 1, 0));
+    COMPARE(PNL_PLAN_NONE, pnl_plan_windows(NULL, 0, 1, 1, 0));
+    COMPARE(PNL_PLAN_UNKNOWN, pnl_plan(NULL, 0, 0, 1, 0));
+    REFUSED(PNL_REFUSED_PLAN_BOUNDS, pnl_plan_windows(two, 2, 0, PNL_PLAN_FLOW_MOST + 1, 0));
+    COMPARE(PNL_REFUSED_PLAN_BOUNDS, pnl_plan_windows(two, 2, 1, 1, PNL_PLAN_WEEK));
+    COMPARE(PNL_REFUSED_PLAN_BOUNDS, pnl_plan(many, 2 * PNL_PLAN_WINDOWS + 2, 1, 1, 0));
+    COMPARE(PNL_REFUSED_PLAN_WINDOWS, pnl_plan(many, 2 * PNL_PLAN_WINDOWS, 1, 1, 0));
+    REFUSED(PNL_REFUSED_PLAN_WINDOWS, pnl_plan(odd, 3, 0, 1, 0));
+}
+
 static void compare_functions(void)
 {
     static const uint8_t bytes[] = { 0xFF, 0, 0, 0, 1, 2, 3, 0xF4 };
@@ -119,6 +137,7 @@ int main(void)
     compare_refusals();
     compare_answers();
     compare_valve();
+    compare_plan();
     compare_functions();
     return differ;
 }

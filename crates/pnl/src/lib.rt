@@ -1,5 +1,6 @@
 // The calls from C. Those of this file grow the list in arrays of their own, ask the register, and answer in the lent slice, and nothing is
-// kept between calls; `recipes` has the two on a valve's window, which take no list. include/pnl.h says the same in C.
+// kept between calls; `recipes` has the two on a valve's window, and `windows` the one that plans a change, which take no list.
+// include/pnl.h says the same in C.
 mod answers;
 mod checked;
 mod distances;
@@ -7,6 +8,7 @@ mod finding;
 pub mod grown;
 mod recipes;
 mod sheet;
+mod windows;
 
 use crate::grown::Question;
 use crate::grown::answer_call;
