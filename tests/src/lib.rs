@@ -8,6 +8,7 @@
 //! - [`lent`]: the same over lent tables, and what the tables hold;
 //! - [`print`]: what the printing program prints;
 //! - [`valve`]: which recipe is at the valve;
+//! - [`plan`]: when a change of recipe can go through;
 //! - [`gen`]: lists of every kind, drawn from a seed;
 //! - [`times`]: how often each tag is re-hung;
 //! - [`arguments`], [`child`], [`tally`] and [`workers`]: reading a command line, asking a binary,
@@ -21,6 +22,7 @@ pub mod gen;
 pub mod house;
 pub mod lent;
 pub mod list;
+pub mod plan;
 pub mod print;
 pub mod queries;
 pub mod refusal;
