@@ -16,6 +16,8 @@ pub mod PlanLaws
 pub mod InCLaws
 -- a number of a line, read from the lines in front of a slice
 pub mod LineLaws
+-- the tie to the register: a line of its sheet has the volume of a run or ring
+pub mod SheetLines
 -- the theorem on the answer
 pub mod Theorems
 -- the values
