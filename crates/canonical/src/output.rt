@@ -43,6 +43,7 @@ pub fn canonical_list(list: &[u8], out: &mut [u8]) -> Output
         &mut sides,
         &mut ends,
         &mut lengths,
+        &mut volumes,
         &mut labels,
         list,
     );

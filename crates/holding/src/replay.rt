@@ -25,11 +25,12 @@ pub fn replay(
     sides: &mut [u16],
     ends: &mut [u16],
     lengths: &mut [u32],
+    volumes: &mut [u32],
     labels: &mut [u32],
 ) -> Inserted
-    ensures { λ r. ⌜ landingIn (tables (now (degrees .exit)) (now (sides .exit)) (now (ends .exit)) (now (lengths .exit)) (now (labels .exit))) (asAnswer r)
+    ensures { λ r. ⌜ landingIn (tables (now (degrees .exit)) (now (sides .exit)) (now (ends .exit)) (now (lengths .exit)) (now (volumes .exit)) (now (labels .exit))) (asAnswer r)
         ≡ replayIn (now (ownends .entry)) (now (ownlengths .entry)) number first
-        (tables (now (degrees .entry)) (now (sides .entry)) (now (ends .entry)) (now (lengths .entry)) (now (labels .entry))) (asCounts from) rings ⌝ }
+        (tables (now (degrees .entry)) (now (sides .entry)) (now (ends .entry)) (now (lengths .entry)) (now (volumes .entry)) (now (labels .entry))) (asCounts from) rings ⌝ }
 {
     let mut counts = from;
     let mut ringed = rings;
@@ -42,6 +43,7 @@ pub fn replay(
             sides,
             ends,
             lengths,
+            volumes,
             labels,
             counts,
             at16(ownends, i),
@@ -74,11 +76,12 @@ pub fn regrow(
     sides: &mut [u16],
     ends: &mut [u16],
     lengths: &mut [u32],
+    volumes: &mut [u32],
     labels: &mut [u32],
 ) -> Inserted
-    ensures { λ r. ⌜ landingIn (tables (now (degrees .exit)) (now (sides .exit)) (now (ends .exit)) (now (lengths .exit)) (now (labels .exit))) (asAnswer r)
+    ensures { λ r. ⌜ landingIn (tables (now (degrees .exit)) (now (sides .exit)) (now (ends .exit)) (now (lengths .exit)) (now (volumes .exit)) (now (labels .exit))) (asAnswer r)
         ≡ regrowIn (now (ownends .entry)) (now (ownlengths .entry)) (asCounts own)
-        (tables (now (degrees .entry)) (now (sides .entry)) (now (ends .entry)) (now (lengths .entry)) (now (labels .entry))) ⌝ }
+        (tables (now (degrees .entry)) (now (sides .entry)) (now (ends .entry)) (now (lengths .entry)) (now (volumes .entry)) (now (labels .entry))) ⌝ }
 {
     if Vertex::COUNT < own.vertices {
         return Inserted::Refused(Refusal::TooManyVertices);
@@ -100,6 +103,7 @@ pub fn regrow(
         sides,
         ends,
         lengths,
+        volumes,
         labels,
     )
 }

@@ -37,7 +37,7 @@ pub enum Checked {
 
 // Document 01's order. These refusals look at no table. What a record says is a plain number until it is tested here.
 fn check_edge(counts: Counts, first: u16, second: u16, length: u32) -> Checked
-    ensures { λ r. ⌜ asChecked r ≡ checkIn (asCounts counts) (record { first = first; second = second; len = length }) ⌝ }
+    ensures { λ r. ⌜ asChecked r ≡ checkIn (asCounts counts) (record { first = first; second = second; len = length; volume = volume }) ⌝ }
 {
     let CheckedVertex::Is(a) = Vertex::landed(first, counts.vertices) else {
         return Checked::Refused(Refusal::NotLanded);
@@ -80,6 +80,7 @@ fn insert_edge(
     sides: &mut [u16],
     ends: &mut [u16],
     lengths: &mut [u32],
+    volumes: &mut [u32],
     labels: &mut [u32],
     counts: Counts,
     first: Vertex,
@@ -88,9 +89,9 @@ fn insert_edge(
     rings: bool,
 ) -> Inserted
     ensures { λ r. ⌜ landingIn
-        (tables (now (degrees .exit)) (now (sides .exit)) (now (ends .exit)) (now (lengths .exit)) (now (labels .exit))) (asAnswer r)
+        (tables (now (degrees .exit)) (now (sides .exit)) (now (ends .exit)) (now (lengths .exit)) (now (volumes .exit)) (now (labels .exit))) (asAnswer r)
         ≡ insertIn
-        (tables (now (degrees .entry)) (now (sides .entry)) (now (ends .entry)) (now (lengths .entry)) (now (labels .entry)))
+        (tables (now (degrees .entry)) (now (sides .entry)) (now (ends .entry)) (now (lengths .entry)) (now (volumes .entry)) (now (labels .entry)))
         (asCounts counts) rings (record { first = first .0; second = second .0; len = length .0 }) ⌝ }
 {
     // below MAX_EDGES: 23 was tested
@@ -128,6 +129,7 @@ pub fn land_edge(
     sides: &mut [u16],
     ends: &mut [u16],
     lengths: &mut [u32],
+    volumes: &mut [u32],
     labels: &mut [u32],
     counts: Counts,
     first: u16,
@@ -136,10 +138,10 @@ pub fn land_edge(
     rings: bool,
 ) -> Inserted
     ensures { λ r. ⌜ landingIn
-        (tables (now (degrees .exit)) (now (sides .exit)) (now (ends .exit)) (now (lengths .exit)) (now (labels .exit))) (asAnswer r)
+        (tables (now (degrees .exit)) (now (sides .exit)) (now (ends .exit)) (now (lengths .exit)) (now (volumes .exit)) (now (labels .exit))) (asAnswer r)
         ≡ landIn
-        (tables (now (degrees .entry)) (now (sides .entry)) (now (ends .entry)) (now (lengths .entry)) (now (labels .entry)))
-        (asCounts counts) rings (record { first = first; second = second; len = length }) ⌝ }
+        (tables (now (degrees .entry)) (now (sides .entry)) (now (ends .entry)) (now (lengths .entry)) (now (volumes .entry)) (now (labels .entry)))
+        (asCounts counts) rings (record { first = first; second = second; len = length; volume = volume }) ⌝ }
 {
     let checked = check_edge(counts, first, second, length);
     match checked {
@@ -148,6 +150,7 @@ pub fn land_edge(
             sides,
             ends,
             lengths,
+            volumes,
             labels,
             counts,
             a,

@@ -49,14 +49,15 @@ fn land_record(
     sides: &mut [u16],
     ends: &mut [u16],
     lengths: &mut [u32],
+    volumes: &mut [u32],
     labels: &mut [u32],
     counts: Counts,
     list: &[u8],
     at: Cursor,
     rings: bool,
 ) -> Step
-    ensures { λ r. ⌜ steppedIn (tables (now (degrees .exit)) (now (sides .exit)) (now (ends .exit)) (now (lengths .exit)) (now (labels .exit))) (asStep r)
-        ≡ landRecordIn (tables (now (degrees .entry)) (now (sides .entry)) (now (ends .entry)) (now (lengths .entry)) (now (labels .entry)))
+    ensures { λ r. ⌜ steppedIn (tables (now (degrees .exit)) (now (sides .exit)) (now (ends .exit)) (now (lengths .exit)) (now (volumes .exit)) (now (labels .exit))) (asStep r)
+        ≡ landRecordIn (tables (now (degrees .entry)) (now (sides .entry)) (now (ends .entry)) (now (lengths .entry)) (now (volumes .entry)) (now (labels .entry)))
         (asCounts counts) rings (recordAt (now (list .entry)) (at .at)) ⌝ }
 {
     let found = record_at(list, at);
@@ -69,6 +70,7 @@ fn land_record(
                 sides,
                 ends,
                 lengths,
+                volumes,
                 labels,
                 counts,
                 first,
@@ -94,14 +96,15 @@ fn land_records(
     sides: &mut [u16],
     ends: &mut [u16],
     lengths: &mut [u32],
+    volumes: &mut [u32],
     labels: &mut [u32],
     list: &[u8],
     from: Cursor,
 ) -> Stop
-    ensures { λ r. ⌜ readingIn (tables (now (degrees .exit)) (now (sides .exit)) (now (ends .exit)) (now (lengths .exit)) (now (labels .exit)))
+    ensures { λ r. ⌜ readingIn (tables (now (degrees .exit)) (now (sides .exit)) (now (ends .exit)) (now (lengths .exit)) (now (volumes .exit)) (now (labels .exit)))
         (counts (now (vertices .exit)) (now (edges .exit)) (now (blocks .exit)) (now (relabellings .exit))) (asStop r)
         ≡ landRecordsIn (now (list .entry)) (length (now (list .entry))) 0
-        (tables (now (degrees .entry)) (now (sides .entry)) (now (ends .entry)) (now (lengths .entry)) (now (labels .entry)))
+        (tables (now (degrees .entry)) (now (sides .entry)) (now (ends .entry)) (now (lengths .entry)) (now (volumes .entry)) (now (labels .entry)))
         (counts (now (vertices .entry)) (now (edges .entry)) (now (blocks .entry)) (now (relabellings .entry)))
         (ltb 0 (now (edges .entry))) (from .at) ⌝ }
 {
@@ -116,7 +119,7 @@ fn land_records(
             blocks: *blocks,
             relabellings: *relabellings,
         };
-        let step = land_record(degrees, sides, ends, lengths, labels, head, list, at, rings);
+        let step = land_record(degrees, sides, ends, lengths, volumes, labels, head, list, at, rings);
         match step {
             Step::End => {
                 return Stop::Whole;
@@ -149,12 +152,13 @@ pub fn land_list(
     sides: &mut [u16],
     ends: &mut [u16],
     lengths: &mut [u32],
+    volumes: &mut [u32],
     labels: &mut [u32],
     list: &[u8],
 ) -> Stop
-    ensures { λ r. ⌜ readingIn (tables (now (degrees .exit)) (now (sides .exit)) (now (ends .exit)) (now (lengths .exit)) (now (labels .exit)))
+    ensures { λ r. ⌜ readingIn (tables (now (degrees .exit)) (now (sides .exit)) (now (ends .exit)) (now (lengths .exit)) (now (volumes .exit)) (now (labels .exit)))
         (counts (now (vertices .exit)) (now (edges .exit)) (now (blocks .exit)) (now (relabellings .exit))) (asStop r)
-        ≡ landListIn (tables (now (degrees .entry)) (now (sides .entry)) (now (ends .entry)) (now (lengths .entry)) (now (labels .entry)))
+        ≡ landListIn (tables (now (degrees .entry)) (now (sides .entry)) (now (ends .entry)) (now (lengths .entry)) (now (volumes .entry)) (now (labels .entry)))
         (counts (now (vertices .entry)) (now (edges .entry)) (now (blocks .entry)) (now (relabellings .entry))) (now (list .entry)) ⌝ }
 {
     let header = read_header(list);
@@ -168,6 +172,7 @@ pub fn land_list(
             sides,
             ends,
             lengths,
+            volumes,
             labels,
             list,
             from,
@@ -182,11 +187,12 @@ pub fn grow_list(
     sides: &mut [u16],
     ends: &mut [u16],
     lengths: &mut [u32],
+    volumes: &mut [u32],
     labels: &mut [u32],
     list: &[u8],
 ) -> Reading
-    ensures { λ r. ⌜ asReading (tables (now (degrees .exit)) (now (sides .exit)) (now (ends .exit)) (now (lengths .exit)) (now (labels .exit))) r
-        ≡ landListIn (tables (now (degrees .entry)) (now (sides .entry)) (now (ends .entry)) (now (lengths .entry)) (now (labels .entry)))
+    ensures { λ r. ⌜ asReading (tables (now (degrees .exit)) (now (sides .exit)) (now (ends .exit)) (now (lengths .exit)) (now (volumes .exit)) (now (labels .exit))) r
+        ≡ landListIn (tables (now (degrees .entry)) (now (sides .entry)) (now (ends .entry)) (now (lengths .entry)) (now (volumes .entry)) (now (labels .entry)))
         noCounts (now (list .entry)) ⌝ }
 {
     let mut vertices: u16 = 0;
@@ -202,6 +208,7 @@ pub fn grow_list(
         sides,
         ends,
         lengths,
+        volumes,
         labels,
         list,
     );

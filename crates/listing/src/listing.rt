@@ -140,6 +140,7 @@ pub fn print_list(list: &[u8], out: &mut [u8]) -> usize
         &mut sides,
         &mut ends,
         &mut lengths,
+        &mut volumes,
         &mut labels,
         list,
     );

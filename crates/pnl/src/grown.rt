@@ -39,13 +39,14 @@ fn answer_question(
     sides: &[u16],
     ends: &[u16],
     lengths: &[u32],
+    volumes: &[u32],
     labels: &[u32],
     counts: Counts,
     question: Question,
 ) -> i32
     requires { ⌜ Measurable (now ends) (now lengths) (asCounts counts) ⌝ }
     ensures { λ r. ⌜ ((register : Register)
-        → HeldOf (stored (tables (now (degrees .entry)) (now (sides .entry)) (now (ends .entry)) (now (lengths .entry)) (now (labels .entry))) (asCounts counts)) register
+        → HeldOf (stored (tables (now (degrees .entry)) (now (sides .entry)) (now (ends .entry)) (now (lengths .entry)) (now (volumes .entry)) (now (labels .entry))) (asCounts counts)) register
         → returned (now (answer .exit)) r ≡ returnsReply register (now (answer .entry)) (asQuestion question register)) ⌝ }
 {
     match question {
@@ -79,6 +80,7 @@ pub fn answer_call(list: &[u8], question: Question, answer: &mut [u8]) -> i32
         &mut sides,
         &mut ends,
         &mut lengths,
+        &mut volumes,
         &mut labels,
         list,
     );
@@ -91,6 +93,7 @@ pub fn answer_call(list: &[u8], question: Question, answer: &mut [u8]) -> i32
             &sides,
             &ends,
             &lengths,
+            &volumes,
             &labels,
             counts,
             question,

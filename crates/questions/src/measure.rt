@@ -73,13 +73,14 @@ pub fn measure(
     ssides: &mut [u16],
     sends: &mut [u16],
     slengths: &mut [u32],
+    svolumes: &mut [u32],
     slabels: &mut [u32],
     from: Vertex,
     to: Vertex,
 ) -> Measured
     requires { ⌜ Measurable (now ends) (now lengths) (asCounts counts) × (maxVertices ≤ length (now slengths)) ⌝ }
-    ensures { λ r. ⌜ (tables (now (sdegrees .exit)) (now (ssides .exit)) (now (sends .exit)) (now (slengths .exit)) (now (slabels .exit))
-        ≡ zeroed (tables (now (sdegrees .entry)) (now (ssides .entry)) (now (sends .entry)) (now (slengths .entry)) (now (slabels .entry))))
+    ensures { λ r. ⌜ (tables (now (sdegrees .exit)) (now (ssides .exit)) (now (sends .exit)) (now (slengths .exit)) (now (svolumes .exit)) (now (slabels .exit))
+        ≡ zeroed (tables (now (sdegrees .entry)) (now (ssides .entry)) (now (sends .entry)) (now (slengths .entry)) (now (svolumes .entry)) (now (slabels .entry))))
         × ((degrees sides labels : List ℕ) → measuredReply r
         ≡ measureIn (tables degrees sides (now (ends .entry)) (now (lengths .entry)) labels) (asCounts counts) (from .0) (to .0)) ⌝ }
 {
@@ -91,10 +92,11 @@ pub fn measure(
         ssides,
         sends,
         slengths,
+        svolumes,
         slabels,
         from,
         to,
     );
-    clear_tables(sdegrees, ssides, sends, slengths, slabels);
+    clear_tables(sdegrees, ssides, sends, slengths, svolumes, slabels);
     answer
 }

@@ -57,11 +57,13 @@ fn put_result(out: &mut [u8], at: usize, bytes: &[u8], n: usize) -> usize {
         &mut sides,
         &mut ends,
         &mut lengths,
+        &mut volumes,
         &mut labels,
         &mut sdegrees,
         &mut ssides,
         &mut sends,
         &mut slengths,
+        &mut svolumes,
         &mut slabels,
         &bytes[..n],
     );

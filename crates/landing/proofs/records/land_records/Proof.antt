@@ -13,13 +13,13 @@ use Rattle.landing.proofs.records.land_records.Tie as tie
 
 -- what is left to land is the whole; the tables keep their lengths; the number fits 64 bits
 abbrev Inv-loop : tie.InvT-loop
-Inv-loop vertices₀ edges₀ blocks₀ relabellings₀ degrees₀ sides₀ ends₀ lengths₀ labels₀ list at₀ rings₀ number₀ left₀ vertices edges blocks relabellings degrees sides ends lengths labels at rings number left =
-    (number + left < 18446744073709551616) × (SameLengths degrees₀ sides₀ ends₀ lengths₀ labels₀ degrees sides ends lengths labels
-    × (landRecordsIn list left number (tables degrees sides ends lengths labels) (counts vertices edges blocks relabellings) rings (at .at)
-    ≡ landRecordsIn list left₀ number₀ (tables degrees₀ sides₀ ends₀ lengths₀ labels₀) (counts vertices₀ edges₀ blocks₀ relabellings₀) rings₀ (at₀ .at)))
+Inv-loop vertices₀ edges₀ blocks₀ relabellings₀ degrees₀ sides₀ ends₀ lengths₀ volumes₀ labels₀ list at₀ rings₀ number₀ left₀ vertices edges blocks relabellings degrees sides ends lengths volumes labels at rings number left =
+    (number + left < 18446744073709551616) × (SameLengths degrees₀ sides₀ ends₀ lengths₀ volumes₀ labels₀ degrees sides ends lengths volumes labels
+    × (landRecordsIn list left number (tables degrees sides ends lengths volumes labels) (counts vertices edges blocks relabellings) rings (at .at)
+    ≡ landRecordsIn list left₀ number₀ (tables degrees₀ sides₀ ends₀ lengths₀ volumes₀ labels₀) (counts vertices₀ edges₀ blocks₀ relabellings₀) rings₀ (at₀ .at)))
 
 abbrev μ-loop : tie.MeasureT-loop
-μ-loop vertices₀ edges₀ blocks₀ relabellings₀ degrees₀ sides₀ ends₀ lengths₀ labels₀ list at₀ rings₀ number₀ left₀ vertices edges blocks relabellings degrees sides ends lengths labels at rings number left = left
+μ-loop vertices₀ edges₀ blocks₀ relabellings₀ degrees₀ sides₀ ends₀ lengths₀ volumes₀ labels₀ list at₀ rings₀ number₀ left₀ vertices edges blocks relabellings degrees sides ends lengths volumes labels at rings number left = left
 
 loop-holds : tie.Need-loop-holds Inv-loop μ-loop
 loop-holds c = (omega arith, (same-refl _ _ _ _ _, refl))
