@@ -12,7 +12,7 @@ use borrow.Author.Tests.{eq-eqb, eqb-true, eqb-false, ltb-true, ltb-false, ne-eq
 use Rattle.model.specs.Basics.{countFrom, upTo}
 use Rattle.model.specs.Graph.{Edge, chainOf, edgeOnRing, isRegular, lowerNumbered, nameOf}
 use Rattle.model.specs.Register.{Register, labelOf}
-use Rattle.model.specs.Queries.{Reply, chainAt, find, foundAt}
+use Rattle.model.specs.Queries.{Reply, chainAt, find, foundAt, refuses}
 use Rattle.model.specs.Newest.{Searched, among, has, innerLabels, lowestLabel, lowestOf, namesLabelled, newestFirst, chainIn, search, searchAmong}
 use Rattle.model.specs.Labels.{vertexOnRing}
 use Rattle.model.specs.Series.{OwnChain}
@@ -310,6 +310,14 @@ module _ (r : Register) (f : Founded r) (l : LabelFacts r) where
   unfolding foundAt chainIn
   found-chain v = if-either (λ (a : Reply). chainIn a ≡ some (chainAt r v)) (vertexOnRing (r .edges) v) _ _ refl refl
 
+  pub search-none : (label : ℕ) → (search r label) .holder ≡ none → find r label ≡ refuses 8
+  unfolding search innerLabels pr chainAt
+  search-none label e =
+      find-none r label (λ v q w.
+      let o : OwnChain (r .edges) v (chainAt r v) = own-chain (r .edges) pr v q in
+      let m : Mem label (innerLabels r (chainAt r v)) = rw (← w) (Memᴰ·map (labelOf r) (o .has)) in
+      not-both (has label (innerLabels r (chainAt r v))) (mem-has label (innerLabels r (chainAt r v)) m) (among-none label newest e (chainAt r v) (own-newest v q)))
+
   pub search-finds : (label : ℕ) → chainIn (find r label) ≡ (search r label) .holder
   unfolding search chainIn innerLabels pr chainAt
   search-finds label = go ((searchAmong r label newest) .holder) refl
@@ -323,8 +331,4 @@ module _ (r : Register) (f : Founded r) (l : LabelFacts r) where
           rw e
           (ap (λ (x : ℕ). chainIn (find r x)) (sym (o .2)) ∙ ap chainIn (find-own r f l (o .0) (inner-regular r pr d (o .0) (t .inside) (o .1))) ∙ found-chain (o .0)
           ∙ ap some (sym own))
-      go none e =
-          rw e (ap chainIn (find-none r label (λ v q w.
-          let o : OwnChain (r .edges) v (chainAt r v) = own-chain (r .edges) pr v q in
-          let m : Mem label (innerLabels r (chainAt r v)) = rw (← w) (Memᴰ·map (labelOf r) (o .has)) in
-          not-both (has label (innerLabels r (chainAt r v))) (mem-has label (innerLabels r (chainAt r v)) m) (among-none label newest e (chainAt r v) (own-newest v q)))))
+      go none e = rw e (ap chainIn (search-none label e))
