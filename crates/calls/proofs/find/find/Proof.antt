@@ -12,14 +12,14 @@ returns : tie.Need-returns
 returns c =
     let at-find-cleared = c .before .before in
     let at-enum-told = at-find-cleared .before .before in
-    let at-pass-gate = at-enum-told .before .before .before .before .before .before .before .before .before .before .before .before in
-    find-answered _ _ _ _ (ap gateRefusal (sym (at-enum-told .enum-told .given .1)) ∙ at-pass-gate .pass-gate .ensures .0) (at-pass-gate .pass-gate .ensures .1) _ _ _
+    let at-pass-gate = at-enum-told .before .before .before .before .before .before .before .before .before .before .before .before .before .before in
+    find-answered _ _ _ _ (ap gateRefusal (sym (at-enum-told .enum-told .given .1)) ∙ at-pass-gate .pass-gate .ensures .0) (at-pass-gate .pass-gate .ensures .1) (finds _) _ _
     (λ l. find-answers _ _ _ _ _ l (at-find-cleared .find-cleared .ensures .0 _)) (at-find-cleared .find-cleared .ensures .1)
 
 returns-2 : tie.Need-returns-2
 unfolding registerFor lentSlice lentTo
 returns-2 c =
-    let at-pass-gate = c .before .before .before .before .before .before .before .before .before .before .before .before .before in
+    let at-pass-gate = c .before .before .before .before .before .before .before .before .before .before .before .before .before .before .before in
     query-refused (finds _) _ refl _ _ (ap gateRefusal (sym (c .before .passed .given .1)) ∙ at-pass-gate .pass-gate .ensures .0) (at-pass-gate .pass-gate .ensures .1)
 
 -- the needs in the order of the code
@@ -36,7 +36,9 @@ find-spec =
     (λ c. search needs)
     (λ c. search needs)
     (λ c. search needs)
+    (λ c. search needs)
     returns
+    (λ c. search needs)
     (λ c. search needs)
     (λ c. search needs)
     (λ c. search needs)
