@@ -29,5 +29,8 @@ pub fn sizes_fit(
     if lengths.len() != EDGES {
         return false;
     }
+    if volumes.len() != EDGES {
+        return false;
+    }
     labels.len() == VERTICES
 }

@@ -47,6 +47,7 @@ fn leaves_same(
     let inserted = regrow(
         ends,
         lengths,
+        volumes,
         own,
         sdegrees,
         ssides,

@@ -1,4 +1,4 @@
-// The edges of a table of ends and lengths landed again on other tables.
+// The edges of tables of ends, lengths and volumes landed again on other tables.
 use counters::counts::Counts;
 use counters::numbers::Vertex;
 use counters::refusals::Refusal;
@@ -13,10 +13,11 @@ ghost use Rattle.insertion.specs.Insertion.{landingIn};
 ghost use Rattle.insertion.specs.Meaning.{asAnswer};
 ghost use Rattle.holding.specs.Replay.{replayIn, regrowIn};
 
-// So many edges of the tables of ends and lengths, from number `first` on, landed on other tables; rings: a ring may stand on these.
+// So many edges of the tables of ends, lengths and volumes, from number `first` on, landed on other tables; rings: a ring may stand on these.
 pub fn replay(
     ownends: &[u16],
     ownlengths: &[u32],
+    ownvolumes: &[u32],
     first: u16,
     number: u16,
     from: Counts,
@@ -29,7 +30,7 @@ pub fn replay(
     labels: &mut [u32],
 ) -> Inserted
     ensures { λ r. ⌜ landingIn (tables (now (degrees .exit)) (now (sides .exit)) (now (ends .exit)) (now (lengths .exit)) (now (volumes .exit)) (now (labels .exit))) (asAnswer r)
-        ≡ replayIn (now (ownends .entry)) (now (ownlengths .entry)) number first
+        ≡ replayIn (now (ownends .entry)) (now (ownlengths .entry)) (now (ownvolumes .entry)) number first
         (tables (now (degrees .entry)) (now (sides .entry)) (now (ends .entry)) (now (lengths .entry)) (now (volumes .entry)) (now (labels .entry))) (asCounts from) rings ⌝ }
 {
     let mut counts = from;
@@ -49,6 +50,7 @@ pub fn replay(
             at16(ownends, i),
             at16(ownends, i + 1),
             at32(ownlengths, edge),
+            at32(ownvolumes, edge),
             ringed,
         );
         match inserted {
@@ -71,6 +73,7 @@ pub fn replay(
 pub fn regrow(
     ownends: &[u16],
     ownlengths: &[u32],
+    ownvolumes: &[u32],
     own: Counts,
     degrees: &mut [u16],
     sides: &mut [u16],
@@ -80,7 +83,7 @@ pub fn regrow(
     labels: &mut [u32],
 ) -> Inserted
     ensures { λ r. ⌜ landingIn (tables (now (degrees .exit)) (now (sides .exit)) (now (ends .exit)) (now (lengths .exit)) (now (volumes .exit)) (now (labels .exit))) (asAnswer r)
-        ≡ regrowIn (now (ownends .entry)) (now (ownlengths .entry)) (asCounts own)
+        ≡ regrowIn (now (ownends .entry)) (now (ownlengths .entry)) (now (ownvolumes .entry)) (asCounts own)
         (tables (now (degrees .entry)) (now (sides .entry)) (now (ends .entry)) (now (lengths .entry)) (now (volumes .entry)) (now (labels .entry))) ⌝ }
 {
     if Vertex::COUNT < own.vertices {
@@ -95,6 +98,7 @@ pub fn regrow(
     replay(
         ownends,
         ownlengths,
+        ownvolumes,
         0,
         own.edges,
         from,

@@ -17,7 +17,7 @@ ghost use Rattle.model.specs.Tables.{noCounts};
 ghost use Rattle.counters.specs.Answers.{counts, asCounts, asStop};
 ghost use Rattle.tables.specs.Meaning.{tables};
 ghost use Rattle.insertion.specs.Meaning.{asAnswer};
-ghost use Rattle.list.specs.Reading.{recordAt};
+ghost use Rattle.list.specs.Reading.{asPlace, recordAt};
 ghost use Rattle.landing.specs.Records.{stepOf, steppedIn, landRecordIn, readingIn, landRecordsIn, landListIn};
 ghost use Rattle.landing.specs.Meaning.{asStep, asReading};
 
@@ -36,7 +36,7 @@ pub struct Reading {
 
 // A landed record goes on at the next one, a refused one stops.
 fn step_of(inserted: Inserted, next: Cursor) -> Step
-    ensures { λ r. ⌜ asStep r ≡ stepOf (next .at) (asAnswer inserted) ⌝ }
+    ensures { λ r. ⌜ asStep r ≡ stepOf (asPlace next) (asAnswer inserted) ⌝ }
 {
     match inserted {
         Inserted::Done(counts, rings) => Step::Landed(counts, rings, next),
@@ -58,13 +58,13 @@ fn land_record(
 ) -> Step
     ensures { λ r. ⌜ steppedIn (tables (now (degrees .exit)) (now (sides .exit)) (now (ends .exit)) (now (lengths .exit)) (now (volumes .exit)) (now (labels .exit))) (asStep r)
         ≡ landRecordIn (tables (now (degrees .entry)) (now (sides .entry)) (now (ends .entry)) (now (lengths .entry)) (now (volumes .entry)) (now (labels .entry)))
-        (asCounts counts) rings (recordAt (now (list .entry)) (at .at)) ⌝ }
+        (asCounts counts) rings (recordAt (now (list .entry)) (asPlace at)) ⌝ }
 {
     let found = record_at(list, at);
     match found {
         Record::End => Step::End,
         Record::Vertex(next) => step_of(land_vertex(counts, rings), next),
-        Record::Edge(first, second, length, next) => {
+        Record::Edge(first, second, length, volume, next) => {
             let inserted = land_edge(
                 degrees,
                 sides,
@@ -76,6 +76,7 @@ fn land_record(
                 first,
                 second,
                 length,
+                volume,
                 rings,
             );
             step_of(inserted, next)
@@ -106,7 +107,7 @@ fn land_records(
         ≡ landRecordsIn (now (list .entry)) (length (now (list .entry))) 0
         (tables (now (degrees .entry)) (now (sides .entry)) (now (ends .entry)) (now (lengths .entry)) (now (volumes .entry)) (now (labels .entry)))
         (counts (now (vertices .entry)) (now (edges .entry)) (now (blocks .entry)) (now (relabellings .entry)))
-        (ltb 0 (now (edges .entry))) (from .at) ⌝ }
+        (ltb 0 (now (edges .entry))) (asPlace from) ⌝ }
 {
     let mut at = from;
     let mut rings = 0 < *edges;
@@ -119,7 +120,18 @@ fn land_records(
             blocks: *blocks,
             relabellings: *relabellings,
         };
-        let step = land_record(degrees, sides, ends, lengths, volumes, labels, head, list, at, rings);
+        let step = land_record(
+            degrees,
+            sides,
+            ends,
+            lengths,
+            volumes,
+            labels,
+            head,
+            list,
+            at,
+            rings,
+        );
         match step {
             Step::End => {
                 return Stop::Whole;

@@ -72,8 +72,8 @@ pub fn find_at_checked(
 // The first is checked.
 fn measure_to(ends: &[u16], lengths: &[u32], counts: Counts, from: Vertex, to: u32) -> Measured
     requires { ⌜ Measurable (now ends) (now lengths) (asCounts counts) ⌝ }
-    ensures { λ r. ⌜ ((degrees sides labels : List ℕ) → measuredReply r
-        ≡ measureIn (tables degrees sides (now (ends .entry)) (now (lengths .entry)) labels) (asCounts counts) (from .0) to) ⌝ }
+    ensures { λ r. ⌜ ((degrees sides volumes labels : List ℕ) → measuredReply r
+        ≡ measureIn (tables degrees sides (now (ends .entry)) (now (lengths .entry)) volumes labels) (asCounts counts) (from .0) to) ⌝ }
 {
     let checked = Vertex::new(to);
     match checked {
@@ -90,8 +90,8 @@ pub fn measure_checked(
     to: u32,
 ) -> Measured
     requires { ⌜ Measurable (now ends) (now lengths) (asCounts counts) ⌝ }
-    ensures { λ r. ⌜ ((degrees sides labels : List ℕ) → measuredReply r
-        ≡ measureIn (tables degrees sides (now (ends .entry)) (now (lengths .entry)) labels) (asCounts counts) from to) ⌝ }
+    ensures { λ r. ⌜ ((degrees sides volumes labels : List ℕ) → measuredReply r
+        ≡ measureIn (tables degrees sides (now (ends .entry)) (now (lengths .entry)) volumes labels) (asCounts counts) from to) ⌝ }
 {
     let checked = Vertex::new(from);
     match checked {

@@ -23,8 +23,8 @@ pub fn distance_in(
     to: Vertex,
 ) -> Measured
     requires { ⌜ Measurable (now ends) (now lengths) (asCounts counts) ⌝ }
-    ensures { λ r. ⌜ ((degrees sides labels : List ℕ) → measuredReply r
-        ≡ measureIn (tables degrees sides (now (ends .entry)) (now (lengths .entry)) labels) (asCounts counts) (from .0) (to .0)) ⌝ }
+    ensures { λ r. ⌜ ((degrees sides volumes labels : List ℕ) → measuredReply r
+        ≡ measureIn (tables degrees sides (now (ends .entry)) (now (lengths .entry)) volumes labels) (asCounts counts) (from .0) (to .0)) ⌝ }
 {
     let mut heads = [0u16; VERTICES];
     let mut heap = [0u16; SIDES];

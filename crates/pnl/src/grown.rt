@@ -49,7 +49,7 @@ fn answer_question(
         → returned (now (answer .exit)) r ≡ returnsReply register (now (answer .entry)) (asQuestion question register)) ⌝ }
 {
     match question {
-        Question::Sheet => answer_sheet(answer, degrees, sides, ends, lengths, counts.edges),
+        Question::Sheet => answer_sheet(answer, degrees, sides, ends, lengths, volumes, counts.edges),
         Question::Find(label) => {
             let found = find_checked(degrees, sides, ends, lengths, labels, counts, label);
             answer_found(answer, found)
@@ -73,6 +73,7 @@ pub fn answer_call(list: &[u8], question: Question, answer: &mut [u8]) -> i32
     let mut sides = [0u16; SIDES];
     let mut ends = [0u16; ENDS];
     let mut lengths = [0u32; EDGES];
+    let mut volumes = [0u32; EDGES];
     let mut labels = [0u32; VERTICES];
     let reading = grow_list(
         &mut degrees,

@@ -53,6 +53,12 @@ pub fn volume_of(volumes: &[u32], e: Edge) -> Millilitres
     Millilitres(of32(volumes, e.0))
 }
 
+pub fn put_volume(volumes: &mut [u32], e: Edge, volume: Millilitres)
+    ensures { λ _. ⌜ now (volumes .exit) ≡ set (now (volumes .entry)) (e .0) (volume .0) ⌝ }
+{
+    put32(volumes, e.0 as usize, volume.0);
+}
+
 // The two ends of an edge.
 pub fn first_end(ends: &[u16], e: Edge) -> Vertex
     ensures { λ r. ⌜ r .0 ≡ getD (now (ends .entry)) (2 * e .0) 0 ⌝ }

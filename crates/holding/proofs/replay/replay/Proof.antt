@@ -13,13 +13,13 @@ use Rattle.holding.proofs.replay.replay.Tie as tie
 
 -- the edges left leave what all leave; i is twice the edge's number; the tables keep their lengths
 abbrev Inv-loop : tie.InvT-loop
-Inv-loop ownends ownlengths first number rings degrees₀ sides₀ ends₀ lengths₀ volumes₀ labels₀ counts₀ ringed₀ i₀ edge₀ left₀ degrees sides ends lengths volumes labels counts ringed i edge left =
+Inv-loop ownends ownlengths ownvolumes first number rings degrees₀ sides₀ ends₀ lengths₀ volumes₀ labels₀ counts₀ ringed₀ i₀ edge₀ left₀ degrees sides ends lengths volumes labels counts ringed i edge left =
     ((edge + left ≤ 131070) × (i ≡ 2 * edge)) × (SameLengths degrees₀ sides₀ ends₀ lengths₀ volumes₀ labels₀ degrees sides ends lengths volumes labels
-    × (replayIn ownends ownlengths left edge (tables degrees sides ends lengths volumes labels) (asCounts counts) ringed
-    ≡ replayIn ownends ownlengths left₀ edge₀ (tables degrees₀ sides₀ ends₀ lengths₀ volumes₀ labels₀) (asCounts counts₀) ringed₀))
+    × (replayIn ownends ownlengths ownvolumes left edge (tables degrees sides ends lengths volumes labels) (asCounts counts) ringed
+    ≡ replayIn ownends ownlengths ownvolumes left₀ edge₀ (tables degrees₀ sides₀ ends₀ lengths₀ volumes₀ labels₀) (asCounts counts₀) ringed₀))
 
 abbrev μ-loop : tie.MeasureT-loop
-μ-loop ownends ownlengths first number rings degrees₀ sides₀ ends₀ lengths₀ volumes₀ labels₀ counts₀ ringed₀ i₀ edge₀ left₀ degrees sides ends lengths volumes labels counts ringed i edge left = left
+μ-loop ownends ownlengths ownvolumes first number rings degrees₀ sides₀ ends₀ lengths₀ volumes₀ labels₀ counts₀ ringed₀ i₀ edge₀ left₀ degrees sides ends lengths volumes labels counts ringed i edge left = left
 
 loop-holds : tie.Need-loop-holds Inv-loop μ-loop
 loop-holds c = ((omega arith, omega arith), (same-refl _ _ _ _ _, refl))

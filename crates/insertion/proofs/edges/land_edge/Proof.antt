@@ -1,5 +1,5 @@
-use mathlib.Core.Path.{_∙_}
 use Rattle.insertion.proofs.Answers.{checked-given}
+use mathlib.Core.Path.{_∙_}
 use borrow.Author.Needs.{needs}
 use Rattle.insertion.proofs.edges.land_edge.Statement.{statement}
 use Rattle.insertion.proofs.edges.land_edge.Tie as tie
@@ -31,10 +31,13 @@ same-length-4 c = search needs
 same-length-5 : tie.Need-same-length-5
 same-length-5 c = search needs
 
+same-length-6 : tie.Need-same-length-6
+same-length-6 c = search needs
+
 returns : tie.Need-returns
 returns c =
-    let at-insert-edge = c .before .before .before .before .before .before .before .before .before .before in
-    let at-checked = at-insert-edge .before .before .before .before .before .before .before in
+    let at-insert-edge = c .before .before .before .before .before .before .before .before .before .before .before .before in
+    let at-checked = at-insert-edge .before .before .before .before .before .before .before .before in
     let at-check-edge = at-checked .before .before in
     at-insert-edge .insert-edge .ensures ∙ checked-given _ _ _ _ _ _ (at-checked .checked .given .1) (at-check-edge .check-edge .ensures)
 
@@ -54,5 +57,6 @@ land-edge-spec =
     same-length-3
     same-length-4
     same-length-5
+    same-length-6
     returns
     returns-2)

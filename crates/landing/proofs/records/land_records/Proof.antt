@@ -2,6 +2,7 @@ use Rattle.landing.proofs.RecordLaws.{records-none, records-end, record
 use Rattle.tables.proofs.SameLengths.{SameLengths, same-refl, same-on}
 use Rattle.landing.specs.Meaning.{asStep}
 use Rattle.landing.specs.Records.{steppedIn, landRecordsIn}
+use Rattle.list.specs.Reading.{asPlace}
 use Rattle.tables.specs.Meaning.{tables}
 use Rattle.counters.specs.Answers.{counts}
 use native.Mathlib.Omega.{arith}
@@ -15,8 +16,8 @@ use Rattle.landing.proofs.records.land_records.Tie as tie
 abbrev Inv-loop : tie.InvT-loop
 Inv-loop vertices₀ edges₀ blocks₀ relabellings₀ degrees₀ sides₀ ends₀ lengths₀ volumes₀ labels₀ list at₀ rings₀ number₀ left₀ vertices edges blocks relabellings degrees sides ends lengths volumes labels at rings number left =
     (number + left < 18446744073709551616) × (SameLengths degrees₀ sides₀ ends₀ lengths₀ volumes₀ labels₀ degrees sides ends lengths volumes labels
-    × (landRecordsIn list left number (tables degrees sides ends lengths volumes labels) (counts vertices edges blocks relabellings) rings (at .at)
-    ≡ landRecordsIn list left₀ number₀ (tables degrees₀ sides₀ ends₀ lengths₀ volumes₀ labels₀) (counts vertices₀ edges₀ blocks₀ relabellings₀) rings₀ (at₀ .at)))
+    × (landRecordsIn list left number (tables degrees sides ends lengths volumes labels) (counts vertices edges blocks relabellings) rings (asPlace at)
+    ≡ landRecordsIn list left₀ number₀ (tables degrees₀ sides₀ ends₀ lengths₀ volumes₀ labels₀) (counts vertices₀ edges₀ blocks₀ relabellings₀) rings₀ (asPlace at₀)))
 
 abbrev μ-loop : tie.MeasureT-loop
 μ-loop vertices₀ edges₀ blocks₀ relabellings₀ degrees₀ sides₀ ends₀ lengths₀ volumes₀ labels₀ list at₀ rings₀ number₀ left₀ vertices edges blocks relabellings degrees sides ends lengths volumes labels at rings number left = left
