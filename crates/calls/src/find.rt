@@ -59,9 +59,7 @@ pub fn find(
         slabels,
     );
     match passed {
-        Gate::Open => {
-            find_cleared(degrees, sides, ends, lengths, labels, counts, ssides, label)
-        }
+        Gate::Open => { find_cleared(degrees, sides, ends, lengths, labels, counts, ssides, label) }
         Gate::Refused(refusal) => FoundChain::Refused(refusal),
     }
 }
@@ -109,9 +107,16 @@ pub fn find_at(
         slabels,
     );
     match passed {
-        Gate::Open => {
-            find_at_cleared(degrees, sides, ends, lengths, labels, counts, ssides, vertex)
-        }
+        Gate::Open => find_at_cleared(
+            degrees,
+            sides,
+            ends,
+            lengths,
+            labels,
+            counts,
+            ssides,
+            vertex,
+        ),
         Gate::Refused(refusal) => FoundChain::Refused(refusal),
     }
 }

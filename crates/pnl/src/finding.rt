@@ -29,5 +29,14 @@ pub fn find_from(
         (asCounts counts) (replicate (2 * maxVertices) 0) (label .0)) ⌝ }
 {
     let mut tree = [0u16; SIDES];
-    find_in(degrees, sides, ends, lengths, labels, counts, &mut tree, label)
+    find_in(
+        degrees,
+        sides,
+        ends,
+        lengths,
+        labels,
+        counts,
+        &mut tree,
+        label,
+    )
 }

@@ -49,7 +49,15 @@ fn answer_question(
         → returned (now (answer .exit)) r ≡ returnsReply register (now (answer .entry)) (asQuestion question register)) ⌝ }
 {
     match question {
-        Question::Sheet => answer_sheet(answer, degrees, sides, ends, lengths, volumes, counts.edges),
+        Question::Sheet => answer_sheet(
+            answer,
+            degrees,
+            sides,
+            ends,
+            lengths,
+            volumes,
+            counts.edges,
+        ),
         Question::Find(label) => {
             let found = find_checked(degrees, sides, ends, lengths, labels, counts, label);
             answer_found(answer, found)
