@@ -53,7 +53,7 @@ pub fn write(
         slabels,
     );
     match passed {
-        Gate::Open => write_in(ends, lengths, counts, out),
+        Gate::Open => write_in(ends, lengths, volumes, counts, out),
         Gate::Refused(refusal) => Written::Refused(refusal),
     }
 }

@@ -54,7 +54,16 @@ fn put_sheet_bytes(
     let mut count: u16 = 0;
     let mut edge = next_unmarked(marks, 0, edges);
     while edge < edges {
-        let row = take_row(degrees, sides, ends, lengths, volumes, marks, Edge(edge), edges);
+        let row = take_row(
+            degrees,
+            sides,
+            ends,
+            lengths,
+            volumes,
+            marks,
+            Edge(edge),
+            edges,
+        );
         next = put_row_bytes(out, next, row);
         count += 1;
         edge = next_unmarked(marks, edge + 1, edges);
@@ -82,6 +91,15 @@ pub fn answer_sheet(
     if !has_room(degrees, sides, ends, &mut counting, edges, rows) {
         return refused(Refusal::ShortSlice);
     }
-    let count = put_sheet_bytes(answer, degrees, sides, ends, lengths, volumes, &mut marks, edges);
+    let count = put_sheet_bytes(
+        answer,
+        degrees,
+        sides,
+        ends,
+        lengths,
+        volumes,
+        &mut marks,
+        edges,
+    );
     byte_count(ROW_BYTES * (count as usize))
 }

@@ -7,26 +7,8 @@ use borrow.Author.Needs.{needs}
 use Rattle.insertion.proofs.edges.check_edge.Statement.{statement}
 use Rattle.insertion.proofs.edges.check_edge.Tie as tie
 
-landed-requires : tie.Need-landed-requires
-landed-requires c κs = search needs
-
-enum-known-a : tie.Need-enum-known-a
-enum-known-a c = search needs
-
-enum-told : tie.Need-enum-told
-enum-told c = search needs
-
 returns : tie.Need-returns
 returns c = check-first _ _ _ _ _ (landed-none _ _ (ap asVertex (sym (c .enum-told .given .1)) ∙ c .before .before .landed .ensures))
-
-landed-requires-2 : tie.Need-landed-requires-2
-landed-requires-2 c κs = search needs
-
-enum-known-b : tie.Need-enum-known-b
-enum-known-b c = search needs
-
-enum-told-2 : tie.Need-enum-told-2
-enum-told-2 c = search needs
 
 returns-2 : tie.Need-returns-2
 returns-2 c =
@@ -41,15 +23,6 @@ returns-3 c =
     let at-landed = at-a .before .before in
     check-same _ _ _ _ _ (landed-is _ _ _ (ap asVertex (sym (at-a .a .given .1)) ∙ at-landed .landed .ensures) .0) (landed-is _ _ _ (ap asVertex (sym (c .before .before .b .given .1)) ∙ at-landed2 .landed2 .ensures) .0) (c .if1 .taken)
 
-new-requires : tie.Need-new-requires
-new-requires c κs = search needs
-
-enum-known-millimetres : tie.Need-enum-known-millimetres
-enum-known-millimetres c = search needs
-
-enum-told-3 : tie.Need-enum-told-3
-enum-told-3 c = search needs
-
 returns-4 : tie.Need-returns-4
 returns-4 c =
     let at-b = c .before .before .before .before .before in
@@ -57,15 +30,6 @@ returns-4 c =
     let at-a = at-landed2 .before .before in
     let at-landed = at-a .before .before in
     check-length _ _ _ _ _ (landed-is _ _ _ (ap asVertex (sym (at-a .a .given .1)) ∙ at-landed .landed .ensures) .0) (landed-is _ _ _ (ap asVertex (sym (at-b .b .given .1)) ∙ at-landed2 .landed2 .ensures) .0) (c .before .before .before .if1 .left) (ap asMillimetres (sym (c .enum-told3 .given .1)) ∙ c .before .before .new .ensures)
-
-check-volume-requires : tie.Need-check-volume-requires
-check-volume-requires c κs = search needs
-
-enum-known-millilitres : tie.Need-enum-known-millilitres
-enum-known-millilitres c = search needs
-
-enum-told-4 : tie.Need-enum-told-4
-enum-told-4 c = search needs
 
 returns-5 : tie.Need-returns-5
 returns-5 c =
@@ -104,26 +68,27 @@ returns-7 c =
     let second = landed-is _ _ _ (ap asVertex (sym (at-b .b .given .1)) ∙ at-landed2 .landed2 .ensures) in
     check-passed _ _ _ _ _ (first .0) (second .0) (at-if1 .if1 .left) _ (ap asMillimetres (sym (at-millimetres .millimetres .given .1)) ∙ at-new .new .ensures) _ (ap asVolume (sym (c .before .before .before .millilitres .given .1)) ∙ at-check-volume .check-volume .ensures) _ _ (first .1) (second .1) (c .if2 .left)
 
+-- the needs in the order of the code
 pub check-edge-spec : {M : Type 1} → statement M
 check-edge-spec =
     tie.close
     (tie.spec
-    landed-requires
-    enum-known-a
-    enum-told
+    (λ c κs. search needs)
+    (λ c. search needs)
+    (λ c. search needs)
     returns
-    landed-requires-2
-    enum-known-b
-    enum-told-2
+    (λ c κs. search needs)
+    (λ c. search needs)
+    (λ c. search needs)
     returns-2
     returns-3
-    new-requires
-    enum-known-millimetres
-    enum-told-3
+    (λ c κs. search needs)
+    (λ c. search needs)
+    (λ c. search needs)
     returns-4
-    check-volume-requires
-    enum-known-millilitres
-    enum-told-4
+    (λ c κs. search needs)
+    (λ c. search needs)
+    (λ c. search needs)
     returns-5
     returns-6
     returns-7)

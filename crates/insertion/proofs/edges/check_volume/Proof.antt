@@ -5,18 +5,6 @@ use borrow.Author.Needs.{needs}
 use Rattle.insertion.proofs.edges.check_volume.Statement.{statement}
 use Rattle.insertion.proofs.edges.check_volume.Tie as tie
 
-new-requires : tie.Need-new-requires
-new-requires c κs = search needs
-
-enum-known-known : tie.Need-enum-known-known
-enum-known-known c = search needs
-
-enum-told : tie.Need-enum-told
-enum-told c = search needs
-
-enum-told-2 : tie.Need-enum-told-2
-enum-told-2 c = search needs
-
 returns : tie.Need-returns
 returns c = ap storedVolume (ap asMillilitres (sym (c .before .known .given .1)) ∙ c .before .before .before .new .ensures)
 
@@ -26,14 +14,15 @@ returns-2 c = ap storedVolume (ap asMillilitres (sym (c .enum-told .given .1)) �
 returns-3 : tie.Need-returns-3
 returns-3 c = ap storedVolume (ap asMillilitres (sym (c .enum-told2 .given .1)) ∙ c .before .before .new .ensures)
 
+-- the needs in the order of the code
 pub check-volume-spec : {M : Type 1} → statement M
 check-volume-spec =
     tie.close
     (tie.spec
-    new-requires
-    enum-known-known
-    enum-told
-    enum-told-2
+    (λ c κs. search needs)
+    (λ c. search needs)
+    (λ c. search needs)
+    (λ c. search needs)
     returns
     returns-2
     returns-3)
