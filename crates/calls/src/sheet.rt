@@ -54,7 +54,17 @@ pub fn sheet(
         slabels,
     );
     match passed {
-        Gate::Open => sheet_cleared(degrees, sides, ends, lengths, volumes, counts, sdegrees, ssides, out),
+        Gate::Open => sheet_cleared(
+            degrees,
+            sides,
+            ends,
+            lengths,
+            volumes,
+            counts,
+            sdegrees,
+            ssides,
+            out,
+        ),
         Gate::Refused(refusal) => Listed::Refused(refusal),
     }
 }

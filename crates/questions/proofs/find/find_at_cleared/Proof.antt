@@ -16,7 +16,7 @@ same-length c = search needs
 returns : tie.Need-returns
 returns c =
     let at-find-cleared = c .before .before in
-    (λ volumes. find-at-law _ _ _ _ _ _ (at-find-cleared .before .label-of .ensures) (at-find-cleared .find-cleared .ensures .0 volumes), at-find-cleared .find-cleared .ensures .1)
+    (λ volumes. find-at-law _ _ _ _ _ _ (at-find-cleared .before .before .label-of .ensures) (at-find-cleared .find-cleared .ensures .0 volumes), at-find-cleared .find-cleared .ensures .1)
 
 pub find-at-cleared-spec : {M : Type 1} → statement M
 find-at-cleared-spec = tie.close (tie.spec label-of-requires find-cleared-requires same-length returns)

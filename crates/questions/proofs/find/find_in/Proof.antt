@@ -22,8 +22,8 @@ same-length c = search needs
 
 returns : tie.Need-returns
 returns c =
-    let at-search-label = c .before .before .before .before .before in
-    λ volumes. find-wearer _ _ _ _ _ (at-search-label .search-label .ensures) _ _ (ap asFound (sym (c .before .found .given .1))) (c .found-at .ensures _ _)
+    let at-search-label = c .before .before .before .before .before .before in
+    λ volumes. find-wearer _ _ _ _ _ (at-search-label .search-label .ensures) _ _ (ap asFound (sym (c .before .before .found .given .1))) (c .found-at .ensures _ _)
 
 same-length-2 : tie.Need-same-length-2
 same-length-2 c = search needs
