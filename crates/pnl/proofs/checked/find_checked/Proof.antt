@@ -26,7 +26,7 @@ returns c =
 
 returns-2 : tie.Need-returns-2
 returns-2 c =
-    let at-fits = c .before .before .before .before .before .before .before in
+    let at-fits = c .before .before .before .before .before .before .before .before in
     let large = within-none _ _ (ap asLabel (sym (c .enum-told .given .1)) ∙ c .before .before .new .ensures) in
     λ volumes. absurd (omega (arith, at-fits .fits .label .fits, large))
 
