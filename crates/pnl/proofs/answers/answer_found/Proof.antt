@@ -8,9 +8,9 @@ use Rattle.pnl.proofs.answers.answer_found.Tie as tie
 returns : tie.Need-returns
 unfolding returnsReply
 returns c =
-    let at-wide2 = c .before .before .before .before in
+    let at-wide2 = c .before .before .before .before .before in
     let at-wide = at-wide2 .before in
-    let at-found = at-wide .before .before .before in
+    let at-found = at-wide .before .before in
     λ register. rw (at-found .found .given .1) (four-numbers _ _ _ _ _ _ _ _ (at-wide .wide .ensures) (at-wide2 .wide2 .ensures) (handed (c .before .before .answer-numbers .ok) (c .before .before .answer-numbers .ensures)))
 
 returns-2 : tie.Need-returns-2
