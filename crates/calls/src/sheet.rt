@@ -1,4 +1,4 @@
-// Sheet: five numbers a chain (document 01: run) to the front of a lent slice: 25, 21, then 9.
+// Sheet: six numbers a chain (document 01: run) to the front of a lent slice: 25, 21, then 9.
 use admission::gate::Gate;
 use admission::gate::pass_gate;
 use counters::counts::Counts;
