@@ -1,5 +1,6 @@
-/* One question to the register of a list: the run of a tag, how far a coupling is from the ends of its run, or how far two fittings are
- * from each other. The list is read from standard input. This is the program behind ./ask, and an example of find, reach and distance.
+/* One question to the register of a list: which coupling wears a tag, and how far it is from the ends of its run; the same of a coupling's
+ * number; or how far two fittings are from each other. The list is read from standard input. This is the program behind ./ask, and an
+ * example of find and distance.
  *
  *     ./build
  *     cc -Iinclude examples/ask.c target/staticlib/libpnl.a -o target/ask
@@ -45,17 +46,26 @@ static int read_number(const char *word, uint32_t *number)
     return digit != word && *digit == '\0' && value <= UINT32_MAX;
 }
 
+/* A run or ring, the coupling, and the lengths from there. */
+static void print_found(void)
+{
+    uint32_t run = pnl_number(answer, 0), coupling = pnl_number(answer, 1);
+    uint32_t low = pnl_number(answer, 2), high = pnl_number(answer, 3);
+
+    if (low == 0) /* to an end of a run it is 1 mm or more */
+        printf("fitting %" PRIu32 " in ring %" PRIu32 " of %" PRIu32 " mm\n", coupling, run, high);
+    else
+        printf("fitting %" PRIu32 " on run %" PRIu32 ": %" PRIu32 " mm to the low end, %" PRIu32 " mm to the high end\n",
+               coupling, run, low, high);
+}
+
 /* The answer of a call that was not refused, in words. */
 static void print_answer(char question)
 {
     uint32_t first = pnl_number(answer, 0);
 
-    if (question == 'f')
-        printf("run %" PRIu32 "\n", first);
-    else if (question == 'r' && first == 0) /* to an end of a run it is 1 mm or more */
-        printf("in a ring of %" PRIu32 " mm\n", pnl_number(answer, 1));
-    else if (question == 'r')
-        printf("%" PRIu32 " mm to the low end, %" PRIu32 " mm to the high end\n", first, pnl_number(answer, 1));
+    if (question != 'd')
+        print_found();
     else if (first == PNL_NOT_JOINED)
         printf("not joined\n");
     else
@@ -66,8 +76,8 @@ static int32_t call(char question, size_t size, const uint32_t *numbers)
 {
     if (question == 'f')
         return pnl_find(list, size, numbers[0], answer, sizeof answer);
-    if (question == 'r')
-        return pnl_reach(list, size, numbers[0], answer, sizeof answer);
+    if (question == 'a')
+        return pnl_find_at(list, size, numbers[0], answer, sizeof answer);
     return pnl_distance(list, size, numbers[0], numbers[1], answer, sizeof answer);
 }
 
@@ -96,7 +106,7 @@ static int ask(char question, const uint32_t *numbers)
 
 int main(int argc, char **argv)
 {
-    static const char *const questions[] = { "find", "reach", "distance" };
+    static const char *const questions[] = { "find", "at", "distance" };
     uint32_t numbers[2] = { 0, 0 };
     int i, wanted;
 
@@ -104,7 +114,7 @@ int main(int argc, char **argv)
         ;
     wanted = i == 2 ? 2 : 1;
     if (i == 3 || argc != 2 + wanted)
-        return fail("a question is 'find TAG', 'reach FITTING' or 'distance FITTING FITTING'", "");
+        return fail("a question is 'find TAG', 'at FITTING' or 'distance FITTING FITTING'", "");
     for (i = 0; i < wanted; i++)
         if (!read_number(argv[2 + i], &numbers[i]))
             return fail("a tag or a fitting is a number from 0 to 4294967295, in digits, not ", argv[2 + i]);

@@ -44,6 +44,12 @@ static void print_distance(const uint8_t *list, size_t list_len, uint32_t from, 
         printf("%" PRIu32 " mm\n", pnl_number(answer, 0));
 }
 
+static void print_found(const char *asked, const uint8_t *found)
+{
+    printf("%s: fitting %" PRIu32 " on run %" PRIu32 ", %" PRIu32 " mm to the low end, %" PRIu32 " mm to the high end\n", asked,
+           pnl_number(found, 1), pnl_number(found, 0), pnl_number(found, 2), pnl_number(found, 3));
+}
+
 static int refused(const char *call, int32_t refusal)
 {
     fprintf(stderr, "%s: refusal %" PRId32 ": %s\n", call, -refusal, pnl_refusal_text(refusal));
@@ -64,13 +70,12 @@ int main(void)
     size = pnl_find(house, sizeof house, 8195, answer, sizeof answer);
     if (size < 0)
         return refused("find", size);
-    printf("tag 8195 is on run %" PRIu32 "\n", pnl_number(answer, 0));
+    print_found("tag 8195", answer);
 
-    size = pnl_reach(house, sizeof house, 1, answer, sizeof answer);
+    size = pnl_find_at(house, sizeof house, 1, answer, sizeof answer);
     if (size < 0)
-        return refused("reach", size);
-    printf("fitting 1: %" PRIu32 " mm to the low end, %" PRIu32 " mm to the high end\n",
-           pnl_number(answer, 0), pnl_number(answer, 1));
+        return refused("find_at", size);
+    print_found("number 1", answer);
 
     if (pnl_find(house, sizeof house, 8194, answer, sizeof answer) == PNL_REFUSED_NO_COUPLING)
         printf("tag 8194 is on no coupling\n");

@@ -46,15 +46,19 @@ class Register:
         return [numbers[at : at + 5] for at in range(0, len(numbers), 5)]
 
     def find(self, list_, tag):
-        return self.call("pnl_find", list_, tag)[0]
+        return self.call("pnl_find", list_, tag)
 
-    def reach(self, list_, fitting):
-        return self.call("pnl_reach", list_, fitting)
+    def find_at(self, list_, fitting):
+        return self.call("pnl_find_at", list_, fitting)
 
     def distance(self, list_, one, other):
         """In mm, or None where no way joins the two."""
         (length,) = self.call("pnl_distance", list_, one, other)
         return None if length == NOT_JOINED else length
+
+
+def print_found(asked, run, fitting, low, high):
+    print(f"{asked}: fitting {fitting} on run {run}, {low} mm to the low end, {high} mm to the high end")
 
 
 def print_distance(register, list_, one, other):
@@ -72,9 +76,8 @@ def main(library, file):
         house = opened.read()
     for name, low, high, couplings, length in register.sheet(house):
         print(f"run {name} from {low} to {high}: {couplings} couplings, {length} mm")
-    print(f"tag 8195 is on run {register.find(house, 8195)}")
-    low, high = register.reach(house, 1)
-    print(f"fitting 1: {low} mm to the low end, {high} mm to the high end")
+    print_found("tag 8195", *register.find(house, 8195))
+    print_found("number 1", *register.find_at(house, 1))
     try:
         register.find(house, 8194)
     except Refused as refused:

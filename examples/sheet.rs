@@ -10,7 +10,7 @@
 extern "C" {
     fn pnl_sheet(list: *const u8, list_len: usize, answer: *mut u8, answer_len: usize) -> i32;
     fn pnl_find(list: *const u8, list_len: usize, tag: u32, answer: *mut u8, answer_len: usize) -> i32;
-    fn pnl_reach(list: *const u8, list_len: usize, fitting: u32, answer: *mut u8, answer_len: usize) -> i32;
+    fn pnl_find_at(list: *const u8, list_len: usize, fitting: u32, answer: *mut u8, answer_len: usize) -> i32;
     fn pnl_distance(list: *const u8, list_len: usize, from: u32, to: u32, answer: *mut u8, answer_len: usize) -> i32;
 }
 
@@ -41,12 +41,16 @@ fn find(list: &[u8], tag: u32) -> Answer {
     answer(|room, size| unsafe { pnl_find(list.as_ptr(), list.len(), tag, room, size) })
 }
 
-fn reach(list: &[u8], fitting: u32) -> Answer {
-    answer(|room, size| unsafe { pnl_reach(list.as_ptr(), list.len(), fitting, room, size) })
+fn find_at(list: &[u8], fitting: u32) -> Answer {
+    answer(|room, size| unsafe { pnl_find_at(list.as_ptr(), list.len(), fitting, room, size) })
 }
 
 fn distance(list: &[u8], from: u32, to: u32) -> Answer {
     answer(|room, size| unsafe { pnl_distance(list.as_ptr(), list.len(), from, to, room, size) })
+}
+
+fn print_found(asked: &str, found: &[u32]) {
+    println!("{asked}: fitting {} on run {}, {} mm to the low end, {} mm to the high end", found[1], found[0], found[2], found[3]);
 }
 
 fn print_distance(list: &[u8], from: u32, to: u32) {
@@ -66,9 +70,8 @@ fn main() -> Result<(), String> {
     for run in sheet(&house).map_err(refused)?.chunks_exact(SHEET_ROW) {
         println!("run {} from {} to {}: {} couplings, {} mm", run[0], run[1], run[2], run[3], run[4]);
     }
-    println!("tag 8195 is on run {}", find(&house, 8195).map_err(refused)?[0]);
-    let reached = reach(&house, 1).map_err(refused)?;
-    println!("fitting 1: {} mm to the low end, {} mm to the high end", reached[0], reached[1]);
+    print_found("tag 8195", &find(&house, 8195).map_err(refused)?);
+    print_found("number 1", &find_at(&house, 1).map_err(refused)?);
     if find(&house, 8194) == Err(NO_COUPLING) {
         println!("tag 8194 is on no coupling");
     }

@@ -46,7 +46,8 @@
  *              its fittings lie on rings, that of the fitting named first takes its base first; where the other starts the tags of a
  *              run, the tap's base comes first.
  *
- * A caller finds a run by a tag that somebody read in the trench. No call gives the tag of a fitting.
+ * A caller finds a run by a tag that somebody read off its plate in the trench, or by the number of a coupling, which needs no tag. No call
+ * gives the tag of a fitting: it is read there, or follows from the list by these rules.
  *
  * The calls on a valve's window, and the one that plans a change, take no list: they stand at the end, with what they are about.
  */
@@ -72,7 +73,7 @@ enum pnl_refusal {
     PNL_REFUSED_CUT = -3,               /* the list ends within its header or within a record */
     /* The list: a record. */
     PNL_REFUSED_UNKNOWN_KIND = -4,      /* a record that begins with neither 0x46 (fitting) nor 0x50 (pipe) */
-    PNL_REFUSED_NOT_LANDED = -5,        /* a pipe, or a call, names a fitting that was not landed */
+    PNL_REFUSED_NOT_LANDED = -5,        /* a pipe, or pnl_distance, names a fitting that was not landed */
     PNL_REFUSED_SAME_FITTING = -6,      /* a pipe from a fitting to itself */
     PNL_REFUSED_LENGTH = -7,            /* a pipe of length 0 or above 100,000 mm */
     PNL_REFUSED_TOO_MANY_FITTINGS = -22, /* a 4,097th fitting */
@@ -85,7 +86,7 @@ enum pnl_refusal {
     PNL_REFUSED_PLAN_BOUNDS = -34,      /* a flow of 0 or above 1,000,000 ml a minute, a minute above 10,079, or more than 32 windows */
     PNL_REFUSED_PLAN_WINDOWS = -35,     /* a window that is empty, ends above 10,080, or starts before the previous one's end */
     /* The call. */
-    PNL_REFUSED_NO_COUPLING = -8,       /* a tag that no coupling wears, or a fitting that is no coupling */
+    PNL_REFUSED_NO_COUPLING = -8,       /* a tag that no coupling wears, or a number that is no coupling's */
     PNL_REFUSED_SHORT_ANSWER = -9       /* the answer does not fit in answer_len bytes */
 };
 
@@ -93,8 +94,7 @@ enum pnl_refusal {
 enum pnl_size {
     PNL_SHEET_ROW = 20,                 /* one run or ring of the sheet */
     PNL_SHEET_MOST = 81920,             /* the largest sheet, 4,096 lines: always enough for pnl_sheet */
-    PNL_FIND_SIZE = 4,                  /* the answer of pnl_find */
-    PNL_REACH_SIZE = 8,                 /* the answer of pnl_reach */
+    PNL_FIND_SIZE = 16,                 /* the answer of pnl_find and of pnl_find_at */
     PNL_DISTANCE_SIZE = 4               /* the answer of pnl_distance */
 };
 
@@ -127,7 +127,7 @@ static inline const char *pnl_refusal_text(int32_t returned)
     case PNL_REFUSED_AMOUNT: return "the record is above 1,000,000 ml";
     case PNL_REFUSED_PLAN_BOUNDS: return "the flow is not 1 to 1,000,000 ml a minute, the minute is above 10,079, or there are more than 32 windows";
     case PNL_REFUSED_PLAN_WINDOWS: return "a window does not start before its end, ends above 10,080, or starts before the previous one's end";
-    case PNL_REFUSED_NO_COUPLING: return "no coupling wears that tag, or the fitting is no coupling";
+    case PNL_REFUSED_NO_COUPLING: return "no coupling wears that tag or has that number";
     case PNL_REFUSED_SHORT_ANSWER: return "the answer does not fit in the bytes given for it";
     default: return returned < 0 ? "unknown refusal" : "no refusal";
     }
@@ -140,17 +140,18 @@ static inline const char *pnl_refusal_text(int32_t returned)
  * Refusals: those of the list; PNL_REFUSED_SHORT_ANSWER. */
 int32_t pnl_sheet(const uint8_t *list, size_t list_len, uint8_t *answer, size_t answer_len);
 
-/* The name of the run or ring whose couplings include the one that wears `tag`: one number. Returns PNL_FIND_SIZE.
+/* The coupling that wears `tag`, four numbers: the name of its run or ring; the coupling's fitting number; the lengths in mm from it along
+ * its run to the low end and to the high end, in a ring, which has no ends, 0 and the ring's length. The two lengths add up to that of the
+ * run or ring; on a run neither is 0. Returns PNL_FIND_SIZE.
  *
  * Refusals: those of the list; PNL_REFUSED_NO_COUPLING if no coupling wears the tag, as none wears 0; PNL_REFUSED_SHORT_ANSWER. */
 int32_t pnl_find(const uint8_t *list, size_t list_len, uint32_t tag, uint8_t *answer, size_t answer_len);
 
-/* The lengths in mm along its run from a coupling to the low end and to the high end: two numbers; in a ring, which has no ends, 0 and the
- * ring's length. Returns PNL_REACH_SIZE.
+/* The same four numbers of the coupling with this fitting number, which is the second of them. Returns PNL_FIND_SIZE.
  *
- * Refusals: those of the list; PNL_REFUSED_NOT_LANDED if there is no such fitting, whatever the number;
- * PNL_REFUSED_NO_COUPLING if it is a junction; PNL_REFUSED_SHORT_ANSWER. */
-int32_t pnl_reach(const uint8_t *list, size_t list_len, uint32_t fitting, uint8_t *answer, size_t answer_len);
+ * Refusals: those of the list; PNL_REFUSED_NO_COUPLING if it is a junction, or if there is no such fitting, whatever the number;
+ * PNL_REFUSED_SHORT_ANSWER. */
+int32_t pnl_find_at(const uint8_t *list, size_t list_len, uint32_t fitting, uint8_t *answer, size_t answer_len);
 
 /* The length in mm of the shortest way over pipes between two fittings, 0 from a fitting to itself, or PNL_NOT_JOINED: one number.
  * Returns PNL_DISTANCE_SIZE.

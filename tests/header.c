@@ -82,7 +82,7 @@ static void compare_answers(void)
     COMPARE(PNL_SHEET_ROW, pnl_sheet(LIST(HOUSE), ROOM));
     COMPARE(PNL_SHEET_MOST, full_sheet(4, 4096));
     COMPARE(PNL_FIND_SIZE, pnl_find(LIST(HOUSE), 8192, ROOM));
-    COMPARE(PNL_REACH_SIZE, pnl_reach(LIST(HOUSE), 1, ROOM));
+    COMPARE(PNL_FIND_SIZE, pnl_find_at(LIST(HOUSE), 1, ROOM));
     COMPARE(PNL_DISTANCE_SIZE, pnl_distance(LIST(HOUSE), 0, 3, ROOM));
     COMPARE(PNL_NOT_JOINED, answer[0] | (int64_t)answer[1] << 8 | (int64_t)answer[2] << 16 | (int64_t)answer[3] << 24);
 }

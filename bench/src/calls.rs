@@ -11,7 +11,7 @@ const SHEET_MOST: usize = 81_920;
 extern "C" {
     fn pnl_sheet(list: *const u8, list_len: usize, answer: *mut u8, answer_len: usize) -> i32;
     fn pnl_find(list: *const u8, list_len: usize, tag: u32, answer: *mut u8, answer_len: usize) -> i32;
-    fn pnl_reach(list: *const u8, list_len: usize, fitting: u32, answer: *mut u8, answer_len: usize) -> i32;
+    fn pnl_find_at(list: *const u8, list_len: usize, fitting: u32, answer: *mut u8, answer_len: usize) -> i32;
     fn pnl_distance(list: *const u8, list_len: usize, from: u32, to: u32, answer: *mut u8, answer_len: usize) -> i32;
 }
 
@@ -20,7 +20,7 @@ extern "C" {
 pub enum Call {
     Sheet,
     Find(u32),
-    Reach(u32),
+    FindAt(u32),
     Distance(u32, u32),
 }
 
@@ -30,7 +30,7 @@ fn proved(call: Call, list: &[u8], answer: &mut [u8]) -> i32 {
         match call {
             Call::Sheet => pnl_sheet(bytes, length, to, room),
             Call::Find(tag) => pnl_find(bytes, length, tag, to, room),
-            Call::Reach(fitting) => pnl_reach(bytes, length, fitting, to, room),
+            Call::FindAt(fitting) => pnl_find_at(bytes, length, fitting, to, room),
             Call::Distance(from, end) => pnl_distance(bytes, length, from, end, to, room),
         }
     }
@@ -45,8 +45,8 @@ fn plain(call: Call, list: &[u8], answer: &mut [u8]) -> i32 {
     }
     let numbers = match call {
         Call::Sheet => Ok(register.sheet().into_flattened()),
-        Call::Find(tag) => register.find(tag).map(|name| vec![name]),
-        Call::Reach(fitting) => register.reach(fitting).map(Vec::from),
+        Call::Find(tag) => register.find(tag).map(Vec::from),
+        Call::FindAt(fitting) => register.find_at(fitting).map(Vec::from),
         Call::Distance(from, to) => register.distance(from, to).map(|length| vec![length]),
     };
     match numbers {
@@ -123,7 +123,7 @@ fn full_lists(random: &mut Random) -> Vec<(&'static str, Vec<Vec<u8>>)> {
     houses.into_iter().map(|(name, n, houses)| (name, lists(n, houses))).collect()
 }
 
-/// The calls on a list: find and reach of the last coupling, the distance between the first and the last fitting.
+/// The calls on a list: find of the last coupling by its tag and by its number, the distance between the first and the last fitting.
 fn calls_on(list: &[u8]) -> [(&'static str, Call); 4] {
     let (register, _) = Register::grow(list);
     let (coupling, tag) = register.last_regular().expect("a coupling");
@@ -131,7 +131,7 @@ fn calls_on(list: &[u8]) -> [(&'static str, Call); 4] {
     [
         ("pnl_sheet", Call::Sheet),
         ("pnl_find", Call::Find(tag)),
-        ("pnl_reach", Call::Reach(coupling)),
+        ("pnl_find_at", Call::FindAt(coupling)),
         ("pnl_distance", Call::Distance(0, last)),
     ]
 }

@@ -15,7 +15,7 @@ use std::hint::black_box;
 use std::time::Instant;
 
 /// A list is grown for this call, and then nothing is left to do: no such fitting is ever landed.
-const GROW: Call = Call::Reach(u32::MAX);
+const GROW: Call = Call::FindAt(u32::MAX);
 const SIZES: [usize; 4] = [512, 1024, 2048, 4096];
 
 fn list(vertices: usize, edges: &[(usize, usize)]) -> Vec<u8> {

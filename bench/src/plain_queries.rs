@@ -1,4 +1,4 @@
-//! Find, reach and distance on the plain register, by the same walks and by Dijkstra's search with the standard library's heap.
+//! Find and distance on the plain register, by the same walks and by Dijkstra's search with the standard library's heap.
 
 use super::{Register, Walker};
 use std::cmp::Reverse;
@@ -24,34 +24,25 @@ impl Register {
         (worn().min().unwrap_or(0), worn().max().unwrap_or(0))
     }
 
-    /// The name of the chain or ring of the vertex that wears a label.
-    pub fn find(&self, label: u32) -> Result<u32, u32> {
+    /// The name of the chain or ring of the vertex that wears a label, the vertex, and the lengths from it to the low and to the high
+    /// end of its chain; in a ring 0 and its length.
+    pub fn find(&self, label: u32) -> Result<[u32; 4], u32> {
         if label == 0 {
             return Err(8);
         }
         let wearer = self.labels.iter().position(|&worn| worn == label).ok_or(8u32)? as u16;
         let [low, high] = self.sides[usize::from(wearer)];
-        let (at, _, below) = self.walk(wearer, low);
+        let (at, below, least) = self.walk(wearer, low);
         if at == wearer {
-            return Ok(u32::from(below));
+            return Ok([u32::from(least), u32::from(wearer), 0, below]);
         }
-        let (_, _, above) = self.walk(wearer, high);
-        Ok(u32::from(below.min(above)))
+        let (_, above, other) = self.walk(wearer, high);
+        Ok([u32::from(least.min(other)), u32::from(wearer), below, above])
     }
 
-    /// The lengths from a regular vertex to the low and to the high end of its chain; in a ring 0 and its length.
-    pub fn reach(&self, vertex: u32) -> Result<[u32; 2], u32> {
-        let v = self.landed(vertex)?;
-        if !self.is_regular(v) {
-            return Err(8);
-        }
-        let [low, high] = self.sides[usize::from(v)];
-        let (at, below, _) = self.walk(v, low);
-        if at == v {
-            return Ok([0, below]);
-        }
-        let (_, above, _) = self.walk(v, high);
-        Ok([below, above])
+    /// The same by a vertex, through its label.
+    pub fn find_at(&self, vertex: u32) -> Result<[u32; 4], u32> {
+        self.find(self.labels.get(vertex as usize).copied().unwrap_or(0))
     }
 
     /// From a vertex along one of its edges to the end of that chain, or round a ring and back: where that is, the length of the

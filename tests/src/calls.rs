@@ -4,11 +4,9 @@
 //! of answer bytes, or the refusal's number made negative: first that of the list, then the
 //! question's own, and 9 last.
 
-use std::collections::BTreeMap;
-
-use crate::house::{Fitting, House, PipeNumber, Tag};
+use crate::house::{Fitting, House, Tag};
 use crate::list;
-use crate::queries::{self, Distances};
+use crate::queries::{self, Distances, Wearers};
 use crate::refusal::Refusal;
 
 /// The answer to a distance where there is no way.
@@ -21,15 +19,15 @@ pub type Answer = Result<Vec<u32>, Refusal>;
 pub struct Grown {
     /// The register, or the refusal where the list stopped.
     house: Result<House, Refusal>,
-    names: BTreeMap<Tag, PipeNumber>,
+    wearers: Wearers,
 }
 
 impl Grown {
     pub fn of(list: &[u8]) -> Self {
         let (house, result) = list::grow(list);
-        let names = queries::names_by_tag(&house);
+        let wearers = queries::wearers(&house);
         let house = result.map(|()| house).map_err(list::Stop::refusal);
-        Grown { house, names }
+        Grown { house, wearers }
     }
 
     pub fn house(&self) -> Result<&House, Refusal> {
@@ -41,14 +39,14 @@ impl Grown {
     }
 
     pub fn find(&self, tag: Tag) -> Answer {
-        self.house()?;
-        let name = self.names.get(&tag).ok_or(Refusal::NoCoupling)?;
-        Ok(vec![u32::try_from(*name).expect("below 4,096")])
+        let found = queries::find_among(self.house()?, &self.wearers, tag)?;
+        let [name, coupling] =
+            [found.name, found.coupling].map(|n| u32::try_from(n).expect("below 4,096"));
+        Ok(vec![name, coupling, found.low, found.high])
     }
 
-    pub fn reach(&self, fitting: u32) -> Answer {
-        let (low, high) = queries::reach(self.house()?, fitting_number(fitting))?;
-        Ok(vec![low, high])
+    pub fn find_at(&self, fitting: u32) -> Answer {
+        self.find(queries::tag_of(self.house()?, fitting_number(fitting)))
     }
 
     /// The answers to the distances from one fitting to these, in order.
@@ -109,12 +107,21 @@ mod tests {
     fn answers_are_little_endian_and_the_rest_is_untouched() {
         let grown = Grown::of(&listing());
         assert_eq!(
-            answered(6, &grown.find(8195)),
-            (4, vec![2, 0, 0, 0, UNTOUCHED, UNTOUCHED])
+            answered(18, &grown.find(8195)),
+            (
+                16,
+                vec![
+                    2, 0, 0, 0, 4, 0, 0, 0, 0xF4, 0x01, 0, 0, 0xBC, 0x02, 0, 0, UNTOUCHED,
+                    UNTOUCHED
+                ]
+            )
         );
         assert_eq!(
-            answered(8, &grown.reach(1)),
-            (8, vec![0xE8, 0x03, 0, 0, 0xFC, 0x08, 0, 0])
+            answered(16, &grown.find_at(1)),
+            (
+                16,
+                vec![0, 0, 0, 0, 1, 0, 0, 0, 0xE8, 0x03, 0, 0, 0xFC, 0x08, 0, 0]
+            )
         );
         assert_eq!(
             answered(4, &distance(&grown, 0, 5)),
@@ -138,16 +145,16 @@ mod tests {
         let stopped = Grown::of(&[listing(), vec![0]].concat());
         let refusals = [
             (stopped.find(8192), 4),
-            (stopped.reach(1), 4),
+            (stopped.find_at(1), 4),
             (stopped.sheet(), 4),
             (distance(&stopped, 0, 99), 4),
             (grown.sheet(), 9),
             (grown.find(0), 8),
             (grown.find(8192), 9),
-            (grown.reach(7), 5),
-            (grown.reach(65_537), 5),
-            (grown.reach(3), 8),
-            (grown.reach(1), 9),
+            (grown.find_at(7), 8),
+            (grown.find_at(65_537), 8),
+            (grown.find_at(3), 8),
+            (grown.find_at(1), 9),
             (distance(&grown, 0, 7), 5),
             (distance(&grown, u32::MAX, 0), 5),
             (distance(&grown, 0, 0), 9),

@@ -27,7 +27,7 @@ fn check(watched: &Watched) {
     check_re_hung_bound(house);
     check_tags(house);
     check_lengths(house);
-    check_reaches(house);
+    check_found_lengths(house);
     check_finds(house);
 }
 
@@ -77,31 +77,33 @@ fn check_lengths(house: &House) {
     assert_eq!(all, (0..house.pipes().len()).collect::<Vec<_>>());
 }
 
-/// The two reaches of a coupling add up to the length of its run, and rise along it; in a ring they
-/// are 0 and its length.
-fn check_reaches(house: &House) {
+/// Asked by its number, a coupling is found itself, and any other number is refused. The two lengths add up
+/// to that of its run, and the first rises along it; in a ring they are 0 and its length.
+fn check_found_lengths(house: &House) {
     for ring in house.rings() {
         for &coupling in ring.fittings() {
-            let whole = (0, ring.length(house.pipes()));
-            assert_eq!(queries::reach(house, coupling), Ok(whole));
+            let found = queries::find_at(house, coupling).expect("a coupling");
+            assert_eq!(found.coupling, coupling);
+            assert_eq!((found.low, found.high), (0, ring.length(house.pipes())));
         }
     }
     for run in house.runs() {
         let mut below = 0;
         for &coupling in run.couplings() {
-            let (low, high) = queries::reach(house, coupling).expect("a coupling");
-            assert_eq!(low + high, run.length(house.pipes()));
-            assert!(low > below && high > 0);
-            below = low;
+            let found = queries::find_at(house, coupling).expect("a coupling");
+            assert_eq!(found.coupling, coupling);
+            assert_eq!(found.low + found.high, run.length(house.pipes()));
+            assert!(found.low > below && found.high > 0);
+            below = found.low;
         }
     }
     for fitting in 0..house.fittings() {
-        let refused = queries::reach(house, fitting) == Err(Refusal::NoCoupling);
+        let refused = queries::find_at(house, fitting) == Err(Refusal::NoCoupling);
         assert_eq!(refused, house.degree(fitting) != 2);
     }
     assert_eq!(
-        queries::reach(house, house.fittings()),
-        Err(Refusal::NotLanded)
+        queries::find_at(house, house.fittings()),
+        Err(Refusal::NoCoupling)
     );
 }
 
@@ -112,7 +114,7 @@ fn check_finds(house: &House) {
     for (couplings, name) in couplings_in_order(house).zip(names) {
         for &coupling in couplings {
             let tag = house.tags()[coupling];
-            assert_eq!(queries::find(house, tag), Ok(name));
+            assert_eq!(queries::find(house, tag).map(|found| found.name), Ok(name));
             for beside in [tag - 1, tag + 1] {
                 let worn = house.tags().contains(&beside);
                 assert_eq!(queries::find(house, beside).is_ok(), worn);
@@ -358,7 +360,7 @@ fn a_full_house_of_tapped_rings() {
     assert_eq!((house.births(), house.re_hung()), (2_730, 1_365));
     check_tags(&house);
     check_lengths(&house);
-    check_reaches(&house);
+    check_found_lengths(&house);
 }
 
 /// A ring of thousands of pipes: the distance is the shorter way round.

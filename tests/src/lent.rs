@@ -8,7 +8,7 @@ use std::fmt;
 
 use crate::house::{Fitting, House, Pipe, PipeNumber, MOST_FITTINGS, MOST_PIPES};
 use crate::list;
-use crate::queries;
+use crate::queries::{self, Found};
 use crate::refusal::Refusal;
 
 /// Numbers of degrees, sides, ends, lengths and labels.
@@ -74,6 +74,13 @@ fn sides(house: &House, fitting: Fitting) -> [PipeNumber; 2] {
     sides.unwrap_or([0, 0])
 }
 
+/// The name and the coupling in one number, the two lengths in another.
+fn packed(found: Found) -> (u64, u64) {
+    let name = u64::from(number_of(found.name));
+    let lengths = u64::from(found.low) << 32 | u64::from(found.high);
+    (name << 16 | u64::from(number_of(found.coupling)), lengths)
+}
+
 fn number_of(count: usize) -> u32 {
     u32::try_from(count).expect("at most 40,965")
 }
@@ -84,7 +91,7 @@ pub enum Call {
     Grow(Vec<u8>),
     Land(Vec<u8>),
     Find(u32),
-    Reach(u16),
+    FindAt(u16),
     Distance(u16, u16),
     /// Into so many numbers.
     Sheet(usize),
@@ -112,7 +119,7 @@ impl Command {
                 Call::Grow(list) => (b'G', [list.len(), 0, 0], Some(list)),
                 Call::Land(list) => (b'L', [list.len(), 0, 0], Some(list)),
                 Call::Find(tag) => (b'F', [*tag as usize, 0, 0], None),
-                Call::Reach(fitting) => (b'R', [usize::from(*fitting), 0, 0], None),
+                Call::FindAt(fitting) => (b'A', [usize::from(*fitting), 0, 0], None),
                 Call::Distance(from, to) => (b'D', [*from, *to, 0].map(usize::from), None),
                 Call::Sheet(size) => (b'S', [*size, 0, 0], None),
                 Call::Write(size) => (b'W', [*size, 0, 0], None),
@@ -130,8 +137,8 @@ impl Command {
 
 /// What a call answers. Displayed, it is the line that tests/lent/main.rattle prints.
 pub struct Answer {
-    pub first: u32,
-    pub second: u32,
+    pub first: u64,
+    pub second: u64,
     /// The refusal's number, or 0.
     pub refusal: u32,
     /// Numbers of the scratch that are not 0 after the call.
@@ -253,26 +260,31 @@ impl Lent {
             Call::Land(ref list) => return self.land(call, house, list),
             Call::Find(tag) => {
                 let (name, taken) = queries::search(&house, tag);
-                assert_eq!(name.ok_or(Refusal::NoCoupling), queries::find(&house, tag));
-                let Some(name) = name else {
+                let found = queries::find(&house, tag);
+                assert_eq!(
+                    name.ok_or(Refusal::NoCoupling),
+                    found.map(|found| found.name)
+                );
+                let Ok(found) = found else {
                     let refusal = Refusal::NoCoupling.number().unsigned_abs();
                     return self.answer(call, Err((number_of(taken), refusal)), &[]);
                 };
-                Ok((number_of(name), number_of(taken)))
+                let (first, second) = packed(found);
+                Ok((u64::from(number_of(taken)) << 32 | first, second))
             }
-            Call::Reach(fitting) => queries::reach(&house, fitting.into()),
+            Call::FindAt(fitting) => queries::find_at(&house, fitting.into()).map(packed),
             Call::Distance(from, to) => queries::distance(&house, from.into(), to.into())
-                .map(|length| length.map_or((0, 0), |length| (1, length))),
+                .map(|length| length.map_or((0, 0), |length| (1, length.into()))),
             Call::Sheet(size) => {
                 let rows = queries::sheet(&house);
                 numbers = rows.concat();
-                fits(&mut numbers, size).map(|()| (number_of(rows.len()), 0))
+                fits(&mut numbers, size).map(|()| (number_of(rows.len()).into(), 0))
             }
             Call::Write(size) => {
                 let bytes = list::written(&house);
                 let count = number_of(bytes.len());
                 numbers = bytes.into_iter().map(u32::from).collect();
-                fits(&mut numbers, size).map(|()| (count, 0))
+                fits(&mut numbers, size).map(|()| (count.into(), 0))
             }
         };
         self.answer(call, answered.map_err(refused), &numbers)
@@ -294,10 +306,10 @@ impl Lent {
     /// The answer to a call, with the state after it. 25 writes nothing, and no number of the scratch is
     /// 0 before; otherwise the scratch ends all zero. The slice begins with these numbers, and its rest
     /// is untouched.
-    fn answer(&self, call: &Call, result: Result<(u32, u32), (u32, u32)>, slice: &[u32]) -> Answer {
+    fn answer(&self, call: &Call, result: Result<(u64, u64), (u32, u32)>, slice: &[u32]) -> Answer {
         let (first, second, refusal) = match result {
             Ok((first, second)) => (first, second, 0),
-            Err((first, refusal)) => (first, 0, refusal),
+            Err((first, refusal)) => (first.into(), 0, refusal),
         };
         let all: usize = SIZES.iter().sum();
         let room = match call {

@@ -3,7 +3,7 @@
 //! - [`house`], [`run`] and [`ring`]: fittings, pipes, runs, rings and tags;
 //! - [`cases`]: what landing a pipe comes to, for counting;
 //! - [`list`]: the list of records, read and written;
-//! - [`queries`]: find, reach, distance and sheet;
+//! - [`queries`]: find, distance and sheet;
 //! - [`calls`]: the same as calls from C answer them;
 //! - [`lent`]: the same over lent tables, and what the tables hold;
 //! - [`print`]: what the printing program prints;

@@ -1,4 +1,4 @@
-//! Find, reach, distance and sheet (document 01, "What may be called"; document 02, S-2 and S-3).
+//! Find, distance and sheet (document 01, "What may be called"; document 02, S-2, S-3 and S-7).
 
 use std::cmp::Reverse;
 use std::collections::{BTreeMap, BinaryHeap};
@@ -11,10 +11,41 @@ use crate::run::{self, Run};
 /// Name, end with the lower number, other end, couplings, length.
 pub type Line = [u32; 5];
 
-/// The name of the run or ring whose couplings include the tag.
-pub fn find(house: &House, tag: Tag) -> Result<PipeNumber, Refusal> {
-    let name = names_by_tag(house).get(&tag).copied();
-    name.ok_or(Refusal::NoCoupling)
+/// What a find answers: the run or ring, the coupling that wears the tag, and the lengths from there to
+/// the low and the high end; in a ring, 0 and the ring's length.
+#[derive(Clone, Copy, Debug, PartialEq, Eq)]
+pub struct Found {
+    pub name: PipeNumber,
+    pub coupling: Fitting,
+    pub low: Millimetres,
+    pub high: Millimetres,
+}
+
+/// What is found by a tag.
+pub fn find(house: &House, tag: Tag) -> Result<Found, Refusal> {
+    find_among(house, &wearers(house), tag)
+}
+
+/// The same where it is known who wears each tag in use.
+pub fn find_among(house: &House, wearers: &Wearers, tag: Tag) -> Result<Found, Refusal> {
+    let &(name, coupling) = wearers.get(&tag).ok_or(Refusal::NoCoupling)?;
+    let (low, high) = lengths(house, coupling);
+    Ok(Found {
+        name,
+        coupling,
+        low,
+        high,
+    })
+}
+
+/// The tag of a fitting, 0 where it has none, as a number that no fitting has.
+pub fn tag_of(house: &House, fitting: Fitting) -> Tag {
+    house.tags().get(fitting).copied().unwrap_or(0)
+}
+
+/// What is found by a fitting's number, through its tag.
+pub fn find_at(house: &House, fitting: Fitting) -> Result<Found, Refusal> {
+    find(house, tag_of(house, fitting))
 }
 
 /// Document 02, S-3: the runs and rings with couplings by falling lowest tag, up to the one that holds
@@ -37,28 +68,31 @@ pub fn search(house: &House, tag: Tag) -> (Option<PipeNumber>, usize) {
     }
 }
 
-/// For each tag in use, the name of the run or ring whose couplings include it.
-pub fn names_by_tag(house: &House) -> BTreeMap<Tag, PipeNumber> {
+/// For each tag in use, the name of the run or ring whose couplings include it, and the coupling.
+pub type Wearers = BTreeMap<Tag, (PipeNumber, Fitting)>;
+
+pub fn wearers(house: &House) -> Wearers {
     let (runs, rings) = house.afresh();
     let of_runs = runs.iter().map(|run| (run.name(), run.couplings()));
     let of_rings = rings.iter().map(|ring| (ring.name(), ring.fittings()));
-    let mut names = BTreeMap::new();
+    let mut wearers = BTreeMap::new();
     for (name, couplings) in of_runs.chain(of_rings) {
-        let tags = couplings.iter().map(|&coupling| house.tags()[coupling]);
-        names.extend(tags.map(|tag| (tag, name)));
+        let worn = couplings
+            .iter()
+            .map(|&coupling| (house.tags()[coupling], (name, coupling)));
+        wearers.extend(worn);
     }
-    names
+    wearers
 }
 
 /// The lengths from a coupling to its run's low and high end; in a ring, 0 and the ring's length.
-pub fn reach(house: &House, fitting: Fitting) -> Result<(Millimetres, Millimetres), Refusal> {
-    landed(house, fitting)?;
-    if let Some(ring) = house.ring_through(fitting) {
-        return Ok((0, ring.length(house.pipes())));
+fn lengths(house: &House, coupling: Fitting) -> (Millimetres, Millimetres) {
+    if let Some(ring) = house.ring_through(coupling) {
+        return (0, ring.length(house.pipes()));
     }
-    let run = house.run_through(fitting);
-    run.and_then(|run| run.reach(fitting, house.pipes()))
-        .ok_or(Refusal::NoCoupling)
+    let run = house.run_through(coupling);
+    run.and_then(|run| run.reach(coupling, house.pipes()))
+        .expect("a coupling lies on a run or a ring")
 }
 
 /// The least length between two fittings, or nothing where they are not joined.

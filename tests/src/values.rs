@@ -4,7 +4,7 @@ use crate::gen::records;
 use crate::house::{House, MOST_FITTINGS, MOST_PIPES};
 use crate::list::{self, Record, Stop};
 use crate::print::Outcome;
-use crate::queries;
+use crate::queries::{self, Found};
 use crate::refusal::Refusal;
 
 /// A list of so many fittings and then these pipes.
@@ -28,6 +28,15 @@ pub fn listing() -> Vec<u8> {
             (3, 6, 900),
         ],
     )
+}
+
+fn found(name: usize, coupling: usize, low: u32, high: u32) -> Found {
+    Found {
+        name,
+        coupling,
+        low,
+        high,
+    }
 }
 
 fn printed(list: &[u8]) -> String {
@@ -62,8 +71,8 @@ fn the_listing() {
 fn the_tags_of_the_listing() {
     let house = grown(&listing());
     assert_eq!(house.tags(), [0, 8192, 8193, 0, 8195, 0, 0]);
-    assert_eq!(queries::find(&house, 8192), Ok(0));
-    assert_eq!(queries::find(&house, 8195), Ok(2));
+    assert_eq!(queries::find(&house, 8192), Ok(found(0, 1, 1000, 2300)));
+    assert_eq!(queries::find(&house, 8195), Ok(found(2, 4, 500, 700)));
     assert_eq!(queries::find(&house, 8194), Err(Refusal::NoCoupling));
 }
 
@@ -78,7 +87,7 @@ fn two_pipes_on_two_fittings() {
     assert_eq!(printed(&list), "2 2 1 0\n0 0 0 2 30\n");
     let house = grown(&list);
     assert_eq!(house.tags(), [8193, 8192]);
-    assert_eq!(queries::reach(&house, 0), Ok((0, 30)));
+    assert_eq!(queries::find_at(&house, 0), Ok(found(0, 0, 0, 30)));
 }
 
 #[test]
@@ -120,7 +129,7 @@ fn a_tapped_ring_of_two() {
     let lengths = [(0, 1, 10), (1, 0, 200), (2, 1, 1)];
     let house = grown(&pipes(3, &lengths));
     assert_eq!(house.tags(), [16_384, 0, 0]);
-    assert_eq!(queries::reach(&house, 0), Ok((10, 200)));
+    assert_eq!(queries::find_at(&house, 0), Ok(found(0, 0, 10, 200)));
 }
 
 #[test]
@@ -237,7 +246,7 @@ fn a_last_record_of_one_byte() {
 #[test]
 fn the_lowest_coupling_is_found() {
     let house = joined(5, &[(0, 1), (1, 2), (2, 3), (3, 4)]);
-    let names = [8192, 8193, 8194].map(|tag| queries::find(&house, tag));
+    let names = [8192, 8193, 8194].map(|tag| queries::find(&house, tag).map(|found| found.name));
     assert_eq!(names, [Ok(0); 3]);
     for tag in [0, 8191, 8195, 16_384] {
         assert_eq!(queries::find(&house, tag), Err(Refusal::NoCoupling));
@@ -245,15 +254,13 @@ fn the_lowest_coupling_is_found() {
 }
 
 #[test]
-fn a_reach_after_a_split() {
+fn lengths_after_a_split() {
     let line = [(0, 1, 1), (1, 2, 20), (2, 3, 300), (3, 4, 4000), (4, 5, 5)];
     let mut tapped = line.to_vec();
     tapped.push((2, 6, 7));
-    assert_eq!(queries::reach(&grown(&pipes(7, &line)), 3), Ok((321, 4005)));
-    assert_eq!(
-        queries::reach(&grown(&pipes(7, &tapped)), 3),
-        Ok((300, 4005))
-    );
+    let at = |joins: &[(usize, usize, u32)]| queries::find_at(&grown(&pipes(7, joins)), 3);
+    assert_eq!(at(&line), Ok(found(0, 3, 321, 4005)));
+    assert_eq!(at(&tapped), Ok(found(2, 3, 300, 4005)));
 }
 
 #[test]
@@ -293,7 +300,7 @@ fn merging_keeps_the_tags_of_more_couplings() {
     let tags = [16_383, 16_384, 16_385, 0, 0, 16_381, 16_382];
     assert_eq!(house.tags(), tags);
     assert_eq!(house.re_hung(), 1);
-    assert_eq!(queries::reach(&house, 5), Ok((1, 5)));
+    assert_eq!(queries::find_at(&house, 5), Ok(found(0, 5, 1, 5)));
 }
 
 #[test]

@@ -1,4 +1,4 @@
--- Find and reach over the tables answer what the definitions answer.
+-- Find over the tables answers what the definitions answer.
 use mathlib.Core.Path.{_≡_, refl, sym, ap, _∙_, subst}
 use mathlib.Core.Logic.{_≢_}
 use Prim.Native.Nat.{ℕ, _+_, _*_, _≤_, _<_}
@@ -13,16 +13,16 @@ use Rattle.model.specs.Basics.{if_then_else_, maxVertices, sum}
 use Rattle.model.specs.Graph.{Edge, afterOf, chainLength, degree, endOf, endOnwards, far, isRegular, lengthAt, lengthsOf, lowerNumbered, edgeOnRing, onwards, onceRound, turn}
 use Rattle.model.specs.Labels.{vertexOnRing}
 use Rattle.model.specs.Distance.{lengthVia}
-use Rattle.model.specs.Register.{Register, lowEdgeOf}
-use Rattle.model.specs.Queries.{Reply, chainAt, find, lengthTo, reach, reached, refuses}
+use Rattle.model.specs.Register.{Register, labelOf, lowEdgeOf}
+use Rattle.model.specs.Queries.{Reply, chainAt, find, findAt, found, foundAt, lengthTo}
 use Rattle.model.specs.Tables.{Tables, countsOf, tablesOf}
 use Rattle.model.specs.Notions.{Reachable}
 use Rattle.tables.specs.Steps.{sum32}
 use Rattle.tables.proofs.Sums.{sum32-is}
-use Rattle.model.specs.Newest.{Searched, replyOf, search}
+use Rattle.model.specs.Newest.{Searched, search}
 use Rattle.chains.specs.Chains.{WalkEnd}
 use Rattle.chains.specs.Newest.{Sought, searchIn}
-use Rattle.chains.specs.Finding.{endToIn, findIn, lengthToIn, reachIn, wayIn}
+use Rattle.chains.specs.Finding.{endToIn, findAtIn, findIn, foundAtIn, lengthToIn, wayIn}
 use Rattle.model.proofs.Walks.Degree.{is-two, two-is}
 use Rattle.model.proofs.Walks.Turn.{At, Turned, turned, two-edges}
 use Rattle.model.proofs.Walks.Trail.{afters}
@@ -32,7 +32,8 @@ use Rattle.model.proofs.Chains.Partition.{chain-has}
 use Rattle.model.proofs.Chains.Reaches.{along, one-length, ring-length}
 use Rattle.model.proofs.Registers.Founded.{regular-landed}
 use Rattle.model.proofs.Registers.Labelled.{label-facts}
-use Rattle.model.proofs.Registers.Newest.{search-finds}
+use Rattle.model.proofs.Registers.Answers.{find-own}
+use Rattle.model.proofs.Registers.Newest.{search-none}
 use Rattle.model.proofs.Registers.Small.{chains-small, reaches-small}
 use Rattle.agreement.proofs.Lists.{PairAt}
 use Rattle.agreement.proofs.Tables.{degrees-read, far-is, sides-linked}
@@ -47,7 +48,7 @@ sides-are : (r : Register) → Reachable r → (v : ℕ) → v < maxVertices →
     → PairAt ((tablesOf r) .sides) v (lowEdgeOf r v) (turn (r .edges) (lowEdgeOf r v) v)
 sides-are r g v h two = sides-linked r g v h .regular two
 
--- ---- reach
+-- ---- the two ways from a vertex
 
 abbrev wayOver : Tables → ℕ → ℕ → ℕ → WalkEnd
 wayOver t = wayIn (t .degrees) (t .sides) (t .ends) (t .lengths)
@@ -104,9 +105,26 @@ module _ (r : Register) (g : Reachable r) (d v : ℕ) (a : At (r .edges) v d) wh
       rw (length-is-sum, round-open es₁ (proper r g) d v a f)
       (sum32-is (lengthAt es₁ d) (along es₁ d (far es₁ d v)) (omega (arith, reaches-small r g d v a f)))
 
-pub reach-agrees : (r : Register) → Reachable r → (v : ℕ) → reachIn (tablesOf r) (countsOf r) v ≡ reach r v
-unfolding reachIn reach countsOf isRegular vertexOnRing
-reach-agrees r g v = below (ltb v (r .vertices)) refl
+-- the chain of a regular vertex, by its edge on the low side
+chain-found : (r : Register) → Reachable r → (v : ℕ) → v < maxVertices → degree (r .edges) v ≡ 2
+    → nameOver (tablesOf r) (length (r .edges)) (getD ((tablesOf r) .sides) (2 * v) 0) ≡ chainAt r v
+unfolding chainAt
+chain-found r g v h two =
+    let es : List Edge = r .edges in
+    let low : ℕ = lowEdgeOf r v in
+    let a : At es v low = low-at r g v two in
+    rw ((sides-are r g v h two) .0)
+    (name-agrees r g low (a .inside) ∙ one-name r g v low (lowerNumbered es v) (two-is es v two) a (lower-at es (proper r g) v (two-is es v two)))
+
+-- ---- what is told of a vertex
+
+found-agrees : (r : Register) → Reachable r → (v : ℕ) → isRegular (r .edges) v ≡ true → foundAtIn (tablesOf r) (countsOf r) v ≡ foundAt r v
+unfolding foundAtIn foundAt countsOf vertexOnRing
+found-agrees r g v c =
+    let h : v < maxVertices = omega (arith, regular-landed r (founded r g) v c, few r g) in
+    let two : degree (r .edges) v ≡ 2 = is-two (r .edges) v c in
+    let k = sides-are r g v h two in
+    rw (chain-found r g v h two, k .0, k .1) (ways two (vertexOnRing (r .edges) v) refl)
   where
     es : List Edge
     es = r .edges
@@ -121,11 +139,11 @@ reach-agrees r g v = below (ltb v (r .vertices)) refl
     high = turn es low v
 
     Ways : Reply
-    Ways = if eqb (getD (t .degrees) (endOver t (length es) low v) 0) 2 then reached 0 (lengthOver t (length es) low v)
-        else reached (lengthOver t (length es) low v) (lengthOver t (length es) high v)
+    Ways = if eqb (getD (t .degrees) (endOver t (length es) low v) 0) 2 then found (chainAt r v) v 0 (lengthOver t (length es) low v)
+        else found (chainAt r v) v (lengthOver t (length es) low v) (lengthOver t (length es) high v)
 
     ways : degree es v ≡ 2 → (b : Bool) → vertexOnRing es v ≡ b
-        → Ways ≡ (if vertexOnRing es v then reached 0 (chainLength es (lowerNumbered es v)) else reached (lengthTo es low v) (lengthTo es high v))
+        → Ways ≡ (if vertexOnRing es v then found (chainAt r v) v 0 (chainLength es (lowerNumbered es v)) else found (chainAt r v) v (lengthTo es low v) (lengthTo es high v))
     ways two true e =
         let at-low : At es v low = low-at r g v two in
         let at-lower : At es v (lowerNumbered es v) = lower-at es (proper r g) v (two-is es v two) in
@@ -140,38 +158,10 @@ reach-agrees r g v = below (ltb v (r .vertices)) refl
         let p : edgeOnRing es high ≡ false = ring-neither es (proper r g) (lowerNumbered es v) high v (two-is es v two) at-lower (x .at) e in
         rw (ne-eqb _ _ (open-other r g low v at-low q), e, open-way r g low v at-low q, open-way r g high v (x .at) p)
 
-    regular : (b : Bool) → v < r .vertices → eqb (degree es v) 2 ≡ b
-        → (if not (eqb (getD (t .degrees) v 0) 2) then refuses 8
-        else if eqb (getD (t .degrees) (endOver t (length es) (getD (t .sides) (2 * v) 0) v) 0) 2 then reached 0 (lengthOver t (length es) (getD (t .sides) (2 * v) 0) v)
-        else reached (lengthOver t (length es) (getD (t .sides) (2 * v) 0) v) (lengthOver t (length es) (getD (t .sides) (2 * v + 1) 0) v))
-        ≡ (if not (eqb (degree es v) 2) then refuses 8
-        else if vertexOnRing es v then reached 0 (chainLength es (lowerNumbered es v)) else reached (lengthTo es low v) (lengthTo es high v))
-    regular false l e = rw (degrees-read r v (omega (arith, few r g)), e)
-    regular true l e =
-        let h : v < maxVertices = omega (arith, few r g) in
-        let two : degree es v ≡ 2 = eqb-true _ _ e in
-        let k = sides-are r g v h two in
-        rw (degrees-read r v h, e, k .0, k .1) (ways two (vertexOnRing es v) refl)
-
-    below : (b : Bool) → ltb v (r .vertices) ≡ b → reachIn (tablesOf r) (countsOf r) v ≡ reach r v
-    below false e = rw e
-    below true e = rw e (regular (eqb (degree es v) 2) (ltb-true _ _ e) refl)
-
 -- ---- find
 
--- the chain of a regular vertex, by its edge on the low side
-chain-found : (r : Register) → Reachable r → (v : ℕ) → v < maxVertices → degree (r .edges) v ≡ 2
-    → nameOver (tablesOf r) (length (r .edges)) (getD ((tablesOf r) .sides) (2 * v) 0) ≡ chainAt r v
-unfolding chainAt
-chain-found r g v h two =
-    let es : List Edge = r .edges in
-    let low : ℕ = lowEdgeOf r v in
-    let a : At es v low = low-at r g v two in
-    rw ((sides-are r g v h two) .0)
-    (name-agrees r g low (a .inside) ∙ one-name r g v low (lowerNumbered es v) (two-is es v two) a (lower-at es (proper r g) v (two-is es v two)))
-
 pub find-agrees : (r : Register) → Reachable r → (label : ℕ) (tree : List ℕ) → 2 * maxVertices ≤ length tree → findIn (tablesOf r) (countsOf r) tree label ≡ find r label
-unfolding findIn countsOf replyOf
+unfolding findIn countsOf
 find-agrees r g label tree l = go (s .wearer) refl (a .wearer-is)
   where
     t : Tables
@@ -180,15 +170,17 @@ find-agrees r g label tree l = go (s .wearer) refl (a .wearer-is)
     s : Sought
     s = searchIn ((tablesOf r) .degrees) ((tablesOf r) .sides) ((tablesOf r) .ends) ((tablesOf r) .labels) (r .vertices) (length (r .edges)) label tree
 
-    a : Agrees r g s (search r label)
+    a : Agrees r g label s (search r label)
     a = search-agrees r g label tree (omega (arith, few r g))
 
-    go : (o : Option ℕ) → s .wearer ≡ o → Wearer r g (s .wearer) ((search r label) .holder) → findIn (tablesOf r) (countsOf r) tree label ≡ find r label
+    go : (o : Option ℕ) → s .wearer ≡ o → Wearer r g label (s .wearer) ((search r label) .holder) → findIn (tablesOf r) (countsOf r) tree label ≡ find r label
     go none e w =
         let h : (search r label) .holder ≡ none = rw e at w in
-        rw (e, findIn) (sym (search-finds r (founded r g) (label-facts r g) label ∙ ap replyOf h))
+        rw (e, findIn) (sym (search-none r (founded r g) (label-facts r g) label h))
     go (some v) e w =
-        let h : (isRegular (r .edges) v ≡ true) × ((search r label) .holder ≡ some (chainAt r v)) = subst (λ (o : Option ℕ). Wearer r g o ((search r label) .holder)) e w in
-        let two : degree (r .edges) v ≡ 2 = is-two (r .edges) v (h .0) in
-        rw (e, findIn, chain-found r g v (omega (arith, regular-landed r (founded r g) v (h .0), few r g)) two)
-        (sym (search-finds r (founded r g) (label-facts r g) label ∙ ap replyOf (h .1)))
+        let h : (isRegular (r .edges) v ≡ true) × ((labelOf r v ≡ label) × ((search r label) .holder ≡ some (chainAt r v))) = subst (λ (o : Option ℕ). Wearer r g label o ((search r label) .holder)) e w in
+        rw (e, findIn) (found-agrees r g v (h .0) ∙ sym (find-own r (founded r g) (label-facts r g) v (h .0)) ∙ ap (find r) (h .1 .0))
+
+pub find-at-agrees : (r : Register) → Reachable r → (v : ℕ) (tree : List ℕ) → 2 * maxVertices ≤ length tree → findAtIn (tablesOf r) (countsOf r) tree v ≡ findAt r v
+unfolding findAtIn findAt tablesOf
+find-at-agrees r g v tree l = find-agrees r g (labelOf r v) tree l

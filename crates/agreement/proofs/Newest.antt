@@ -501,14 +501,14 @@ module _ (r : Register) (g : Reachable r) where
 
   -- ---- one taken after the other
 
-  -- nobody, or a regular vertex of the chain or ring that is named
-  abbrev pub Wearer : Option ℕ → Option ℕ → Type 0
-  Wearer none o = o ≡ none
-  Wearer (some v) o = (isRegular es₁ v ≡ true) × (o ≡ some (chainAt r v))
+  -- nobody, or a regular vertex of the chain or ring that is named, which wears the label
+  abbrev pub Wearer : ℕ → Option ℕ → Option ℕ → Type 0
+  Wearer label none o = o ≡ none
+  Wearer label (some v) o = (isRegular es₁ v ≡ true) × ((labelOf r v ≡ label) × (o ≡ some (chainAt r v)))
 
-  pub record Agrees (s : Sought) (q : Searched) : Type 0 where
+  pub record Agrees (label : ℕ) (s : Sought) (q : Searched) : Type 0 where
     pub taken-is : s .taken ≡ q .taken
-    pub wearer-is : Wearer (s .wearer) (q .holder)
+    pub wearer-is : Wearer label (s .wearer) (q .holder)
 
   module _ (label : ℕ) (some-vertex : 1 ≤ n) where
     abbrev takeOver : ℕ → List ℕ → Sought
@@ -558,15 +558,16 @@ module _ (r : Register) (g : Reachable r) where
     unfolding searchAmong
     among-next d ds e = rw (e, searchAmong)
 
-    agrees-none : (s : Sought) (q : Searched) → s ≡ sought none 0 → q ≡ record { holder = none; taken = 0 } → Agrees s q
+    agrees-none : (s : Sought) (q : Searched) → s ≡ sought none 0 → q ≡ record { holder = none; taken = 0 } → Agrees label s q
     agrees-none s q a b = rw (a, b) (record { taken-is = refl; wearer-is = refl })
 
-    agrees-after : (s : Sought) (q : Searched) → Agrees s q → Agrees (soughtAfter 1 s) (record { holder = q .holder; taken = suc (q .taken) })
+    agrees-after : (s : Sought) (q : Searched) → Agrees label s q → Agrees label (soughtAfter 1 s) (record { holder = q .holder; taken = suc (q .taken) })
     unfolding soughtAfter
     agrees-after s q a = record { taken-is = omega (arith, a .taken-is); wearer-is = a .wearer-is }
 
     -- the label is on the chain exactly if the walk meets it
-    walk-finds : (tree : List ℕ) (d : ℕ) (t : Top tree d) (w : ℕ) → holderOver (t .vertex) ≡ some w → (isRegular es₁ w ≡ true) × ((chainAt r w ≡ d) × (has label (innerLabels r d) ≡ true))
+    walk-finds : (tree : List ℕ) (d : ℕ) (t : Top tree d) (w : ℕ) → holderOver (t .vertex) ≡ some w
+        → (isRegular es₁ w ≡ true) × ((labelOf r w ≡ label) × ((chainAt r w ≡ d) × (has label (innerLabels r d) ≡ true)))
     unfolding innerLabels
     walk-finds tree d t w e =
         let v : ℕ = t .vertex in
@@ -575,7 +576,7 @@ module _ (r : Register) (g : Reachable r) where
         let o : OwnChain es₁ v (chainAt r v) = own v (t .regular) in
         let c : chainAt r v ≡ chainAt r w = own-is r (proper r g) (chainAt r v) w (o .inside) (o .names) m in
         let l : Mem label (innerLabels r (chainAt r v)) = rw (← k .1 .1) (Memᴰ·map (labelOf r) m) in
-        (k .1 .0, (sym c ∙ t .chain-is, rw (← t .chain-is) (mem-has label (innerLabels r (chainAt r v)) l)))
+        (k .1 .0, (k .1 .1, (sym c ∙ t .chain-is, rw (← t .chain-is) (mem-has label (innerLabels r (chainAt r v)) l))))
 
     walk-misses : (tree : List ℕ) (d : ℕ) (t : Top tree d) → holderOver (t .vertex) ≡ none → has label (innerLabels r d) ≡ false
     unfolding innerLabels
@@ -594,7 +595,7 @@ module _ (r : Register) (g : Reachable r) where
             (t .visits .all (o .0) (from-own v (t .regular) (o .0) m))
             (inner-regular r (proper r g) (chainAt r v) (o .0) (own-v .inside) m) (o .2))
 
-    takes : (k : ℕ) (tree ds : List ℕ) → length ds ≤ k → Falling r ds → ((d : ℕ) → Mem d ds → Taken r d) → Stand tree ds → Agrees (takeOver k tree) (searchAmong r label ds)
+    takes : (k : ℕ) (tree ds : List ℕ) → length ds ≤ k → Falling r ds → ((d : ℕ) → Mem d ds → Taken r d) → Stand tree ds → Agrees label (takeOver k tree) (searchAmong r label ds)
     takes zero tree [] h f k s = agrees-none _ _ (take-zero tree) among-nobody
     takes zero tree (d ∷ ds) h f k s = absurd (omega arith)
     takes (suc j) tree [] h f k s = agrees-none _ _ (take-nobody j tree (nobody-left tree some-vertex s)) among-nobody
@@ -603,12 +604,12 @@ module _ (r : Register) (g : Reachable r) where
         go t (holderOver (t .vertex)) refl
         (takes j (withoutIn (t₁ .labels) n tree (t .vertex)) ds (omega arith) (f .1) (λ c m. k c (in-tail m)) (next tree some-vertex d ds f t s))
       where
-        go : (t : Top tree d) (o : Option ℕ) → holderOver (t .vertex) ≡ o → Agrees (takeOver j (withoutIn (t₁ .labels) n tree (t .vertex))) (searchAmong r label ds)
-            → Agrees (takeOver (suc j) tree) (searchAmong r label (d ∷ ds))
+        go : (t : Top tree d) (o : Option ℕ) → holderOver (t .vertex) ≡ o → Agrees label (takeOver j (withoutIn (t₁ .labels) n tree (t .vertex))) (searchAmong r label ds)
+            → Agrees label (takeOver (suc j) tree) (searchAmong r label (d ∷ ds))
         go t (some w) e ih =
             let q = walk-finds tree d t w e in
-            rw (take-some j tree (t .vertex) (t .first-is) w e, among-held d ds (q .1 .1))
-            (record { taken-is = refl; wearer-is = (q .0, ap some (sym (q .1 .0))) })
+            rw (take-some j tree (t .vertex) (t .first-is) w e, among-held d ds (q .1 .1 .1))
+            (record { taken-is = refl; wearer-is = (q .0, (q .1 .0, ap some (sym (q .1 .1 .0)))) })
         go t none e ih = rw (take-none j tree (t .vertex) (t .first-is) e, among-next d ds (walk-misses tree d t e)) (agrees-after _ _ ih)
 
     planted : (tree : List ℕ) → 2 * n ≤ length tree → Stand (plantedIn (t₁ .sides) (t₁ .ends) (t₁ .labels) n tree) (newest r (founded r g) facts)
@@ -624,12 +625,12 @@ module _ (r : Register) (g : Reachable r) where
         }
 
   pub search-agrees : (label : ℕ) (tree : List ℕ) → 2 * n ≤ length tree
-      → Agrees (searchIn (t₁ .degrees) (t₁ .sides) (t₁ .ends) (t₁ .labels) n (length es₁) label tree) (search r label)
+      → Agrees label (searchIn (t₁ .degrees) (t₁ .sides) (t₁ .ends) (t₁ .labels) n (length es₁) label tree) (search r label)
   unfolding searchIn search takeIn searchAmong
   search-agrees label tree l = go (length es₁) refl
     where
       go : (m : ℕ) → length es₁ ≡ m
-          → Agrees (takeIn (t₁ .degrees) (t₁ .sides) (t₁ .ends) (t₁ .labels) n (length es₁) label (length es₁) (plantedIn (t₁ .sides) (t₁ .ends) (t₁ .labels) n tree)) (searchAmong r label (newest r (founded r g) facts))
+          → Agrees label (takeIn (t₁ .degrees) (t₁ .sides) (t₁ .ends) (t₁ .labels) n (length es₁) label (length es₁) (plantedIn (t₁ .sides) (t₁ .ends) (t₁ .labels) n tree)) (searchAmong r label (newest r (founded r g) facts))
       go zero e = empty-house e
         where
           none-there : newest r (founded r g) facts ≡ []
@@ -642,7 +643,7 @@ module _ (r : Register) (g : Reachable r) where
           no-fuel : (m : ℕ) → m ≡ 0 → (tree : List ℕ) → takeIn (t₁ .degrees) (t₁ .sides) (t₁ .ends) (t₁ .labels) n (length es₁) label m tree ≡ sought none 0
           no-fuel m q tree = rw q refl
 
-          empty-house : length es₁ ≡ 0 → Agrees (takeIn (t₁ .degrees) (t₁ .sides) (t₁ .ends) (t₁ .labels) n (length es₁) label (length es₁) (plantedIn (t₁ .sides) (t₁ .ends) (t₁ .labels) n tree)) (searchAmong r label (newest r (founded r g) facts))
+          empty-house : length es₁ ≡ 0 → Agrees label (takeIn (t₁ .degrees) (t₁ .sides) (t₁ .ends) (t₁ .labels) n (length es₁) label (length es₁) (plantedIn (t₁ .sides) (t₁ .ends) (t₁ .labels) n tree)) (searchAmong r label (newest r (founded r g) facts))
           empty-house q = rw (no-fuel (length es₁) q (plantedIn (t₁ .sides) (t₁ .ends) (t₁ .labels) n tree), none-there) (record { taken-is = refl; wearer-is = refl })
       go (suc m) e =
           let one : 1 ≤ n = omega (arith, lawful r g 0 (omega arith) .first-landed) in

@@ -16,17 +16,17 @@ use denote.Triple.Entry.{Args, Res}
 use denote.Triple.Clauses.{AtExit, ClausesAt, Ended}
 use Rattle.model.specs.Queries.{Reply}
 use Rattle.model.specs.Tables.{Tables}
-use Rattle.model.specs.Calls.{Call, finds, grows, lands, measures, reaches, sheets, step, writes}
+use Rattle.model.specs.Calls.{Call, finds, findsAt, grows, lands, measures, sheets, step, writes}
 use Rattle.counters.specs.declared.counts.Counts.{Counts}
 use Rattle.counters.specs.declared.answers.ListAnswer.{ListAnswer}
 use Rattle.counters.specs.Answers.{asCounts, listReply}
 use Rattle.tables.specs.Meaning.{tables}
 use Rattle.admission.specs.Lent.{lent, outcome}
-use Rattle.questions.specs.Meaning.{foundReply, listedReply, measuredReply, reachedReply, writtenReply}
+use Rattle.questions.specs.Meaning.{foundReply, listedReply, measuredReply, writtenReply}
 use Rattle.calls.proofs.grow.grow as grow
 use Rattle.calls.proofs.land.land as land
 use Rattle.calls.proofs.find.find as find
-use Rattle.calls.proofs.reach.reach as reach
+use Rattle.calls.proofs.find.find_at as find-at
 use Rattle.calls.proofs.sheet.sheet as sheet
 use Rattle.calls.proofs.write.write as write
 use Rattle.calls.proofs.distance.distance as distance
@@ -75,9 +75,9 @@ module _ {M : Type 1} (𝓤 : URA M) (H : Heap 𝓤) (A : Atoms 𝓤) (mem : Mem
       → find.clauses 𝓤 H A mem run κs a ≡ Ensures find.ended κs (λ r z. Steps a z [] (foundReply r) (finds (own a .0 .0)))
   find-steps κs a = refl
 
-  pub reach-steps : (κs : Lfts 12) (a : Args reach.signature κs)
-      → reach.clauses 𝓤 H A mem run κs a ≡ Ensures reach.ended κs (λ r z. Steps a z [] (reachedReply r) (reaches (own a .0 .0)))
-  reach-steps κs a = refl
+  pub find-at-steps : (κs : Lfts 12) (a : Args find-at.signature κs)
+      → find-at.clauses 𝓤 H A mem run κs a ≡ Ensures find-at.ended κs (λ r z. Steps a z [] (foundReply r) (findsAt (own a .0 .0)))
+  find-at-steps κs a = refl
 
   pub sheet-steps : (κs : Lfts 13) (a : Args sheet.signature κs)
       → sheet.clauses 𝓤 H A mem run κs a ≡ Ensures sheet.ended κs (λ r z. Steps a z (now (own z .0)) (listedReply r) (sheets (now (own a .0))))

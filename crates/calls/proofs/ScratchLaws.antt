@@ -8,7 +8,7 @@ use lib.ListN.{length, replicate, length-replicate}
 use Rattle.model.specs.Basics.{maxVertices}
 use Rattle.model.specs.Queries.{Reply}
 use Rattle.model.specs.Tables.{Tables, Counts, cleared}
-use Rattle.model.specs.Calls.{finds, sheets, scratchAfter, step}
+use Rattle.model.specs.Calls.{Call, sheets, scratchAfter, step}
 use Rattle.model.proofs.Series.Calls.{scratch-cleared}
 use Rattle.tables.specs.Meaning.{tables}
 use Rattle.admission.specs.Lent.{lent, outcome}
@@ -36,14 +36,15 @@ module _ (t : Tables) (c : Counts) (s g : Tables) (h : none ≡ barred (lent t c
   again : (xs : List ℕ) (n : ℕ) → xs ≡ replicate n 0 → replicate (length xs) 0 ≡ xs
   again xs n q = rw (q, length-replicate)
 
-  pub find-answered : (tree : List ℕ) (label : ℕ) (a : Reply) → (2 * maxVertices ≤ length (g .sides) → Answers (finds label) t c [] a)
+  -- by a label or by a vertex
+  pub find-answered : (q : Call) (tree : List ℕ) (a : Reply) → (2 * maxVertices ≤ length (g .sides) → Answers q t c [] a)
       → tree ≡ replicate (length (g .sides)) 0
-      → outcome t c (tables (g .degrees) tree (g .ends) (g .lengths) (g .volumes) (g .labels)) [] a ≡ step (finds label) (lent t c s)
-  find-answered tree label a f n =
+      → outcome t c (tables (g .degrees) tree (g .ends) (g .lengths) (g .volumes) (g .labels)) [] a ≡ step q (lent t c s)
+  find-answered q tree a f n =
       let n′ : tree ≡ g .sides = n ∙ again (g .sides) (2 * maxVertices) sides-are in
       let u : tables (g .degrees) tree (g .ends) (g .lengths) (g .volumes) (g .labels) ≡ g = rw n′ in
       let l : 2 * maxVertices ≤ length (g .sides) = rw (sides-are, length-replicate) (omega arith) in
-      query-answered (finds label) (lent t c s) _ [] a h (u ∙ e) (f l)
+      query-answered q (lent t c s) _ [] a h (u ∙ e) (f l)
 
   pub sheet-answered : (counting marks xs ys : List ℕ) (a : Reply) → answered ys a ≡ sheetedIn t c (g .degrees) (g .sides) xs
       → counting ≡ replicate (length (g .degrees)) 0 → marks ≡ replicate (length (g .sides)) 0

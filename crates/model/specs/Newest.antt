@@ -8,7 +8,7 @@ use lib.Dec.{eqb, ltb}
 use Rattle.model.specs.Basics.{least, upTo}
 use Rattle.model.specs.Graph.{chainOf, nameOf}
 use Rattle.model.specs.Register.{Register, labelOf}
-use Rattle.model.specs.Queries.{Reply, found, refuses}
+use Rattle.model.specs.Queries.{Reply, read, found, measured, listed, wrote, refuses}
 
 -- the labels on the chain or ring named d
 unfoldable pub innerLabels : Register → ℕ → List ℕ
@@ -61,7 +61,11 @@ searchAmong r label (d ∷ ds) =
 unfoldable pub search : Register → ℕ → Searched
 search r label = searchAmong r label (newestFirst r (upTo (length (r .edges))))
 
--- what find answers where this is the holder: "every find gives the answer it gave before" (`search-finds` in theorem 3)
-unfoldable pub replyOf : Option ℕ → Reply
-replyOf (some d) = found d
-replyOf none = refuses 8
+-- the chain or ring that a reply names: "every find gives the answer it gave before", so this is the holder (`search-finds` in theorem 3)
+unfoldable pub chainIn : Reply → Option ℕ
+chainIn (read s) = none
+chainIn (found name v low high) = some name
+chainIn (measured l) = none
+chainIn (listed n) = none
+chainIn (wrote n) = none
+chainIn (refuses n) = none

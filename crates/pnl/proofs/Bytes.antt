@@ -51,6 +51,7 @@ module _ (slice ns : List ℕ) (k : ℕ) (n : k ≡ 4 * length ns) where
       let l : length (bytesOf ns) ≤ length slice = omega arith in
       rw (le-ltb (length slice) (length (bytesOf ns)) l, write-front (bytesOf ns) slice after at l e, f, m)
 
--- one number, by another name
-pub one-number : (slice : List ℕ) (m n : ℕ) (z : Returned) → m ≡ n → z ≡ returnsNumbers slice (m ∷ []) → z ≡ returnsNumbers slice (n ∷ [])
-one-number slice m n z e q = rw (← e) q
+-- four numbers, of which the first two have other names
+pub four-numbers : (slice : List ℕ) (m n k l x y : ℕ) (z : Returned) → m ≡ n → k ≡ l → z ≡ returnsNumbers slice (m ∷ k ∷ x ∷ y ∷ [])
+    → z ≡ returnsNumbers slice (n ∷ l ∷ x ∷ y ∷ [])
+four-numbers slice m n k l x y z e f q = rw (← e, ← f) q

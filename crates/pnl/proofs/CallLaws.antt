@@ -9,16 +9,15 @@ use Rattle.model.specs.Basics.{maxEdges, maxVertices}
 use Rattle.model.specs.Register.{Register}
 use Rattle.model.specs.Format.{Stop, whole, stopped, growList}
 use Rattle.model.specs.FromC.{Returned, fromC, returnsNumbers, returnsRefusal, returnsReply}
-use Rattle.model.specs.Queries.{Reply, listed, find, reach, measure, sheet, sheetNumbers, concat}
+use Rattle.model.specs.Queries.{Reply, listed, find, measure, sheet, sheetNumbers, concat}
 use Rattle.model.specs.Calls.{Effect, answer, answers, effect}
 use Rattle.model.specs.Tables.{Tables, Counts, cleared, noCounts, storedOf}
 use Rattle.model.specs.Notions.{HeldOf}
 use Rattle.model.proofs.Registers.OnlyHeld.{held-counts, held-tables}
 use Rattle.model.proofs.Series.Landings.{reachable-grown}
 use Rattle.tables.specs.Meaning.{stored, tables}
-use Rattle.chains.specs.Finding.{findIn, reachIn}
+use Rattle.chains.specs.Finding.{findIn}
 use Rattle.agreement.proofs.Sheeting.{sheet-agrees, sheetOver}
-use Rattle.agreement.proofs.Finding.{reach-agrees}
 use Rattle.landing.specs.Records.{ReadingIn, readingIn, landListIn}
 use Rattle.landing.proofs.ListAgrees.{shownRead}
 use Rattle.landing.proofs.Growing.{list-leaves}
@@ -54,7 +53,7 @@ module _ (bs : List ℕ) (t : Tables) (c : Counts) (s : Stop) (e : readingIn t c
   unfolding fromC
   call-answers question slice z f all = rw (sym left-stop ∙ f, fromC) (all ((growList bs) .register) left-register)
 
--- ---- the four queries
+-- ---- the queries
 
 module _ (d s e l u lb : List ℕ) (c : Counts) (r : Register) (h : HeldOf (stored (tables d s e l u lb) c) r) (slice : List ℕ) (z : Returned) where
   pub sheet-question : z ≡ returnsNumbers slice (concat (sheetOver (tables d s e l u lb) (c .edges) maxEdges)) → z ≡ returnsReply r slice (listed (length (sheet r)))
@@ -70,11 +69,6 @@ module _ (d s e l u lb : List ℕ) (c : Counts) (r : Register) (h : HeldOf (stor
       let room : 2 * maxVertices ≤ length (replicate {A = ℕ} (2 * maxVertices) 0) = rw length-replicate (omega arith) in
       let k = find-answers (tables d s e l u lb) c (replicate (2 * maxVertices) 0) label a room p r h in
       q ∙ ap (returnsReply r slice) (ap (λ (x : Effect). x .reply) (sym k))
-
-  pub reach-question : (v : ℕ) (a : Reply) → a ≡ reachIn (tables d s e l u lb) c v → z ≡ returnsReply r slice a → z ≡ returnsReply r slice (reach r v)
-  reach-question v a p q =
-      let k : reachIn (tables d s e l u lb) c v ≡ reach r v = rw (held-tables h, held-counts h) at (reach-agrees r (h .reachable) v) in
-      q ∙ ap (returnsReply r slice) (p ∙ k)
 
   pub distance-question : (v w : ℕ) (a : Reply) → a ≡ measureIn (tables d s e l u lb) c v w → z ≡ returnsReply r slice a
       → z ≡ returnsReply r slice (measure r v w)

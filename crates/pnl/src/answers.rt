@@ -3,7 +3,6 @@ use chains::numbers::wide;
 use counters::refusals::Refusal;
 use questions::find::FoundChain;
 use questions::measure::Measured;
-use questions::reach::Reached;
 use search::shortest::Distance;
 use tables::access::at32;
 use text::bytes::put_word;
@@ -14,7 +13,7 @@ ghost use lib.ListN.{length};
 ghost use Rattle.model.specs.Register.{Register};
 ghost use Rattle.model.specs.FromC.{bytesOf, returnsNumbers, returnsReply};
 ghost use Rattle.counters.specs.Refusals.{numberOf};
-ghost use Rattle.questions.specs.Meaning.{foundReply, measuredReply, reachedReply};
+ghost use Rattle.questions.specs.Meaning.{foundReply, measuredReply};
 ghost use Rattle.text.specs.Pages.{page, write};
 ghost use Rattle.pnl.specs.FromC.{returned};
 
@@ -45,9 +44,9 @@ pub fn put_words(out: &mut [u8], at: usize, numbers: &[u32]) -> usize
     next
 }
 
-// One or two numbers, or 9 where the slice has no room for all of them.
+// One or four numbers, or 9 where the slice has no room for all of them.
 fn answer_numbers(answer: &mut [u8], numbers: &[u32]) -> i32
-    requires { ⌜ length (now numbers) ≤ 2 ⌝ }
+    requires { ⌜ length (now numbers) ≤ 4 ⌝ }
     ensures { λ r. ⌜ returned (now (answer .exit)) r ≡ returnsNumbers (now (answer .entry)) (now (numbers .entry)) ⌝ }
 {
     let size = 4 * numbers.len();
@@ -62,17 +61,12 @@ pub fn answer_found(answer: &mut [u8], found: FoundChain) -> i32
     ensures { λ r. ⌜ ((register : Register) → returned (now (answer .exit)) r ≡ returnsReply register (now (answer .entry)) (foundReply found)) ⌝ }
 {
     match found {
-        FoundChain::Chain(name) => answer_numbers(answer, &[wide(name.0)]),
+        FoundChain::Chain(name, vertex, low, high) => {
+            let run = wide(name.0);
+            let coupling = wide(vertex.0);
+            answer_numbers(answer, &[run, coupling, low.0, high.0])
+        }
         FoundChain::Refused(refusal) => refused(refusal),
-    }
-}
-
-pub fn answer_reached(answer: &mut [u8], reached: Reached) -> i32
-    ensures { λ r. ⌜ ((register : Register) → returned (now (answer .exit)) r ≡ returnsReply register (now (answer .entry)) (reachedReply reached)) ⌝ }
-{
-    match reached {
-        Reached::Lengths(low, high) => answer_numbers(answer, &[low.0, high.0]),
-        Reached::Refused(refusal) => refused(refusal),
     }
 }
 

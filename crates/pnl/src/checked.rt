@@ -1,4 +1,4 @@
-// Labels and vertices as C gives them, of 32 bits. A number above the largest vertex is never landed: refusal 5.
+// Labels and vertices as C gives them, of 32 bits. A number above the largest vertex is never landed: 8 for a find, 5 for a distance.
 use crate::distances::distance_in;
 use crate::finding::find_from;
 use counters::counts::Counts;
@@ -9,17 +9,19 @@ use counters::numbers::Vertex;
 use counters::refusals::Refusal;
 use questions::find::FoundChain;
 use questions::measure::Measured;
-use questions::reach::Reached;
-use questions::reach::reach_in;
+use tables::kinds::label_of;
 ghost use mathlib.Core.Path.{_≡_};
 ghost use mathlib.Core.List.{List};
-ghost use Prim.Native.Nat.{ℕ, _*_, _≤_};
+ghost use Prim.Native.Nat.{ℕ, _*_};
 ghost use lib.ListN.{replicate};
 ghost use Rattle.model.specs.Basics.{maxVertices};
+ghost use Rattle.model.specs.Register.{Register};
+ghost use Rattle.model.specs.Queries.{findAt};
+ghost use Rattle.model.specs.Notions.{HeldOf};
 ghost use Rattle.counters.specs.Answers.{asCounts};
-ghost use Rattle.tables.specs.Meaning.{tables};
-ghost use Rattle.chains.specs.Finding.{findIn, reachIn};
-ghost use Rattle.questions.specs.Meaning.{foundReply, measuredReply, reachedReply};
+ghost use Rattle.tables.specs.Meaning.{stored, tables};
+ghost use Rattle.chains.specs.Finding.{findIn};
+ghost use Rattle.questions.specs.Meaning.{foundReply, measuredReply};
 ghost use Rattle.questions.specs.Measure.{Measurable, measureIn};
 
 // Every number of 32 bits is a label.
@@ -27,37 +29,43 @@ pub fn find_checked(
     degrees: &[u16],
     sides: &[u16],
     ends: &[u16],
+    lengths: &[u32],
     labels: &[u32],
     counts: Counts,
     label: u32,
 ) -> FoundChain
-    ensures { λ r. ⌜ ((lengths volumes : List ℕ) → foundReply r
-        ≡ findIn (tables (now (degrees .entry)) (now (sides .entry)) (now (ends .entry)) lengths volumes (now (labels .entry)))
+    ensures { λ r. ⌜ ((volumes : List ℕ) → foundReply r
+        ≡ findIn (tables (now (degrees .entry)) (now (sides .entry)) (now (ends .entry)) (now (lengths .entry)) volumes (now (labels .entry)))
         (asCounts counts) (replicate (2 * maxVertices) 0) label) ⌝ }
 {
     let checked = Label::new(label as u64);
     match checked {
-        CheckedLabel::Is(l) => find_from(degrees, sides, ends, labels, counts, l),
+        CheckedLabel::Is(l) => find_from(degrees, sides, ends, lengths, labels, counts, l),
         CheckedLabel::OutOfRange => FoundChain::Refused(Refusal::NotRegular),
     }
 }
 
-pub fn reach_checked(
+// Through the vertex's label. A number above the largest vertex has none, in whatever register.
+pub fn find_at_checked(
     degrees: &[u16],
     sides: &[u16],
     ends: &[u16],
     lengths: &[u32],
+    labels: &[u32],
     counts: Counts,
     vertex: u32,
-) -> Reached
-    requires { ⌜ counts .vertices ≤ maxVertices ⌝ }
-    ensures { λ r. ⌜ ((volumes labels : List ℕ) → reachedReply r
-        ≡ reachIn (tables (now (degrees .entry)) (now (sides .entry)) (now (ends .entry)) (now (lengths .entry)) volumes labels) (asCounts counts) vertex) ⌝ }
+) -> FoundChain
+    ensures { λ r. ⌜ ((volumes : List ℕ) (register : Register)
+        → HeldOf (stored (tables (now (degrees .entry)) (now (sides .entry)) (now (ends .entry)) (now (lengths .entry)) volumes (now (labels .entry))) (asCounts counts)) register
+        → foundReply r ≡ findAt register vertex) ⌝ }
 {
     let checked = Vertex::new(vertex);
     match checked {
-        CheckedVertex::Is(v) => reach_in(degrees, sides, ends, lengths, counts, v),
-        CheckedVertex::OutOfRange => Reached::Refused(Refusal::NotLanded),
+        CheckedVertex::Is(v) => {
+            let label = label_of(labels, v);
+            find_from(degrees, sides, ends, lengths, labels, counts, label)
+        }
+        CheckedVertex::OutOfRange => FoundChain::Refused(Refusal::NotRegular),
     }
 }
 

@@ -1,4 +1,4 @@
-// The chain of a label in a register.
+// What is found by a label in a register.
 use counters::counts::Counts;
 use counters::numbers::Label;
 use counters::sizes::SIDES;
@@ -19,14 +19,24 @@ pub fn find_from(
     degrees: &[u16],
     sides: &[u16],
     ends: &[u16],
+    lengths: &[u32],
     labels: &[u32],
     counts: Counts,
     label: Label,
 ) -> FoundChain
-    ensures { λ r. ⌜ ((lengths volumes : List ℕ) → foundReply r
-        ≡ findIn (tables (now (degrees .entry)) (now (sides .entry)) (now (ends .entry)) lengths volumes (now (labels .entry)))
+    ensures { λ r. ⌜ ((volumes : List ℕ) → foundReply r
+        ≡ findIn (tables (now (degrees .entry)) (now (sides .entry)) (now (ends .entry)) (now (lengths .entry)) volumes (now (labels .entry)))
         (asCounts counts) (replicate (2 * maxVertices) 0) (label .0)) ⌝ }
 {
     let mut tree = [0u16; SIDES];
-    find_in(degrees, sides, ends, labels, counts, &mut tree, label)
+    find_in(
+        degrees,
+        sides,
+        ends,
+        lengths,
+        labels,
+        counts,
+        &mut tree,
+        label,
+    )
 }

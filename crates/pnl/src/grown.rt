@@ -1,11 +1,10 @@
 // A list grown in arrays of its own, and the answer to a question about the register that it leaves.
 use crate::answers::answer_distance;
 use crate::answers::answer_found;
-use crate::answers::answer_reached;
 use crate::answers::refused;
+use crate::checked::find_at_checked;
 use crate::checked::find_checked;
 use crate::checked::measure_checked;
-use crate::checked::reach_checked;
 use crate::sheet::answer_sheet;
 use counters::answers::Stop;
 use counters::counts::Counts;
@@ -28,7 +27,7 @@ ghost use Rattle.pnl.specs.FromC.{returned};
 pub enum Question {
     Sheet,
     Find(u32),
-    Reach(u32),
+    FindAt(u32),
     Distance(u32, u32),
 }
 
@@ -60,12 +59,12 @@ fn answer_question(
             counts.edges,
         ),
         Question::Find(label) => {
-            let found = find_checked(degrees, sides, ends, labels, counts, label);
+            let found = find_checked(degrees, sides, ends, lengths, labels, counts, label);
             answer_found(answer, found)
         }
-        Question::Reach(vertex) => {
-            let reached = reach_checked(degrees, sides, ends, lengths, counts, vertex);
-            answer_reached(answer, reached)
+        Question::FindAt(vertex) => {
+            let found = find_at_checked(degrees, sides, ends, lengths, labels, counts, vertex);
+            answer_found(answer, found)
         }
         Question::Distance(from, to) => {
             let measured = measure_checked(ends, lengths, counts, from, to);

@@ -13,7 +13,7 @@ mod windows;
 use crate::grown::Question;
 use crate::grown::answer_call;
 ghost use mathlib.Core.Path.{_≡_};
-ghost use Rattle.model.specs.FromC.{cSheet, cFind, cReach, cDistance};
+ghost use Rattle.model.specs.FromC.{cSheet, cFind, cFindAt, cDistance};
 ghost use Rattle.pnl.specs.FromC.{returned};
 
 // Sheet: the runs and rings by rising name, six numbers each.
@@ -24,7 +24,8 @@ pub extern "C" fn pnl_sheet(list: &[u8], answer: &mut [u8]) -> i32
     answer_call(list, Question::Sheet, answer)
 }
 
-// Find: the name of the run or ring whose couplings include the tag.
+// Find: the run or ring whose couplings include the tag, the coupling that wears it, and the lengths from there to the run's low and high
+// end, in a ring 0 and its length: four numbers.
 #[no_mangle]
 pub extern "C" fn pnl_find(list: &[u8], tag: u32, answer: &mut [u8]) -> i32
     ensures { λ r. ⌜ returned (now (answer .exit)) r ≡ cFind (now (list .entry)) tag (now (answer .entry)) ⌝ }
@@ -32,12 +33,12 @@ pub extern "C" fn pnl_find(list: &[u8], tag: u32, answer: &mut [u8]) -> i32
     answer_call(list, Question::Find(tag), answer)
 }
 
-// Reach: the lengths from a coupling to its run's low and high end; in a ring 0 and its length.
+// The same by a coupling's number. Any number may be asked.
 #[no_mangle]
-pub extern "C" fn pnl_reach(list: &[u8], fitting: u32, answer: &mut [u8]) -> i32
-    ensures { λ r. ⌜ returned (now (answer .exit)) r ≡ cReach (now (list .entry)) fitting (now (answer .entry)) ⌝ }
+pub extern "C" fn pnl_find_at(list: &[u8], fitting: u32, answer: &mut [u8]) -> i32
+    ensures { λ r. ⌜ returned (now (answer .exit)) r ≡ cFindAt (now (list .entry)) fitting (now (answer .entry)) ⌝ }
 {
-    answer_call(list, Question::Reach(fitting), answer)
+    answer_call(list, Question::FindAt(fitting), answer)
 }
 
 // Distance: the least length of a way between two fittings, or NOT_JOINED.

@@ -1,28 +1,32 @@
--- What find, reach and sheet compute over the tables of a register is what they are defined to answer.
+-- What find and sheet compute over the tables of a register is what they are defined to answer.
 use mathlib.Core.Path.{_≡_, refl, sym, ap, _∙_}
-use Prim.Native.Nat.{ℕ, _*_, _≤_}
+use Prim.Native.Nat.{ℕ, _-_, _*_, _≤_, _<_}
 use native.Mathlib.Omega.{arith}
 use mathlib.Core.Bool.{Bool, true, false}
 use mathlib.Core.List.{List, []}
-use lib.ListN.{length, replicate}
+use lib.ListN.{length, getD, replicate}
 use lib.Dec.{ltb}
 use borrow.Author.Tests.{ltb-false}
 use Rattle.model.specs.Basics.{maxEdges, maxVertices, inFront, rowSize}
 use Rattle.model.specs.Register.{Register}
-use Rattle.model.specs.Queries.{Reply, concat, find, reach, sheet, sheetNumbers}
+use Rattle.model.specs.Queries.{Reply, concat, find, findAt, refuses, sheet, sheetNumbers}
 use Rattle.model.specs.Tables.{Tables, Counts, tablesOf}
-use Rattle.model.specs.Calls.{Answer, answer, answers, effect, fills, finds, reaches, sheets}
-use Rattle.model.specs.Notions.{Reachable}
+use Rattle.model.specs.Calls.{Answer, answer, answers, effect, fills, finds, findsAt, sheets}
+use Rattle.model.specs.Notions.{HeldOf, Reachable}
 use Rattle.model.proofs.Chains.Sheet.{sheet-length}
+use Rattle.model.proofs.Registers.Answers.{find-not-landed}
+use Rattle.model.proofs.Registers.Labelled.{label-facts}
 use Rattle.model.proofs.Registers.OnlyHeld.{held-counts, held-tables}
-use Rattle.tables.specs.Meaning.{tables}
+use Rattle.model.proofs.Registers.Reachable.{founded}
+use Rattle.tables.specs.Meaning.{stored, tables}
 use Rattle.text.proofs.PageLaws.{write-front}
 use Rattle.chains.specs.Chains.{namesIn, sheetIn}
-use Rattle.chains.specs.Finding.{findIn, reachIn}
-use Rattle.agreement.proofs.Finding.{find-agrees, reach-agrees}
+use Rattle.chains.specs.Finding.{findAtIn, findIn}
+use Rattle.agreement.proofs.Finding.{find-agrees, find-at-agrees}
 use Rattle.agreement.proofs.Sheeting.{names-counted, sheet-agrees}
 use Rattle.questions.specs.Answering.{answered, sheetedIn}
 use Rattle.questions.proofs.Answers.{Answers}
+use Rattle.questions.proofs.TableLaws.{find-at-law}
 
 pub find-answers : (t : Tables) (c : Counts) (tree : List ℕ) (label : ℕ) (a : Reply) → 2 * maxVertices ≤ length tree
     → a ≡ findIn t c tree label → Answers (finds label) t c [] a
@@ -31,11 +35,25 @@ find-answers t c tree label a l h r k =
     let f : findIn t c tree label ≡ find r label = rw (held-tables k, held-counts k) at (find-agrees r (k .reachable) label tree l) in
     rw (h, f)
 
-pub reach-answers : (t : Tables) (c : Counts) (v : ℕ) (a : Reply) → a ≡ reachIn t c v → Answers (reaches v) t c [] a
+pub find-at-answers : (t : Tables) (c : Counts) (tree : List ℕ) (v : ℕ) (a : Reply) → 2 * maxVertices ≤ length tree
+    → a ≡ findAtIn t c tree v → Answers (findsAt v) t c [] a
 unfolding effect answer answers
-reach-answers t c v a h r k =
-    let f : reachIn t c v ≡ reach r v = rw (held-tables k, held-counts k) at (reach-agrees r (k .reachable) v) in
+find-at-answers t c tree v a l h r k =
+    let f : findAtIn t c tree v ≡ findAt r v = rw (held-tables k, held-counts k) at (find-at-agrees r (k .reachable) v tree l) in
     rw (h, f)
+
+-- A number of any size as a vertex: through the label of the vertex that it is, or above the largest vertex.
+module _ (t : Tables) (c : Counts) (r : Register) (h : HeldOf (stored t c) r) where
+  pub find-through : (tree : List ℕ) (v w label : ℕ) (a : Reply) → 2 * maxVertices ≤ length tree → w ≡ v → label ≡ getD (t .labels) w 0
+      → a ≡ findIn t c tree label → a ≡ findAt r v
+  find-through tree v w label a l e f p =
+      let k : findAtIn t c tree v ≡ findAt r v = rw (held-tables h, held-counts h) at (find-at-agrees r (h .reachable) v tree l) in
+      find-at-law t c tree v label a (f ∙ ap (λ (x : ℕ). getD (t .labels) x 0) e) p ∙ k
+
+  pub find-beyond : (v : ℕ) → maxVertices - 1 < v → refuses 8 ≡ findAt r v
+  find-beyond v l =
+      let k = founded r (h .reachable) in
+      sym (find-not-landed r k (label-facts r (h .reachable)) v (omega (arith, k .few)))
 
 numbers-are : (r : Register) → concat (sheet r) ≡ sheetNumbers r
 unfolding sheetNumbers

@@ -9,12 +9,12 @@ use lib.ListN.{length, getD}
 use lib.Dec.{leb}
 use borrow.Author.Tests.{eq-eqb, ne-eqb, leb-true, leb-false, lt-ltb, le-ltb}
 use Rattle.model.specs.Basics.{rowSize}
-use Rattle.model.specs.Queries.{concat, found, reached, listed, refuses}
+use Rattle.model.specs.Queries.{Reply, concat, found, listed, refuses}
 use Rattle.model.specs.Tables.{Tables, Counts}
 use Rattle.tables.specs.Steps.{farIn, sum32}
 use Rattle.chains.specs.Chains.{WalkEnd, walkIn, namesIn, sheetIn, nameIn}
 use Rattle.chains.specs.Newest.{Sought, searchIn}
-use Rattle.chains.specs.Finding.{endToIn, findIn, lengthToIn, reachIn, wayIn}
+use Rattle.chains.specs.Finding.{endToIn, findAtIn, findIn, foundAtIn, lengthToIn, wayIn}
 use Rattle.chains.proofs.SheetLaws.{sheet-count}
 use Rattle.text.specs.Pages.{page, write}
 use Rattle.questions.specs.Answering.{answered, sheetedIn}
@@ -35,34 +35,29 @@ module _ (t : Tables) (c : Counts) where
     unfolding findIn
     find-nobody f = let g : (searchIn (t .degrees) (t .sides) (t .ends) (t .labels) (c .vertices) (c .edges) label tree) .wearer ≡ none = rw e at (sym f) in rw (g, findIn)
 
-    pub find-chain : (v d r : ℕ) → some v ≡ s .wearer → d ≡ getD (t .sides) (2 * v) 0
-        → r ≡ nameIn (t .degrees) (t .sides) (t .ends) (c .edges) d → found r ≡ findIn t c tree label
+    pub find-wearer : (v : ℕ) (r : Reply) → some v ≡ s .wearer → r ≡ foundAtIn t c v → r ≡ findIn t c tree label
     unfolding findIn
-    find-chain v d r f p q =
+    find-wearer v r f q =
         let g : (searchIn (t .degrees) (t .sides) (t .ends) (t .labels) (c .vertices) (c .edges) label tree) .wearer ≡ some v = rw e at (sym f) in
-        rw (g, findIn, ← p, q)
+        rw (g, findIn) q
 
-  -- ---- reach
+  -- through the label of a vertex
+  pub find-at-law : (tree : List ℕ) (v label : ℕ) (r : Reply) → label ≡ getD (t .labels) v 0 → r ≡ findIn t c tree label → r ≡ findAtIn t c tree v
+  unfolding findAtIn
+  find-at-law tree v label r e f = f ∙ ap (findIn t c tree) e
 
-  pub reach-past : (v : ℕ) → c .vertices ≤ v → refuses 5 ≡ reachIn t c v
-  unfolding reachIn
-  reach-past v h = rw (le-ltb v (c .vertices) h)
-
-  pub reach-singular : (v : ℕ) → v < c .vertices → (getD (t .degrees) v 0 ≡ 2 → ⊥) → refuses 8 ≡ reachIn t c v
-  unfolding reachIn
-  reach-singular v h n = rw (lt-ltb v (c .vertices) h, ne-eqb _ _ n)
-
-  module _ (v a end low : ℕ) (h : v < c .vertices) (two : getD (t .degrees) v 0 ≡ 2) (p : a ≡ getD (t .sides) (2 * v) 0)
+  -- what is told of the wearer
+  module _ (v a name end low : ℕ) (p : a ≡ getD (t .sides) (2 * v) 0) (q : name ≡ nameIn (t .degrees) (t .sides) (t .ends) (c .edges) a)
       (w : (end ≡ endToIn (t .degrees) (t .sides) (t .ends) (t .lengths) (c .edges) a v)
       × (low ≡ lengthToIn (t .degrees) (t .sides) (t .ends) (t .lengths) (c .edges) a v)) where
-    pub reach-round : getD (t .degrees) end 0 ≡ 2 → reached 0 low ≡ reachIn t c v
-    unfolding reachIn
-    reach-round i = rw (lt-ltb v (c .vertices) h, eq-eqb _ _ two, ← p, ← w .0, eq-eqb _ _ i, w .1)
+    pub found-round : getD (t .degrees) end 0 ≡ 2 → found name v 0 low ≡ foundAtIn t c v
+    unfolding foundAtIn
+    found-round i = rw (← p, ← q, ← w .0, eq-eqb _ _ i, w .1)
 
-    pub reach-both : (b high : ℕ) → (getD (t .degrees) end 0 ≡ 2 → ⊥) → b ≡ getD (t .sides) (2 * v + 1) 0
-        → high ≡ lengthToIn (t .degrees) (t .sides) (t .ends) (t .lengths) (c .edges) b v → reached low high ≡ reachIn t c v
-    unfolding reachIn
-    reach-both b high i q f = rw (lt-ltb v (c .vertices) h, eq-eqb _ _ two, ← p, ← w .0, ne-eqb _ _ i, ← q, w .1, f)
+    pub found-both : (b high : ℕ) → (getD (t .degrees) end 0 ≡ 2 → ⊥) → b ≡ getD (t .sides) (2 * v + 1) 0
+        → high ≡ lengthToIn (t .degrees) (t .sides) (t .ends) (t .lengths) (c .edges) b v → found name v low high ≡ foundAtIn t c v
+    unfolding foundAtIn
+    found-both b high i o f = rw (← p, ← q, ← w .0, ne-eqb _ _ i, ← o, w .1, f)
 
   -- ---- sheet
 

@@ -1,11 +1,9 @@
--- Document 01's values of the answers to find, reach, sheet and distance, and document 02's to write.
-use Rattle.model.specs.Queries.{Reply, found, reached, listed, measured, wrote, refuses}
+-- Document 01's values of the answers to sheet and distance, and document 02's to find and write.
+use Rattle.model.specs.Queries.{Reply, found, listed, measured, wrote, refuses}
 use Rattle.counters.specs.Refusals.{numberOf}
 use Rattle.search.specs.Meaning.{asDistance}
 use Rattle.questions.specs.declared.find.FoundChain.{FoundChain}
 use Rattle.questions.specs.declared.find.FoundChain.the-variants as find
-use Rattle.questions.specs.declared.reach.Reached.{Reached}
-use Rattle.questions.specs.declared.reach.Reached.the-variants as reach
 use Rattle.questions.specs.declared.sheet.Listed.{Listed}
 use Rattle.questions.specs.declared.sheet.Listed.the-variants as sheet
 use Rattle.questions.specs.declared.write.Written.{Written}
@@ -13,15 +11,10 @@ use Rattle.questions.specs.declared.write.Written.the-variants as write
 use Rattle.questions.specs.declared.measure.Measured.{Measured}
 use Rattle.questions.specs.declared.measure.Measured.the-variants as measure
 
--- the name of a chain
+-- "the run, the coupling wearing it, and the lengths to the low and high end"
 abbrev pub foundReply : FoundChain → Reply
-foundReply (find.Chain name) = found (name .0)
+foundReply (find.Chain name v low high) = found (name .0) (v .0) (low .0) (high .0)
 foundReply (find.Refused x) = refuses (numberOf x)
-
--- "the lengths to its run's low and high end"
-abbrev pub reachedReply : Reached → Reply
-reachedReply (reach.Lengths low high) = reached (low .0) (high .0)
-reachedReply (reach.Refused x) = refuses (numberOf x)
 
 -- the number of chains
 abbrev pub listedReply : Listed → Reply

@@ -3,6 +3,5 @@
 // A contract says `(labels : List ℕ) →` of a table that the function is not lent: it holds whatever that table has in it.
 pub mod find;
 pub mod measure;
-pub mod reach;
 pub mod sheet;
 pub mod write;

@@ -14,7 +14,7 @@ extern "C" {
         answer: *mut u8,
         answer_len: usize,
     ) -> i32;
-    fn pnl_reach(
+    fn pnl_find_at(
         list: *const u8,
         list_len: usize,
         fitting: u32,
@@ -36,7 +36,7 @@ extern "C" {
 pub enum Call {
     Sheet,
     Find(u32),
-    Reach(u32),
+    FindAt(u32),
     Distance(u32, u32),
 }
 
@@ -58,7 +58,7 @@ impl Call {
             match self {
                 Call::Sheet => pnl_sheet(list, list_len, to, room),
                 Call::Find(tag) => pnl_find(list, list_len, tag, to, room),
-                Call::Reach(fitting) => pnl_reach(list, list_len, fitting, to, room),
+                Call::FindAt(fitting) => pnl_find_at(list, list_len, fitting, to, room),
                 Call::Distance(from, end) => pnl_distance(list, list_len, from, end, to, room),
             }
         }
@@ -68,8 +68,8 @@ impl Call {
     pub fn usual_size(self) -> usize {
         match self {
             Call::Sheet => 40,
-            Call::Reach(_) => 8,
-            Call::Find(_) | Call::Distance(..) => 4,
+            Call::Find(_) | Call::FindAt(_) => 16,
+            Call::Distance(..) => 4,
         }
     }
 }

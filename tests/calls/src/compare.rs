@@ -24,7 +24,7 @@ const SHEET_MOST: usize = 81_920;
 const CALLS: [Call; 4] = [
     Call::Sheet,
     Call::Find(8_192),
-    Call::Reach(1),
+    Call::FindAt(1),
     Call::Distance(0, 1),
 ];
 
@@ -39,7 +39,7 @@ pub fn null_pointers() -> Result<(), Difference> {
     let house = list::write(&[&[Record::Fitting; 3][..], &joined].concat());
     let cases = [
         (None, [-1; 4]),
-        (Some(&header[..]), [0, -8, -5, -5]),
+        (Some(&header[..]), [0, -8, -8, -5]),
         (Some(&house), [-9; 4]),
     ];
     for (list, expected) in cases {

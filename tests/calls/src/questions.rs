@@ -37,7 +37,7 @@ pub fn of(grown: &Grown, random: &mut Random) -> Vec<Question> {
     let asked = [
         vec![(Call::Sheet, grown.sheet())],
         finds(grown, house),
-        reaches(grown, house),
+        finds_at(grown, house),
         distances(grown, house, random),
     ];
     let questions = asked.concat().into_iter().enumerate();
@@ -65,10 +65,10 @@ fn finds(grown: &Grown, house: &House) -> Vec<(Call, Answer)> {
         .collect()
 }
 
-fn reaches(grown: &Grown, house: &House) -> Vec<(Call, Answer)> {
+fn finds_at(grown: &Grown, house: &House) -> Vec<(Call, Answer)> {
     let fittings = landed(house).chain(not_landed(house));
     fittings
-        .map(|fitting| (Call::Reach(fitting), grown.reach(fitting)))
+        .map(|fitting| (Call::FindAt(fitting), grown.find_at(fitting)))
         .collect()
 }
 

@@ -36,7 +36,7 @@ impl Tally {
         let name = match call {
             Call::Sheet => "sheet",
             Call::Find(_) => "find",
-            Call::Reach(_) => "reach",
+            Call::FindAt(_) => "find_at",
             Call::Distance(..) => "distance",
         };
         *self.calls.entry(name).or_default() += 1;

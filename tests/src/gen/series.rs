@@ -139,7 +139,7 @@ fn question(random: &mut Random, house: Option<&House>) -> Call {
     let fittings = house.map_or(0, House::fittings);
     match random.below(9) {
         0 | 1 => Call::Find(tag(random, house)),
-        2 | 3 => Call::Reach(coupling(random, house)),
+        2 | 3 => Call::FindAt(coupling(random, house)),
         4 | 5 => Call::Distance(fitting(random, fittings), fitting(random, fittings)),
         6 | 7 => {
             let needs = house.map_or(5, |house| 5 * queries::sheet(house).len());

@@ -1,4 +1,4 @@
--- The chains and rings with labels by falling lowest label: which they are, and that the search among them gives find's answer.
+-- The chains and rings with labels by falling lowest label: which they are, and that the search among them gives the one that find names.
 use mathlib.Core.Path.{_≡_, refl, sym, ap, _∙_, subst}
 use mathlib.Core.Logic.{_≢_, _⊎_, inl, inr}
 use Prim.Native.Nat.{ℕ, zero, suc, _+_, _≤_, _<_}
@@ -12,10 +12,11 @@ use borrow.Author.Tests.{eq-eqb, eqb-true, eqb-false, ltb-true, ltb-false, ne-eq
 use Rattle.model.specs.Basics.{countFrom, upTo}
 use Rattle.model.specs.Graph.{Edge, chainOf, edgeOnRing, isRegular, lowerNumbered, nameOf}
 use Rattle.model.specs.Register.{Register, labelOf}
-use Rattle.model.specs.Queries.{chainAt, find, found}
-use Rattle.model.specs.Newest.{Searched, among, has, innerLabels, lowestLabel, lowestOf, namesLabelled, newestFirst, replyOf, search, searchAmong}
+use Rattle.model.specs.Queries.{Reply, chainAt, find, foundAt, refuses}
+use Rattle.model.specs.Newest.{Searched, among, has, innerLabels, lowestLabel, lowestOf, namesLabelled, newestFirst, chainIn, search, searchAmong}
+use Rattle.model.specs.Labels.{vertexOnRing}
 use Rattle.model.specs.Series.{OwnChain}
-use Rattle.model.proofs.Basics.Booleans.{and-intro, and-true, not-both, true-or-false}
+use Rattle.model.proofs.Basics.Booleans.{and-intro, and-true, if-either, not-both, true-or-false}
 use Rattle.model.proofs.Walks.Degree.{Proper, is-two}
 use Rattle.model.proofs.Chains.Partition.{least-le, least-mem}
 use Rattle.model.proofs.Chains.Exact.{chain-is-chain}
@@ -305,20 +306,29 @@ module _ (r : Register) (f : Founded r) (l : LabelFacts r) where
       go false q (inl i) ih = rw i q
       go false q (inr k) ih = ih (rw (q, searchAmong) at e) k
 
-  pub search-finds : (label : ℕ) → find r label ≡ replyOf ((search r label) .holder)
-  unfolding search replyOf innerLabels pr chainAt
+  found-chain : (v : ℕ) → chainIn (foundAt r v) ≡ some (chainAt r v)
+  unfolding foundAt chainIn
+  found-chain v = if-either (λ (a : Reply). chainIn a ≡ some (chainAt r v)) (vertexOnRing (r .edges) v) _ _ refl refl
+
+  pub search-none : (label : ℕ) → (search r label) .holder ≡ none → find r label ≡ refuses 8
+  unfolding search innerLabels pr chainAt
+  search-none label e =
+      find-none r label (λ v q w.
+      let o : OwnChain (r .edges) v (chainAt r v) = own-chain (r .edges) pr v q in
+      let m : Mem label (innerLabels r (chainAt r v)) = rw (← w) (Memᴰ·map (labelOf r) (o .has)) in
+      not-both (has label (innerLabels r (chainAt r v))) (mem-has label (innerLabels r (chainAt r v)) m) (among-none label newest e (chainAt r v) (own-newest v q)))
+
+  pub search-finds : (label : ℕ) → chainIn (find r label) ≡ (search r label) .holder
+  unfolding search chainIn innerLabels pr chainAt
   search-finds label = go ((searchAmong r label newest) .holder) refl
     where
-      go : (o : Option ℕ) → (searchAmong r label newest) .holder ≡ o → find r label ≡ replyOf ((searchAmong r label newest) .holder)
+      go : (o : Option ℕ) → (searchAmong r label newest) .holder ≡ o → chainIn (find r label) ≡ (searchAmong r label newest) .holder
       go (some d) e =
           let k = among-some label d newest e in
           let t : Taken r d = in-newest d (k .0) in
           let o = Memᴰ·of-map (labelOf r) ((chainOf (r .edges) d) .inner) (has-mem label (innerLabels r d) (k .1)) in
           let own : d ≡ chainAt r (o .0) = own-is r pr d (o .0) (t .inside) (t .names) (o .1) in
           rw e
-          (ap (find r) (sym (o .2)) ∙ find-own r f l (o .0) (inner-regular r pr d (o .0) (t .inside) (o .1)) ∙ ap found (sym own))
-      go none e =
-          rw e (find-none r label (λ v q w.
-          let o : OwnChain (r .edges) v (chainAt r v) = own-chain (r .edges) pr v q in
-          let m : Mem label (innerLabels r (chainAt r v)) = rw (← w) (Memᴰ·map (labelOf r) (o .has)) in
-          not-both (has label (innerLabels r (chainAt r v))) (mem-has label (innerLabels r (chainAt r v)) m) (among-none label newest e (chainAt r v) (own-newest v q))))
+          (ap (λ (x : ℕ). chainIn (find r x)) (sym (o .2)) ∙ ap chainIn (find-own r f l (o .0) (inner-regular r pr d (o .0) (t .inside) (o .1))) ∙ found-chain (o .0)
+          ∙ ap some (sym own))
+      go none e = rw e (ap chainIn (search-none label e))

@@ -1,5 +1,7 @@
-use Rattle.pnl.proofs.CallLaws.{sheet-question, find-question, reach-question, distance-question}
+use Rattle.pnl.proofs.CallLaws.{sheet-question, find-question, distance-question}
 use Rattle.pnl.proofs.Returns.{handed}
+use mathlib.Core.Path.{ap, _∙_}
+use Rattle.model.specs.FromC.{returnsReply}
 use borrow.Author.Needs.{needs}
 use Rattle.pnl.proofs.grown.answer_question.Statement.{statement}
 use Rattle.pnl.proofs.grown.answer_question.Tie as tie
@@ -17,9 +19,9 @@ returns-2 c =
 
 returns-3 : tie.Need-returns-3
 returns-3 c =
-    let at-reach-checked = c .before .before .before .before in
-    let at-question2 = at-reach-checked .before .before in
-    λ register h. rw (at-question2 .question2 .given .1) (reach-question _ _ _ _ _ _ _ register h _ _ _ _ (at-reach-checked .reach-checked .ensures _ _) (handed (c .before .before .answer-reached .ok) (c .before .before .answer-reached .ensures register)))
+    let at-find-at-checked = c .before .before .before .before in
+    let at-question2 = at-find-at-checked .before .before in
+    λ register h. rw (at-question2 .question2 .given .1) (handed (c .before .before .answer-found2 .ok) (c .before .before .answer-found2 .ensures register) ∙ ap (returnsReply register _) (at-find-at-checked .find-at-checked .ensures _ register h))
 
 returns-4 : tie.Need-returns-4
 returns-4 c =

@@ -1,4 +1,4 @@
-use Rattle.questions.proofs.TableLaws.{find-nobody, find-chain}
+use Rattle.questions.proofs.TableLaws.{find-nobody, find-wearer}
 use Rattle.chains.specs.Answers.{asFound}
 use mathlib.Core.Path.{sym, ap, _∙_}
 use borrow.Author.Needs.{needs}
@@ -11,11 +11,8 @@ search-label-requires c κs = search needs
 enum-known-found : tie.Need-enum-known-found
 enum-known-found c = search needs
 
-low-edge-requires : tie.Need-low-edge-requires
-low-edge-requires c κs = search needs
-
-name-of-requires : tie.Need-name-of-requires
-name-of-requires c κs = search needs
+found-at-requires : tie.Need-found-at-requires
+found-at-requires c κs = search needs
 
 enum-told : tie.Need-enum-told
 enum-told c = search needs
@@ -25,8 +22,8 @@ same-length c = search needs
 
 returns : tie.Need-returns
 returns c =
-    let at-search-label = c .before .before .before .before .before .before .before in
-    λ lengths volumes. find-chain _ _ _ _ _ (at-search-label .search-label .ensures) _ _ _ (ap asFound (sym (c .before .before .before .found .given .1))) (c .before .low-edge .ensures) (c .name-of .ensures)
+    let at-search-label = c .before .before .before .before .before .before in
+    λ volumes. find-wearer _ _ _ _ _ (at-search-label .search-label .ensures) _ _ (ap asFound (sym (c .before .before .found .given .1))) (c .found-at .ensures _ _)
 
 same-length-2 : tie.Need-same-length-2
 same-length-2 c = search needs
@@ -34,7 +31,7 @@ same-length-2 c = search needs
 returns-2 : tie.Need-returns-2
 returns-2 c =
     let at-search-label = c .before .before .before .before in
-    λ lengths volumes. find-nobody _ _ _ _ _ (at-search-label .search-label .ensures) (ap asFound (sym (c .enum-told .given .1)))
+    λ volumes. find-nobody _ _ _ _ _ (at-search-label .search-label .ensures) (ap asFound (sym (c .enum-told .given .1)))
 
 pub find-in-spec : {M : Type 1} → statement M
 find-in-spec =
@@ -42,8 +39,7 @@ find-in-spec =
     (tie.spec
     search-label-requires
     enum-known-found
-    low-edge-requires
-    name-of-requires
+    found-at-requires
     enum-told
     same-length
     returns

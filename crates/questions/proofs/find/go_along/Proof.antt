@@ -1,7 +1,7 @@
 use Rattle.questions.proofs.TableLaws.{way-law}
 use borrow.Author.Needs.{needs}
-use Rattle.questions.proofs.reach.go_along.Statement.{statement}
-use Rattle.questions.proofs.reach.go_along.Tie as tie
+use Rattle.questions.proofs.find.go_along.Statement.{statement}
+use Rattle.questions.proofs.find.go_along.Tie as tie
 
 far-end-requires : tie.Need-far-end-requires
 far-end-requires c κs = search needs
