@@ -1,4 +1,4 @@
-//! Find, reach, distance and sheet (document 01, "What may be called"; document 02, S-2 and S-3).
+//! Find, reach, distance and sheet (document 01, "What may be called"; document 02, S-2 to S-4).
 
 use std::cmp::Reverse;
 use std::collections::{BTreeMap, BinaryHeap};
@@ -8,8 +8,8 @@ use crate::refusal::Refusal;
 use crate::ring::Ring;
 use crate::run::{self, Run};
 
-/// Name, end with the lower number, other end, couplings, length.
-pub type Line = [u32; 5];
+/// Name, end with the lower number, other end, couplings, length, volume or 0.
+pub type Line = [u32; 6];
 
 /// The name of the run or ring whose couplings include the tag.
 pub fn find(house: &House, tag: Tag) -> Result<PipeNumber, Refusal> {
@@ -135,6 +135,7 @@ fn line(house: &House, run: &Run) -> Line {
         number(run.low().max(run.high())),
         number(run.couplings().len()),
         run.length(house.pipes()),
+        run.volume(house.pipes()),
     ]
 }
 
@@ -146,6 +147,7 @@ fn ring_line(house: &House, ring: &Ring) -> Line {
         number(ring.lowest_fitting()),
         number(ring.fittings().len()),
         ring.length(house.pipes()),
+        ring.volume(house.pipes()),
     ]
 }
 
