@@ -1,4 +1,4 @@
-// Sheet: five numbers a chain (document 01: run) to the front of a lent slice: 25, 21, then 9.
+// Sheet: six numbers a chain (document 01: run) to the front of a lent slice: 25, 21, then 9.
 use admission::gate::Gate;
 use admission::gate::pass_gate;
 use counters::counts::Counts;
@@ -54,7 +54,17 @@ pub fn sheet(
         slabels,
     );
     match passed {
-        Gate::Open => sheet_cleared(degrees, sides, ends, lengths, volumes, counts, sdegrees, ssides, out),
+        Gate::Open => sheet_cleared(
+            degrees,
+            sides,
+            ends,
+            lengths,
+            volumes,
+            counts,
+            sdegrees,
+            ssides,
+            out,
+        ),
         Gate::Refused(refusal) => Listed::Refused(refusal),
     }
 }

@@ -5,7 +5,7 @@ use counters::sizes::ENDS;
 use counters::sizes::SIDES;
 use counters::sizes::VERTICES;
 use questions::measure::Measured;
-use questions::measure::measure;
+use questions::measure::measure_in;
 ghost use mathlib.Core.Path.{_≡_};
 ghost use mathlib.Core.List.{List};
 ghost use Prim.Native.Nat.{ℕ};
@@ -14,7 +14,7 @@ ghost use Rattle.tables.specs.Meaning.{tables};
 ghost use Rattle.questions.specs.Meaning.{measuredReply};
 ghost use Rattle.questions.specs.Measure.{Measurable, measureIn};
 
-// The arrays are the scratch of the search.
+// The arrays are the scratch of the search, and end with it.
 pub fn distance_in(
     ends: &[u16],
     lengths: &[u32],
@@ -31,7 +31,7 @@ pub fn distance_in(
     let mut next = [0u16; ENDS];
     let mut distances = [0u32; VERTICES];
     let mut keys = [0u32; VERTICES];
-    measure(
+    measure_in(
         ends,
         lengths,
         counts,

@@ -23,7 +23,7 @@ pub enum Measured {
 }
 
 // What the scratch holds at the end is of no use to the caller.
-fn measure_in(
+pub fn measure_in(
     ends: &[u16],
     lengths: &[u32],
     counts: Counts,

@@ -107,8 +107,7 @@ loop-again c =
     let at-at162 = at-at32 .before in
     let at-at16 = at-at162 .before in
     let at-loop-test = at-at16 .before .before .before .before .before .before .before in
-    let at-loop = at-loop-test .before in
-    (
+    let at-loop = at-loop-test .before in (
       (omega (arith, at-loop .loop .inv .0 .0, at-loop-test .loop-test .taken), omega (arith, at-loop .loop .inv .0 .1)),
       (
         same-on (at-land-edge .land-edge .kept) (at-loop .loop .inv .1 .0),

@@ -41,7 +41,7 @@ add-count : tie.Need-add-count Inv-loop μ-loop
 add-count c =
     let at-loop-test = c .before .before .before .before .before .before .before .before in
     let at-loop = at-loop-test .before in
-    let at-fits = at-loop .before .before .before .before .before .before .before .before .before in
+    let at-fits = at-loop .before .before .before .before .before .before .before .before .before .before in
     omega (arith, at-loop .loop .inv .1 .1 .1 .0, at-loop .loop .inv .1 .1 .0 .few, at-loop-test .loop-test .taken, at-fits .fits .edges .fits)
 
 -- src/sheet.rt:53:37
