@@ -113,7 +113,7 @@ mod tests {
     #[test]
     fn every_case_of_landing_comes_up_often() {
         let mut cases = Cases::default();
-        for index in 0..700 {
+        for index in 0..1_000 {
             let list = whole_list(&mut Random::of_list(13, index));
             cases.count(&grow(&list).0);
         }
