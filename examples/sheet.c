@@ -9,16 +9,16 @@
 
 #include "pnl.h"
 
-/* Seven fittings, then pipes 0-1 1000, 1-2 2000, 3-4 500, 4-5 700, 2-3 300, 3-6 900. */
+/* Seven fittings, then pipes 0-1 1000, 1-2 2000, 3-4 500, 4-5 700, 2-3 300, 3-6 900, with volumes; that of 4-5 is not known. */
 static const uint8_t house[] = {
-    'P', 'N', 'L', 1, 0,
+    'P', 'N', 'L', 2, 0,
     'F', 'F', 'F', 'F', 'F', 'F', 'F',
-    'P', 0, 0, 1, 0, 0xE8, 0x03, 0, 0,
-    'P', 1, 0, 2, 0, 0xD0, 0x07, 0, 0,
-    'P', 3, 0, 4, 0, 0xF4, 0x01, 0, 0,
-    'P', 4, 0, 5, 0, 0xBC, 0x02, 0, 0,
-    'P', 2, 0, 3, 0, 0x2C, 0x01, 0, 0,
-    'P', 3, 0, 6, 0, 0x84, 0x03, 0, 0
+    'P', 0, 0, 1, 0, 0xE8, 0x03, 0, 0, 0x3A, 0x01, 0, 0,
+    'P', 1, 0, 2, 0, 0xD0, 0x07, 0, 0, 0x74, 0x02, 0, 0,
+    'P', 3, 0, 4, 0, 0xF4, 0x01, 0, 0, 0x9D, 0, 0, 0,
+    'P', 4, 0, 5, 0, 0xBC, 0x02, 0, 0, 0, 0, 0, 0,
+    'P', 2, 0, 3, 0, 0x2C, 0x01, 0, 0, 0x5E, 0, 0, 0,
+    'P', 3, 0, 6, 0, 0x84, 0x03, 0, 0, 0x48, 0, 0, 0
 };
 
 /* Two fittings and no pipe. */
@@ -26,8 +26,12 @@ static const uint8_t apart[] = { 'P', 'N', 'L', 1, 0, 'F', 'F' };
 
 static void print_run(const uint8_t *row)
 {
-    printf("run %" PRIu32 " from %" PRIu32 " to %" PRIu32 ": %" PRIu32 " couplings, %" PRIu32 " mm\n",
+    printf("run %" PRIu32 " from %" PRIu32 " to %" PRIu32 ": %" PRIu32 " couplings, %" PRIu32 " mm, ",
            pnl_number(row, 0), pnl_number(row, 1), pnl_number(row, 2), pnl_number(row, 3), pnl_number(row, 4));
+    if (pnl_number(row, 5) == 0)
+        printf("volume not known\n");
+    else
+        printf("%" PRIu32 " ml\n", pnl_number(row, 5));
 }
 
 static void print_distance(const uint8_t *list, size_t list_len, uint32_t from, uint32_t to)

@@ -2,13 +2,13 @@
 
     ./build
     cc -shared -Wl,--whole-archive target/staticlib/libpnl.a -Wl,--no-whole-archive -o target/libpnl.so
-    python3 examples/sheet.py target/libpnl.so examples/house.pnl
+    python3 examples/sheet.py target/libpnl.so examples/volumes.pnl
 """
 import ctypes
 import struct
 import sys
 
-SHEET_MOST = 81920
+SHEET_MOST = 98304
 NOT_JOINED = 4294967295
 NO_COUPLING = 8
 
@@ -43,7 +43,7 @@ class Register:
 
     def sheet(self, list_):
         numbers = self.call("pnl_sheet", list_)
-        return [numbers[at : at + 5] for at in range(0, len(numbers), 5)]
+        return [numbers[at : at + 6] for at in range(0, len(numbers), 6)]
 
     def find(self, list_, tag):
         return self.call("pnl_find", list_, tag)
@@ -74,8 +74,9 @@ def main(library, file):
     register = Register(library)
     with open(file, "rb") as opened:
         house = opened.read()
-    for name, low, high, couplings, length in register.sheet(house):
-        print(f"run {name} from {low} to {high}: {couplings} couplings, {length} mm")
+    for name, low, high, couplings, length, volume in register.sheet(house):
+        words = f"{volume} ml" if volume else "volume not known"
+        print(f"run {name} from {low} to {high}: {couplings} couplings, {length} mm, {words}")
     print_found("tag 8195", *register.find(house, 8195))
     print_found("number 1", *register.find_at(house, 1))
     try:

@@ -2,7 +2,7 @@
 //!
 //!     ./build
 //!     rustc --edition 2021 -L target/staticlib examples/sheet.rs -o target/sheet-rust
-//!     target/sheet-rust examples/house.pnl
+//!     target/sheet-rust examples/volumes.pnl
 //!
 //! In a crate, the three lines of tests/calls/build.rs say to Cargo where the archive is.
 
@@ -14,8 +14,8 @@ extern "C" {
     fn pnl_distance(list: *const u8, list_len: usize, from: u32, to: u32, answer: *mut u8, answer_len: usize) -> i32;
 }
 
-const SHEET_ROW: usize = 5;
-const SHEET_MOST: usize = 81_920;
+const SHEET_ROW: usize = 6;
+const SHEET_MOST: usize = 98_304;
 const NOT_JOINED: u32 = 4_294_967_295;
 const NO_COUPLING: i32 = 8;
 
@@ -68,7 +68,11 @@ fn main() -> Result<(), String> {
     let refused = |refusal| format!("refusal {refusal}");
 
     for run in sheet(&house).map_err(refused)?.chunks_exact(SHEET_ROW) {
-        println!("run {} from {} to {}: {} couplings, {} mm", run[0], run[1], run[2], run[3], run[4]);
+        let volume = match run[5] {
+            0 => "volume not known".to_string(),
+            volume => format!("{volume} ml"),
+        };
+        println!("run {} from {} to {}: {} couplings, {} mm, {volume}", run[0], run[1], run[2], run[3], run[4]);
     }
     print_found("tag 8195", &find(&house, 8195).map_err(refused)?);
     print_found("number 1", &find_at(&house, 1).map_err(refused)?);

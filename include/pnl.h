@@ -3,19 +3,20 @@
  * Each call on a house takes a list, the bytes of a "PNL" file, grows the register from it in tables on its own stack, and writes its answer
  * to the front of `answer` as little-endian 32-bit numbers.
  *
- *   List       3 bytes "PNL"; a 16-bit version, 1; then records. A record is the byte 0x46 alone, which lands a fitting; or the byte
- *              0x50, two 16-bit fitting numbers and a 32-bit length in mm, 9 bytes in all, which land a pipe. Numbers are
+ *   List       3 bytes "PNL"; a 16-bit version, 1 or 2; then records. A record is the byte 0x46 alone, which lands a fitting; or the byte
+ *              0x50, two 16-bit fitting numbers and a 32-bit length in mm, and in version 2 a 32-bit volume in ml, 0 where it is not
+ *              known: 9 bytes in version 1, 13 in version 2, which land a pipe. In version 1 no volume is known. Numbers are
  *              little-endian. The first refused record stops the list: the call says why, and not where (./run names the record).
  *   Returns    the count of answer bytes, 0 or more; or a refusal, one of the PNL_REFUSED constants, all below 0.
  *   Answer     bytes of `answer` behind the count stay as they were. Under a refusal all of them do.
  *   Order      the list's refusal comes first: in the header NO_MARK, CUT, VERSION; in a record UNKNOWN_KIND, CUT, then
- *              TOO_MANY_FITTINGS, or NOT_LANDED, SAME_FITTING, LENGTH, TOO_MANY_PIPES. Then come the refusals of the call,
+ *              TOO_MANY_FITTINGS, or NOT_LANDED, SAME_FITTING, LENGTH, VOLUME, TOO_MANY_PIPES. Then come the refusals of the call,
  *              SHORT_ANSWER last. Whether NOT_LANDED is the list's or the call's, pnl_sheet tells: it has none of its own.
  *   Lengths    list_len and answer_len are in bytes, of any size. A pointer may be null where its length is 0.
  *   Overlap    `list` and `answer` must not overlap.
  *   Threads    nothing is shared or kept between calls, nothing is allocated, no signal is used: any number of threads may call at
  *              once, as long as no thread writes a list or an answer that another call was given.
- *   Stack      a call uses less than 160 KiB. A thread's default stack may be smaller (musl: 128 KiB). The call touches its pages one by
+ *   Stack      a call uses less than 176 KiB. A thread's default stack may be smaller (musl: 128 KiB). The call touches its pages one by
  *              one before it writes to any, so on a stack that is too small it ends at the guard page and harms nothing behind it.
  *   Linking    the archive is position independent: it links into programs and into shared objects alike (README.md has the lines). From
  *              the C library it needs memset alone.
@@ -69,13 +70,14 @@ extern "C" {
 enum pnl_refusal {
     /* The list: its header. */
     PNL_REFUSED_NO_MARK = -1,           /* shorter than 3 bytes, or other bytes than "PNL" in front */
-    PNL_REFUSED_VERSION = -2,           /* the version is not 1 */
+    PNL_REFUSED_VERSION = -2,           /* the version is neither 1 nor 2 */
     PNL_REFUSED_CUT = -3,               /* the list ends within its header or within a record */
     /* The list: a record. */
     PNL_REFUSED_UNKNOWN_KIND = -4,      /* a record that begins with neither 0x46 (fitting) nor 0x50 (pipe) */
     PNL_REFUSED_NOT_LANDED = -5,        /* a pipe, or pnl_distance, names a fitting that was not landed */
     PNL_REFUSED_SAME_FITTING = -6,      /* a pipe from a fitting to itself */
     PNL_REFUSED_LENGTH = -7,            /* a pipe of length 0 or above 100,000 mm */
+    PNL_REFUSED_VOLUME = -31,           /* a pipe with a volume above 1,000,000 ml */
     PNL_REFUSED_TOO_MANY_FITTINGS = -22, /* a 4,097th fitting */
     PNL_REFUSED_TOO_MANY_PIPES = -23,   /* a 4,097th pipe */
     /* The valve. */
@@ -92,8 +94,8 @@ enum pnl_refusal {
 
 /* Sizes of answers, in bytes. */
 enum pnl_size {
-    PNL_SHEET_ROW = 20,                 /* one run or ring of the sheet */
-    PNL_SHEET_MOST = 81920,             /* the largest sheet, 4,096 lines: always enough for pnl_sheet */
+    PNL_SHEET_ROW = 24,                 /* one run or ring of the sheet */
+    PNL_SHEET_MOST = 98304,             /* the largest sheet, 4,096 lines: always enough for pnl_sheet */
     PNL_FIND_SIZE = 16,                 /* the answer of pnl_find and of pnl_find_at */
     PNL_DISTANCE_SIZE = 4               /* the answer of pnl_distance */
 };
@@ -114,12 +116,13 @@ static inline const char *pnl_refusal_text(int32_t returned)
 {
     switch (returned) {
     case PNL_REFUSED_NO_MARK: return "the list does not begin with the letters PNL";
-    case PNL_REFUSED_VERSION: return "the list's version is not 1";
+    case PNL_REFUSED_VERSION: return "the list's version is neither 1 nor 2";
     case PNL_REFUSED_CUT: return "the list ends within its header or within a record";
     case PNL_REFUSED_UNKNOWN_KIND: return "the record is neither a fitting nor a pipe";
     case PNL_REFUSED_NOT_LANDED: return "there is no fitting of that number yet";
     case PNL_REFUSED_SAME_FITTING: return "the pipe goes from a fitting to itself";
     case PNL_REFUSED_LENGTH: return "the pipe's length is 0 or above 100,000 mm";
+    case PNL_REFUSED_VOLUME: return "the pipe's volume is above 1,000,000 ml";
     case PNL_REFUSED_TOO_MANY_FITTINGS: return "there are 4,096 fittings already";
     case PNL_REFUSED_TOO_MANY_PIPES: return "there are 4,096 pipes already";
     case PNL_REFUSED_WINDOW: return "no records leave such a window";
@@ -133,9 +136,10 @@ static inline const char *pnl_refusal_text(int32_t returned)
     }
 }
 
-/* The runs and rings by rising name, PNL_SHEET_ROW bytes each, five numbers: name; the end with the lower fitting number; the other end;
- * how many couplings; length in mm. A ring has its lowest fitting as both ends and all its fittings as couplings. Returns PNL_SHEET_ROW
- * times the number of runs and rings, which is at most the number of pipes.
+/* The runs and rings by rising name, PNL_SHEET_ROW bytes each, six numbers: name; the end with the lower fitting number; the other end;
+ * how many couplings; length in mm; volume in ml, or 0 where that of one of its pipes is not known. A volume is at most 4,096,000,000: it
+ * needs all 32 bits. A ring has its lowest fitting as both ends and all its fittings as couplings. Returns PNL_SHEET_ROW times the number
+ * of runs and rings, which is at most the number of pipes.
  *
  * Refusals: those of the list; PNL_REFUSED_SHORT_ANSWER. */
 int32_t pnl_sheet(const uint8_t *list, size_t list_len, uint8_t *answer, size_t answer_len);

@@ -7,8 +7,12 @@
 #include "pnl.h"
 
 #define HEADER "PNL\1\0"
+#define HEADER2 "PNL\2\0"
 /* From fitting 0 to fitting 1, of 1 mm. */
 #define PIPE "P\0\0\1\0\1\0\0\0"
+/* The same with the largest volume, and with one more. */
+#define PIPE2 PIPE "\100\102\17\0"
+#define PIPE2_ABOVE PIPE "\101\102\17\0"
 /* Pipes 0-1 and 1-2, so that fitting 1 is a coupling; nothing is joined to fitting 3. */
 #define HOUSE HEADER "FFFF" PIPE "P\1\0\2\0\1\0\0\0"
 
@@ -65,12 +69,14 @@ static int32_t full_sheet(size_t fittings, size_t pipes)
 static void compare_refusals(void)
 {
     REFUSED(PNL_REFUSED_NO_MARK, pnl_sheet(LIST("PN"), ROOM));
-    REFUSED(PNL_REFUSED_VERSION, pnl_sheet(LIST("PNL\2\0"), ROOM));
+    REFUSED(PNL_REFUSED_VERSION, pnl_sheet(LIST("PNL\3\0"), ROOM));
     REFUSED(PNL_REFUSED_CUT, pnl_sheet(LIST("PNL\1"), ROOM));
     REFUSED(PNL_REFUSED_UNKNOWN_KIND, pnl_sheet(LIST(HEADER "G"), ROOM));
     REFUSED(PNL_REFUSED_NOT_LANDED, pnl_sheet(LIST(HEADER "F" PIPE), ROOM));
     REFUSED(PNL_REFUSED_SAME_FITTING, pnl_sheet(LIST(HEADER "F" "P\0\0\0\0\1\0\0\0"), ROOM));
     REFUSED(PNL_REFUSED_LENGTH, pnl_sheet(LIST(HEADER "FF" "P\0\0\1\0\0\0\0\0"), ROOM));
+    REFUSED(PNL_REFUSED_VOLUME, pnl_sheet(LIST(HEADER2 "FF" PIPE2_ABOVE), ROOM));
+    COMPARE(PNL_REFUSED_CUT, pnl_sheet(LIST(HEADER2 "FF" PIPE), ROOM));
     REFUSED(PNL_REFUSED_TOO_MANY_FITTINGS, full_sheet(4097, 0));
     REFUSED(PNL_REFUSED_TOO_MANY_PIPES, full_sheet(4, 4097));
     REFUSED(PNL_REFUSED_NO_COUPLING, pnl_find(LIST(HOUSE), 0, ROOM));
@@ -81,6 +87,9 @@ static void compare_answers(void)
 {
     COMPARE(PNL_SHEET_ROW, pnl_sheet(LIST(HOUSE), ROOM));
     COMPARE(PNL_SHEET_MOST, full_sheet(4, 4096));
+    compare("the volume of a list of version 1", 0, pnl_number(answer, 5));
+    COMPARE(PNL_SHEET_ROW, pnl_sheet(LIST(HEADER2 "FF" PIPE2), ROOM));
+    compare("the volume of a list of version 2", 1000000, pnl_number(answer, 5));
     COMPARE(PNL_FIND_SIZE, pnl_find(LIST(HOUSE), 8192, ROOM));
     COMPARE(PNL_FIND_SIZE, pnl_find_at(LIST(HOUSE), 1, ROOM));
     COMPARE(PNL_DISTANCE_SIZE, pnl_distance(LIST(HOUSE), 0, 3, ROOM));

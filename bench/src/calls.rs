@@ -2,11 +2,11 @@
 
 use crate::edges::{comb, line, ring, tapped_rings, tree, Edges, Random};
 use crate::plain::Register;
-use crate::{compare, list, several, shuffled, stack, GROW};
+use crate::{compare, list, record_size, several, shuffled, stack, GROW};
 use std::hint::black_box;
 
 /// The bytes of the largest sheet.
-const SHEET_MOST: usize = 81_920;
+const SHEET_MOST: usize = 98_304;
 
 extern "C" {
     fn pnl_sheet(list: *const u8, list_len: usize, answer: *mut u8, answer_len: usize) -> i32;
@@ -99,17 +99,22 @@ fn grid(side: usize) -> Edges {
     across.chain(down).collect()
 }
 
-/// The list with other lengths, 1 to 100,000.
+/// The list with other lengths, 1 to 100,000, and in version 2 other volumes, 1 to 1,000,000.
 fn with_lengths(mut list: Vec<u8>, fittings: usize, random: &mut Random) -> Vec<u8> {
-    for record in list[5 + fittings..].chunks_exact_mut(9) {
+    let size = record_size(list[3]);
+    for record in list[5 + fittings..].chunks_exact_mut(size) {
         let length = 1 + random.below(100_000) as u32;
-        record[5..].copy_from_slice(&length.to_le_bytes());
+        record[5..9].copy_from_slice(&length.to_le_bytes());
+        let volume = 1 + random.below(1_000_000) as u32;
+        if size > 9 {
+            record[9..].copy_from_slice(&volume.to_le_bytes());
+        }
     }
     list
 }
 
 /// Lists of each shape: one where the shape is fixed, several where it is random.
-fn full_lists(random: &mut Random) -> Vec<(&'static str, Vec<Vec<u8>>)> {
+fn full_lists(version: u8, random: &mut Random) -> Vec<(&'static str, Vec<Vec<u8>>)> {
     let houses = [
         ("line in order", 4096, vec![line(4096)]),
         ("line in random order", 4096, several(|| shuffled(line(4096), random))),
@@ -119,7 +124,7 @@ fn full_lists(random: &mut Random) -> Vec<(&'static str, Vec<Vec<u8>>)> {
         ("ring", 4096, vec![ring(4096)]),
         ("rings of two, tapped", 4095, vec![tapped_rings(4095)]),
     ];
-    let mut lists = |n, houses: Vec<Vec<_>>| houses.iter().map(|edges| with_lengths(list(n, edges), n, random)).collect();
+    let mut lists = |n, houses: Vec<Vec<_>>| houses.iter().map(|edges| with_lengths(list(version, n, edges), n, random)).collect();
     houses.into_iter().map(|(name, n, houses)| (name, lists(n, houses))).collect()
 }
 
@@ -136,10 +141,10 @@ fn calls_on(list: &[u8]) -> [(&'static str, Call); 4] {
     ]
 }
 
-pub fn table(random: &mut Random) {
+pub fn table(version: u8, random: &mut Random) {
     println!("calls on full lists");
     println!("{:<14} {:<22} {:>9} {:>9} {:>6} {:>8}", "call", "shape", "proved", "plain", "ratio", "stack");
-    for (shape, lists) in full_lists(random) {
+    for (shape, lists) in full_lists(version, random) {
         for kind in 0..4 {
             let asked: Vec<_> = lists.iter().map(|list| (calls_on(list)[kind].1, &list[..])).collect();
             let (proved, plain) = times(&asked, shape);
@@ -155,12 +160,12 @@ fn legs(count: usize) -> Edges {
 }
 
 /// Find by the age of a tag: the highest tag is the newest run's, the lowest the oldest one's, and the last is nobody's.
-pub fn newest_table(random: &mut Random) {
+pub fn newest_table(version: u8, random: &mut Random) {
     println!("find from the newest run, on full lists");
     println!("{:<26} {:>9} {:>9} {:>9} {:>9} {:>6}", "shape", "grow", "newest", "oldest", "none", "ratio");
-    let mut shapes = full_lists(random);
-    shapes.push(("2,047 legs", vec![list(4095, &legs(2047))]));
-    shapes.push(("2,047 legs in random order", several(|| list(4095, &shuffled(legs(2047), random)))));
+    let mut shapes = full_lists(version, random);
+    shapes.push(("2,047 legs", vec![list(version, 4095, &legs(2047))]));
+    shapes.push(("2,047 legs in random order", several(|| list(version, 4095, &shuffled(legs(2047), random)))));
     for (shape, lists) in shapes {
         let time = |call_on: &dyn Fn(&Register) -> Call| {
             let asked: Vec<_> = lists.iter().map(|list| (call_on(&Register::grow(list).0), &list[..])).collect();

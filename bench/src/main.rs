@@ -1,6 +1,7 @@
 //! Growing and the sheet on lists of 512 to 4,096 fittings, and every call from C, with its stack, on full lists: the proved register
 //! against the same algorithm in plain Rust, in one run. Each figure is the least of many rounds, in microseconds, taken in turns; for a
-//! random shape it is the mean over several lists. The ratio is proved / plain.
+//! random shape it is the mean over several lists. The ratio is proved / plain. Lists are of version 2, with all volumes known; with the
+//! argument 1 they are of version 1.
 
 mod calls;
 #[path = "../../tests/shared/edges.rs"]
@@ -11,6 +12,7 @@ mod stack;
 
 use calls::{all_alike, times, Call};
 use edges::{comb, line, ring, tapped_rings, tree, Edges, Random};
+use std::env;
 use std::hint::black_box;
 use std::time::Instant;
 
@@ -18,14 +20,26 @@ use std::time::Instant;
 const GROW: Call = Call::FindAt(u32::MAX);
 const SIZES: [usize; 4] = [512, 1024, 2048, 4096];
 
-fn list(vertices: usize, edges: &[(usize, usize)]) -> Vec<u8> {
-    let mut bytes = b"PNL\x01\x00".to_vec();
+/// The bytes of a pipe in a list.
+fn record_size(version: u8) -> usize {
+    if version == 1 {
+        9
+    } else {
+        13
+    }
+}
+
+fn list(version: u8, vertices: usize, edges: &[(usize, usize)]) -> Vec<u8> {
+    let mut bytes = [&b"PNL"[..], &[version, 0]].concat();
     bytes.resize(5 + vertices, 0x46);
     for &(a, b) in edges {
         bytes.push(0x50);
         bytes.extend((a as u16).to_le_bytes());
         bytes.extend((b as u16).to_le_bytes());
         bytes.extend(1000u32.to_le_bytes());
+        if version > 1 {
+            bytes.extend(314u32.to_le_bytes());
+        }
     }
     bytes
 }
@@ -98,18 +112,19 @@ fn put_heading(table: &str, shape: &str) {
     println!("{shape:<28} {:>6} {:>9} {:>9} {:>6}", "pipes", "proved", "plain", "ratio");
 }
 
-/// A row for each shape: the call on its houses of n fittings. A call of each kind is compared before: GROW has no answer.
-fn put_rows(call: Call, n: usize, shapes: &[(&str, Vec<Edges>)]) {
+/// A row for each shape: the call on its houses of n fittings. A call of each kind is compared before, in both versions: GROW has no answer.
+fn put_rows(version: u8, call: Call, n: usize, shapes: &[(&str, Vec<Edges>)]) {
     for (name, houses) in shapes {
-        let lists: Vec<_> = houses.iter().map(|edges| list(n, edges)).collect();
+        let lists: Vec<_> = houses.iter().map(|edges| list(version, n, edges)).collect();
         lists.iter().for_each(|list| all_alike(list, name));
+        houses.iter().for_each(|edges| all_alike(&list(3 - version, n, edges), name));
         let asked: Vec<_> = lists.iter().map(|list| (call, &list[..])).collect();
         let (proved, plain) = times(&asked, name);
         println!("{name:<28} {:>6} {proved:>9.1} {plain:>9.1} {:>6.2}", houses[0].len(), proved / plain);
     }
 }
 
-fn grow_table(random: &mut Random) {
+fn grow_table(version: u8, random: &mut Random) {
     put_heading("grow", "shape");
     for n in SIZES {
         let shapes = [
@@ -122,11 +137,11 @@ fn grow_table(random: &mut Random) {
             ("ring", vec![ring(n)]),
             ("rings of two, tapped", vec![tapped_rings(n)]),
         ];
-        put_rows(GROW, n, &shapes);
+        put_rows(version, GROW, n, &shapes);
     }
 }
 
-fn sheet_table(random: &mut Random) {
+fn sheet_table(version: u8, random: &mut Random) {
     put_heading("grow and sheet", "line numbered");
     for n in SIZES {
         let rising = line(n);
@@ -138,14 +153,16 @@ fn sheet_table(random: &mut Random) {
             ("inside out", vec![inside_out(n)]),
             ("rising, and closed", vec![ring(n)]),
         ];
-        put_rows(Call::Sheet, n, &shapes);
+        put_rows(version, Call::Sheet, n, &shapes);
     }
 }
 
 fn main() {
     let mut random = Random(0x9E37_79B9_7F4A_7C15);
-    grow_table(&mut random);
-    sheet_table(&mut random);
-    calls::table(&mut random);
-    calls::newest_table(&mut random);
+    let version = if env::args().nth(1).as_deref() == Some("1") { 1 } else { 2 };
+    println!("lists of version {version}");
+    grow_table(version, &mut random);
+    sheet_table(version, &mut random);
+    calls::table(version, &mut random);
+    calls::newest_table(version, &mut random);
 }

@@ -11,6 +11,7 @@ pub struct Register {
     sides: Vec<[u16; 2]>,
     ends: Vec<[u16; 2]>,
     lengths: Vec<u32>,
+    volumes: Vec<u32>,
     labels: Vec<u32>,
     vertices: usize,
     edges: usize,
@@ -27,11 +28,13 @@ struct Walker {
     at: u16,
 }
 
-/// Where a walk ends, its regular vertices, the lengths of the edges behind them, and the least of them and of its home.
+/// Where a walk ends, its regular vertices, the lengths of the edges behind them, their volumes with those before it (0: unknown), and the
+/// least of them and of its home.
 struct WalkEnd {
     at: u16,
     inner: u32,
     length: u32,
+    volume: u32,
     lowest: u16,
 }
 
@@ -42,6 +45,7 @@ impl Register {
             sides: vec![[0; 2]; VERTICES],
             ends: vec![[0; 2]; EDGES],
             lengths: vec![0; EDGES],
+            volumes: vec![0; EDGES],
             labels: vec![0; VERTICES],
             vertices: 0,
             edges: 0,
@@ -58,8 +62,8 @@ impl Register {
         (register, refusal)
     }
 
-    /// The sheet's numbers, five a run or ring, by rising name: each is walked once, from its first pipe in rising order.
-    pub fn sheet(&self) -> Vec<[u32; 5]> {
+    /// The sheet's numbers, six a run or ring, by rising name: each is walked once, from its first pipe in rising order.
+    pub fn sheet(&self) -> Vec<[u32; 6]> {
         let mut seen = vec![false; self.edges];
         let mut rows = Vec::new();
         for e in 0..self.edges {
@@ -70,22 +74,24 @@ impl Register {
         rows
     }
 
-    fn row(&self, name: u16, seen: &mut [bool]) -> [u32; 5] {
+    fn row(&self, name: u16, seen: &mut [bool]) -> [u32; 6] {
         let [first, second] = self.ends[usize::from(name)];
         let length = self.lengths[usize::from(name)];
         seen[usize::from(name)] = true;
-        let on = self.walk_marking(Walker { edge: name, at: second }, first, seen);
+        let volume = self.volumes[usize::from(name)];
+        let on = self.walk_marking(Walker { edge: name, at: second }, first, volume, seen);
         if self.is_regular(on.at) {
             let lowest = u32::from(on.lowest);
-            return [u32::from(name), lowest, lowest, 1 + on.inner, length + on.length];
+            return [u32::from(name), lowest, lowest, 1 + on.inner, length + on.length, on.volume];
         }
-        let back = self.walk_marking(Walker { edge: name, at: first }, on.at, seen);
+        let back = self.walk_marking(Walker { edge: name, at: first }, on.at, on.volume, seen);
         let (lower, other) = (back.at.min(on.at), back.at.max(on.at));
-        [u32::from(name), u32::from(lower), u32::from(other), back.inner + on.inner, back.length + length + on.length]
+        let (inner, length) = (back.inner + on.inner, back.length + length + on.length);
+        [u32::from(name), u32::from(lower), u32::from(other), inner, length, back.volume]
     }
 
     /// A walk to the end of a chain, or round a ring to its home.
-    fn walk_marking(&self, mut w: Walker, home: u16, seen: &mut [bool]) -> WalkEnd {
+    fn walk_marking(&self, mut w: Walker, home: u16, mut volume: u32, seen: &mut [bool]) -> WalkEnd {
         let (mut inner, mut length, mut lowest) = (0, 0, home);
         while self.is_regular(w.at) && w.at != home {
             lowest = lowest.min(w.at);
@@ -93,17 +99,19 @@ impl Register {
             seen[usize::from(w.edge)] = true;
             inner += 1;
             length += self.lengths[usize::from(w.edge)];
+            volume = volume_onto(volume, self.volumes[usize::from(w.edge)]);
         }
-        WalkEnd { at: w.at, inner, length, lowest }
+        WalkEnd { at: w.at, inner, length, volume, lowest }
     }
 
     fn land(&mut self, list: &[u8]) -> u32 {
-        if list.len() < 5 || &list[..5] != b"PNL\x01\x00" {
+        if list.len() < 5 || &list[..3] != b"PNL" || !(1..=2).contains(&list[3]) || list[4] != 0 {
             return 1;
         }
+        let size = if list[3] == 1 { 9 } else { 13 };
         let mut at = 5;
         while at < list.len() {
-            match self.land_record(list, at) {
+            match self.land_record(list, at, size) {
                 Ok(next) => at = next,
                 Err(refusal) => return refusal,
             }
@@ -111,19 +119,20 @@ impl Register {
         0
     }
 
-    /// Lands the record at a place of the list; gives the place of the next one, or the refusal.
-    fn land_record(&mut self, list: &[u8], at: usize) -> Result<usize, u32> {
+    /// Lands the record at a place of the list, whose edges have so many bytes; gives the place of the next one, or the refusal.
+    fn land_record(&mut self, list: &[u8], at: usize, size: usize) -> Result<usize, u32> {
         match list[at] {
             0x46 if self.vertices == VERTICES => Err(22),
             0x46 => {
                 self.vertices += 1;
                 Ok(at + 1)
             }
-            0x50 if at + 9 <= list.len() => {
+            0x50 if at + size <= list.len() => {
                 let word = |i: usize| u16::from_le_bytes([list[i], list[i + 1]]);
-                let length = u32::from(word(at + 5)) | u32::from(word(at + 7)) << 16;
-                match self.land_edge(word(at + 1), word(at + 3), length) {
-                    0 => Ok(at + 9),
+                let number = |i: usize| u32::from(word(i)) | u32::from(word(i + 2)) << 16;
+                let volume = if size == 13 { number(at + 9) } else { 0 };
+                match self.land_edge(word(at + 1), word(at + 3), number(at + 5), volume) {
+                    0 => Ok(at + size),
                     refusal => Err(refusal),
                 }
             }
@@ -132,7 +141,7 @@ impl Register {
         }
     }
 
-    fn land_edge(&mut self, a: u16, b: u16, length: u32) -> u32 {
+    fn land_edge(&mut self, a: u16, b: u16, length: u32, volume: u32) -> u32 {
         if usize::from(a) >= self.vertices || usize::from(b) >= self.vertices {
             return 5;
         }
@@ -141,6 +150,9 @@ impl Register {
         }
         if length == 0 || length > 100_000 {
             return 7;
+        }
+        if volume > 1_000_000 {
+            return 31;
         }
         if self.edges == EDGES {
             return 23;
@@ -165,6 +177,7 @@ impl Register {
         }
         self.ends[self.edges] = [a, b];
         self.lengths[self.edges] = length;
+        self.volumes[self.edges] = volume;
         self.edges += 1;
         0
     }
@@ -347,6 +360,15 @@ impl Register {
             self.put_label(w.at, label, w.edge, on, up);
             w = Walker { edge: on, at: self.far(on, w.at) };
         }
+    }
+}
+
+/// The sum of two volumes, unknown where one of them is.
+fn volume_onto(one: u32, other: u32) -> u32 {
+    if one == 0 || other == 0 {
+        0
+    } else {
+        one + other
     }
 }
 

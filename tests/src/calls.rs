@@ -72,7 +72,7 @@ pub fn returned(answer: &Answer, slice: &mut [u8]) -> i32 {
         Err(refusal) => Err(*refusal),
     };
     match count {
-        Ok(count) => i32::try_from(count).expect("at most 81,920"),
+        Ok(count) => i32::try_from(count).expect("at most 98,304"),
         Err(refusal) => -refusal.number(),
     }
 }
@@ -127,10 +127,10 @@ mod tests {
             answered(4, &distance(&grown, 0, 5)),
             (4, 4500_u32.to_le_bytes().to_vec())
         );
-        let (value, slice) = answered(61, &grown.sheet());
-        assert_eq!(value, 60);
+        let (value, slice) = answered(73, &grown.sheet());
+        assert_eq!(value, 72);
         assert_eq!(slice[..4], [0, 0, 0, 0]);
-        assert_eq!(slice[56..], [0x84, 0x03, 0, 0, UNTOUCHED]);
+        assert_eq!(slice[64..], [0x84, 0x03, 0, 0, 0, 0, 0, 0, UNTOUCHED]);
     }
 
     #[test]
@@ -166,7 +166,7 @@ mod tests {
 
     #[test]
     fn an_empty_sheet_needs_no_room() {
-        let grown = Grown::of(&list::header());
+        let grown = Grown::of(&list::header(1));
         assert_eq!(answered(0, &grown.sheet()), (0, vec![]));
     }
 }

@@ -28,13 +28,24 @@ pub fn list(seed: u64, index: usize) -> Vec<u8> {
         return full::list(random, index / FULL_SIZE_EVERY);
     }
     match random.below(100) {
-        0..=54 => list::write(&whole(random)),
+        0..=54 => whole_list(random),
         55..=79 => stops::any(random),
         80..=89 => damage::damaged(random),
         90..=93 => damage::noise(random),
         94..=98 => damage::record_soup(random),
         _ => damage::about_the_longest(random),
     }
+}
+
+/// A list of either version, of a house of some shape, that is landed whole.
+pub fn whole_list(random: &mut Random) -> Vec<u8> {
+    let records = whole(random);
+    list::write(version(random), &records)
+}
+
+/// One of the versions that a list may have.
+pub fn version(random: &mut Random) -> u16 {
+    random.pick(&list::VERSIONS)
 }
 
 /// The records of a house of some shape, none of them refused.
@@ -61,6 +72,8 @@ fn small_size(random: &mut Random) -> usize {
 #[cfg(test)]
 mod tests {
     use super::*;
+    use std::collections::BTreeSet;
+
     use crate::list::grow;
     use crate::tally::Cases;
 
@@ -74,17 +87,35 @@ mod tests {
     #[test]
     fn whole_lists_are_not_refused() {
         for index in 0..500 {
-            let records = whole(&mut Random::of_list(11, index));
-            assert_eq!(grow(&list::write(&records)).1, Ok(()), "list {index}");
+            let list = whole_list(&mut Random::of_list(11, index));
+            assert_eq!(grow(&list).1, Ok(()), "list {index}");
         }
+    }
+
+    /// Runs of several pipes with every volume known, with one unknown, and with all; in version 1
+    /// none is known.
+    #[test]
+    fn volumes_are_known_and_unknown() {
+        let mut seen = BTreeSet::new();
+        for index in 0..500 {
+            let list = whole_list(&mut Random::of_list(17, index));
+            let house = grow(&list).0;
+            for run in house.runs().iter().filter(|run| run.pipes().len() > 1) {
+                let volumes = run.pipes().iter().map(|&pipe| house.pipes()[pipe].volume);
+                let unknown = volumes.filter(|&volume| volume == 0).count();
+                assert!(list[3] == 2 || unknown == run.pipes().len());
+                seen.insert((unknown == 0, unknown == run.pipes().len()));
+            }
+        }
+        assert_eq!(seen.len(), 3);
     }
 
     #[test]
     fn every_case_of_landing_comes_up_often() {
         let mut cases = Cases::default();
-        for index in 0..500 {
-            let records = whole(&mut Random::of_list(13, index));
-            cases.count(&grow(&list::write(&records)).0);
+        for index in 0..1_000 {
+            let list = whole_list(&mut Random::of_list(13, index));
+            cases.count(&grow(&list).0);
         }
         assert_eq!(cases.fewer_than(20), [""; 0]);
     }

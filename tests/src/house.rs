@@ -18,10 +18,13 @@ pub type PipeNumber = usize;
 /// A coupling's tag; 0 at a junction.
 pub type Tag = u32;
 pub type Millimetres = u32;
+/// 0 is unknown.
+pub type Millilitres = u32;
 
 pub const MOST_FITTINGS: usize = 4_096;
 pub const MOST_PIPES: usize = 4_096;
 pub const LONGEST_PIPE: Millimetres = 100_000;
+pub const LARGEST_VOLUME: Millilitres = 1_000_000;
 
 /// The k-th birth uses this times k.
 const BIRTH_STEP: Tag = 8_192;
@@ -32,6 +35,7 @@ pub struct Pipe {
     pub first: Fitting,
     pub second: Fitting,
     pub length: Millimetres,
+    pub volume: Millilitres,
 }
 
 impl Pipe {
@@ -173,7 +177,7 @@ impl House {
         Ok(())
     }
 
-    /// Refusals 5, 6, 7 and 23, in this order.
+    /// Refusals 5, 6, 7, 31 and 23, in this order.
     fn check(&self, pipe: &Pipe) -> Result<(), Refusal> {
         if pipe.first >= self.fittings() || pipe.second >= self.fittings() {
             return Err(Refusal::NotLanded);
@@ -183,6 +187,9 @@ impl House {
         }
         if pipe.length == 0 || pipe.length > LONGEST_PIPE {
             return Err(Refusal::Length);
+        }
+        if pipe.volume > LARGEST_VOLUME {
+            return Err(Refusal::Volume);
         }
         if self.pipes.len() == MOST_PIPES {
             return Err(Refusal::FullPipes);

@@ -27,6 +27,7 @@ fn check(watched: &Watched) {
     check_re_hung_bound(house);
     check_tags(house);
     check_lengths(house);
+    check_volumes(house);
     check_found_lengths(house);
     check_finds(house);
 }
@@ -75,6 +76,27 @@ fn check_lengths(house: &House) {
     let mut all = of_runs.chain(of_rings).collect::<Vec<_>>().concat();
     all.sort_unstable();
     assert_eq!(all, (0..house.pipes().len()).collect::<Vec<_>>());
+}
+
+/// A line has a volume exactly where each of its pipes has one, and these volumes then add up to that of
+/// their pipes.
+fn check_volumes(house: &House) {
+    let volume = |&pipe: &usize| house.pipes()[pipe].volume;
+    let of_runs = house.runs().iter().map(|run| (run.name(), run.pipes()));
+    let of_rings = house.rings().iter().map(|ring| (ring.name(), ring.pipes()));
+    let mut known: u32 = 0;
+    for (name, pipes) in of_runs.chain(of_rings) {
+        let sheet = queries::sheet(house);
+        let line = sheet.iter().find(|line| line[0] as usize == name);
+        let on_sheet = line.expect("a line of this name")[5];
+        assert_eq!(on_sheet == 0, pipes.iter().any(|pipe| volume(pipe) == 0));
+        if on_sheet != 0 {
+            assert_eq!(on_sheet, pipes.iter().map(volume).sum());
+            known += on_sheet;
+        }
+    }
+    let on_sheet: u32 = queries::sheet(house).iter().map(|line| line[5]).sum();
+    assert_eq!(on_sheet, known);
 }
 
 /// Asked by its number, a coupling is found itself, and any other number is refused. The two lengths add up
@@ -183,7 +205,7 @@ fn small_houses_after_every_record() {
 fn distances_of_small_houses() {
     for index in 0..800 {
         let random = &mut Random::of_list(202, index);
-        let list = list::write(&small_house(random, 16));
+        let list = list::write(2, &small_house(random, 16));
         check_distances(&list::grow(&list).0);
     }
 }
@@ -214,7 +236,8 @@ fn land_until_refused(random: &mut Random, watched: &mut Watched) -> Result<(), 
         } else {
             let not_landed = usize::from(random.one_in(12));
             let (first, second) = random.pair_below(fittings + not_landed);
-            records::pipe(first, second, 1 + random.u32() % 500)
+            let (length, volume) = (1 + random.u32() % 500, random.u32() % 3);
+            records::with_volume(first, second, length, volume)
         };
         land(watched, record)?;
     }
@@ -228,7 +251,7 @@ fn rings_are_closed_and_nothing_is_refused() {
     let mut rings = 0;
     for index in 0..3_000 {
         let random = &mut Random::of_list(505, index);
-        let mut house = list::grow(&list::write(&small_house(random, 12))).0;
+        let mut house = list::grow(&list::write(2, &small_house(random, 12))).0;
         let (first, second) = random.pair_below(house.fittings());
         let closes = closes_a_ring(&house, first, second);
         let tapped: BTreeSet<usize> = [first, second]
@@ -251,11 +274,11 @@ fn taps_re_hang_all_others() {
     for size in 2..40 {
         let random = &mut Random::new(size as u64);
         let layout = full::closed_line(random, size);
-        let ring = list::grow(&list::write(&records::of(random, &layout))).0;
+        let ring = list::grow(&list::write(2, &records::of(random, &layout))).0;
         let (one, other) = random.pair_below(size);
         let landed = |joins: &[Record]| {
             let mut house = ring.clone();
-            list::land(&mut house, &list::write(joins)).expect("accepted");
+            list::land(&mut house, &list::write(2, joins)).expect("accepted");
             (
                 house.re_hung() - ring.re_hung(),
                 house.births() - ring.births(),
@@ -288,9 +311,9 @@ fn a_list_landed_in_parts() {
         let random = &mut Random::of_list(404, index);
         let records = gen::whole(random);
         let (before, after) = records.split_at(random.below(records.len() + 1));
-        let mut house = list::grow(&list::write(before)).0;
-        assert_eq!(list::land(&mut house, &list::write(after)), Ok(()));
-        assert_eq!(house, list::grow(&list::write(&records)).0);
+        let mut house = list::grow(&list::write(2, before)).0;
+        assert_eq!(list::land(&mut house, &list::write(2, after)), Ok(()));
+        assert_eq!(house, list::grow(&list::write(2, &records)).0);
     }
 }
 
@@ -336,7 +359,7 @@ fn the_longest_line() {
     let house = grown_in_order(&shapes::line_in_any_order(&mut Random::new(2), 4_096));
     let length = 4_095 * 100_000;
     assert_eq!(queries::distance(&house, 4_095, 0), Ok(Some(length)));
-    assert_eq!(queries::sheet(&house), [[0, 0, 4_095, 4_094, length]]);
+    assert_eq!(queries::sheet(&house), [[0, 0, 4_095, 4_094, length, 0]]);
 }
 
 #[test]
@@ -381,7 +404,7 @@ fn grown_in_order(layout: &Layout) -> House {
     let mut records = vec![Record::Fitting; layout.fittings];
     let joins = layout.joins.iter();
     records.extend(joins.map(|&(first, second)| records::pipe(first, second, 100_000)));
-    let (house, result) = list::grow(&list::write(&records));
+    let (house, result) = list::grow(&list::write(2, &records));
     assert_eq!(result, Ok(()));
     house
 }

@@ -11,18 +11,19 @@ use crate::list;
 use crate::queries::{self, Found};
 use crate::refusal::Refusal;
 
-/// Numbers of degrees, sides, ends, lengths and labels.
-pub const SIZES: [usize; 5] = [
+/// Numbers of degrees, sides, ends, lengths, volumes and labels.
+pub const SIZES: [usize; 6] = [
     MOST_FITTINGS,
     2 * MOST_FITTINGS,
     2 * MOST_PIPES,
+    MOST_PIPES,
     MOST_PIPES,
     MOST_FITTINGS,
 ];
 /// The numbers of the slice that a sheet is lent a part of, and the bytes of the one that a list is
 /// written to.
-pub const SLICE: usize = 20_490;
-pub const BYTES: usize = 40_970;
+pub const SLICE: usize = 24_586;
+pub const BYTES: usize = 57_354;
 /// What the slice holds before a call.
 const SLICE_BEFORE: u32 = 77;
 /// What the tables hold at first, and always the number behind each, which is lent only where the table
@@ -32,8 +33,8 @@ const TABLES_BEFORE: u32 = 9;
 const NOT_GROWN: u32 = 21;
 const WRONG_SIZE: u32 = 25;
 
-/// Degrees, sides, ends, lengths and labels, by their right sizes.
-pub type Tables = [Vec<u32>; 5];
+/// Degrees, sides, ends, lengths, volumes and labels, by their right sizes.
+pub type Tables = [Vec<u32>; 6];
 
 /// Fittings, pipes, births and the re-hung total.
 pub type Head = [u32; 4];
@@ -45,13 +46,14 @@ pub fn tables_of(house: &House) -> (Tables, Head) {
         tables[2][2 * number] = number_of(pipe.first);
         tables[2][2 * number + 1] = number_of(pipe.second);
         tables[3][number] = pipe.length;
+        tables[4][number] = pipe.volume;
     }
     for fitting in 0..house.fittings() {
         tables[0][fitting] = number_of(house.degree(fitting));
         let [low, high] = sides(house, fitting);
         tables[1][2 * fitting] = number_of(low);
         tables[1][2 * fitting + 1] = number_of(high);
-        tables[4][fitting] = house.tags()[fitting];
+        tables[5][fitting] = house.tags()[fitting];
     }
     let counts = [house.fittings(), house.pipes().len()].map(number_of);
     let head = [counts[0], counts[1], house.births(), house.re_hung()];
@@ -82,7 +84,7 @@ fn packed(found: Found) -> (u64, u64) {
 }
 
 fn number_of(count: usize) -> u32 {
-    u32::try_from(count).expect("at most 40,965")
+    u32::try_from(count).expect("at most 57,349")
 }
 
 /// A call by its arguments.
@@ -103,9 +105,9 @@ pub enum Call {
 #[derive(Clone, Debug)]
 pub enum Command {
     Call(Call),
-    /// Number `place` of a table of the register, or of the head (5), becomes this.
+    /// Number `place` of a table of the register, or of the head (6), becomes this.
     Set(usize, usize, u32),
-    /// A table is lent with this size from now on; 5 and up are the scratch.
+    /// A table is lent with this size from now on; 6 and up are the scratch.
     Lend(usize, usize),
 }
 
@@ -144,7 +146,7 @@ pub struct Answer {
     /// Numbers of the scratch that are not 0 after the call.
     scratch: usize,
     head: Head,
-    tables: [u64; 5],
+    tables: [u64; 6],
     slice: u64,
 }
 
@@ -167,18 +169,18 @@ pub struct Lent {
     tables: Tables,
     head: Head,
     /// The lent sizes, of the register and then of the scratch.
-    sizes: [usize; 10],
+    sizes: [usize; 12],
     /// The last tables and head that were grown, and the house.
     grown: Option<(Tables, Head, Option<House>)>,
 }
 
 impl Default for Lent {
     fn default() -> Self {
-        let [a, b, c, d, e] = SIZES;
+        let [a, b, c, d, e, f] = SIZES;
         Lent {
             tables: SIZES.map(|size| vec![TABLES_BEFORE; size]),
             head: [0; 4],
-            sizes: [a, b, c, d, e, a, b, c, d, e],
+            sizes: [a, b, c, d, e, f, a, b, c, d, e, f],
             grown: None,
         }
     }
@@ -236,6 +238,7 @@ impl Lent {
                 first: self.tables[2][2 * number] as usize,
                 second: self.tables[2][2 * number + 1] as usize,
                 length: self.tables[3][number],
+                volume: self.tables[4][number],
             };
             house.land_pipe(pipe).ok()?;
         }

@@ -4,11 +4,21 @@ use crate::house::{House, Pipe};
 use crate::refusal::Refusal;
 
 pub const MARK: &[u8; 3] = b"PNL";
-pub const VERSION: u16 = 1;
+/// Without volumes, and with them (document 02, S-4).
+pub const VERSIONS: [u16; 2] = [1, 2];
+/// The version of the list that is written of a register.
+pub const WRITTEN: u16 = 2;
 pub const FITTING_KIND: u8 = 0x46;
 pub const PIPE_KIND: u8 = 0x50;
+
 /// The bytes of a pipe record after its kind.
-pub const PIPE_BODY: usize = 8;
+pub fn pipe_body(version: u16) -> usize {
+    if version == 1 {
+        8
+    } else {
+        12
+    }
+}
 
 /// A record as it stands in a list; its numbers need not be good ones.
 #[derive(Clone, Copy, Debug, PartialEq, Eq)]
@@ -18,6 +28,8 @@ pub enum Record {
         first: u16,
         second: u16,
         length: u32,
+        /// Not written to a list of version 1, and read from it as 0.
+        volume: u32,
     },
 }
 
@@ -54,55 +66,63 @@ pub fn grow(list: &[u8]) -> (House, Result<(), Stop>) {
 
 /// Lands a list on a register. The records before a stop stand, and nothing after it is read.
 pub fn land(house: &mut House, list: &[u8]) -> Result<(), Stop> {
-    let mut rest = read_header(list).map_err(Stop::Header)?;
+    let (version, mut rest) = read_header(list).map_err(Stop::Header)?;
     let mut number = 0;
     while !rest.is_empty() {
-        rest = land_next(house, rest).map_err(|refusal| Stop::Record(number, refusal))?;
+        rest = land_next(house, version, rest).map_err(|refusal| Stop::Record(number, refusal))?;
         number += 1;
     }
     Ok(())
 }
 
-/// Refusals 1, 3 and 2, in this order; gives the bytes after the header.
-fn read_header(list: &[u8]) -> Result<&[u8], Refusal> {
+/// Refusals 1, 3 and 2, in this order; gives the version and the bytes after the header.
+fn read_header(list: &[u8]) -> Result<(u16, &[u8]), Refusal> {
     let rest = list.strip_prefix(MARK).ok_or(Refusal::NoMark)?;
     let (version, rest) = rest.split_first_chunk().ok_or(Refusal::Cut)?;
-    if u16::from_le_bytes(*version) != VERSION {
+    let version = u16::from_le_bytes(*version);
+    if !VERSIONS.contains(&version) {
         return Err(Refusal::Version);
     }
-    Ok(rest)
+    Ok((version, rest))
 }
 
 /// Reads and lands one record; gives the bytes after it.
-fn land_next<'a>(house: &mut House, bytes: &'a [u8]) -> Result<&'a [u8], Refusal> {
-    let (record, rest) = read_record(bytes)?;
+fn land_next<'a>(house: &mut House, version: u16, bytes: &'a [u8]) -> Result<&'a [u8], Refusal> {
+    let (record, rest) = read_record(version, bytes)?;
     land_record(house, record)?;
     Ok(rest)
 }
 
 /// Refusals 4 and 3, in this order.
-fn read_record(bytes: &[u8]) -> Result<(Record, &[u8]), Refusal> {
+fn read_record(version: u16, bytes: &[u8]) -> Result<(Record, &[u8]), Refusal> {
     let (kind, rest) = bytes.split_first().ok_or(Refusal::Cut)?;
     match *kind {
         FITTING_KIND => Ok((Record::Fitting, rest)),
         PIPE_KIND => {
-            let (body, rest) = rest.split_first_chunk().ok_or(Refusal::Cut)?;
-            Ok((pipe_record(*body), rest))
+            let body = rest.split_at_checked(pipe_body(version));
+            let (body, rest) = body.ok_or(Refusal::Cut)?;
+            Ok((pipe_record(body), rest))
         }
         _ => Err(Refusal::UnknownKind),
     }
 }
 
-fn pipe_record(body: [u8; PIPE_BODY]) -> Record {
-    let [f0, f1, s0, s1, length @ ..] = body;
+/// Where no volume follows the length, it is unknown.
+fn pipe_record(body: &[u8]) -> Record {
+    let (fittings, amounts) = body.split_at(4);
+    let number = |place: usize| {
+        let bytes = amounts.chunks_exact(4).nth(place)?;
+        Some(u32::from_le_bytes([bytes[0], bytes[1], bytes[2], bytes[3]]))
+    };
     Record::Pipe {
-        first: u16::from_le_bytes([f0, f1]),
-        second: u16::from_le_bytes([s0, s1]),
-        length: u32::from_le_bytes(length),
+        first: u16::from_le_bytes([fittings[0], fittings[1]]),
+        second: u16::from_le_bytes([fittings[2], fittings[3]]),
+        length: number(0).expect("a length in both versions"),
+        volume: number(1).unwrap_or(0),
     }
 }
 
-/// Refusal 22 for a fitting, or 5, 6, 7 and 23 for a pipe.
+/// Refusal 22 for a fitting, or 5, 6, 7, 31 and 23 for a pipe.
 pub fn land_record(house: &mut House, record: Record) -> Result<(), Refusal> {
     match record {
         Record::Fitting => house.land_fitting(),
@@ -110,49 +130,59 @@ pub fn land_record(house: &mut House, record: Record) -> Result<(), Refusal> {
             first,
             second,
             length,
+            volume,
         } => house.land_pipe(Pipe {
             first: first.into(),
             second: second.into(),
             length,
+            volume,
         }),
     }
 }
 
 /// The header of a good list.
-pub fn header() -> Vec<u8> {
-    [&MARK[..], &VERSION.to_le_bytes()].concat()
+pub fn header(version: u16) -> Vec<u8> {
+    [&MARK[..], &version.to_le_bytes()].concat()
 }
 
-/// A list of these records.
-pub fn write(records: &[Record]) -> Vec<u8> {
-    let mut list = header();
-    list.extend(records.iter().flat_map(record_bytes));
+/// A list of these records; in version 1, without their volumes.
+pub fn write(version: u16, records: &[Record]) -> Vec<u8> {
+    let mut list = header(version);
+    list.extend(
+        records
+            .iter()
+            .flat_map(|record| record_bytes(version, record)),
+    );
     list
 }
 
-/// The list of a register: all fittings, then the pipes by number (document 02, S-1).
+/// The list of a register: all fittings, then the pipes by number (document 02, S-1 and S-4).
 pub fn written(house: &House) -> Vec<u8> {
     let mut records = vec![Record::Fitting; house.fittings()];
     records.extend(house.pipes().iter().map(|pipe| Record::Pipe {
         first: u16::try_from(pipe.first).expect("below 4,096"),
         second: u16::try_from(pipe.second).expect("below 4,096"),
         length: pipe.length,
+        volume: pipe.volume,
     }));
-    write(&records)
+    write(WRITTEN, &records)
 }
 
-pub fn record_bytes(record: &Record) -> Vec<u8> {
+pub fn record_bytes(version: u16, record: &Record) -> Vec<u8> {
     match record {
         Record::Fitting => vec![FITTING_KIND],
         Record::Pipe {
             first,
             second,
             length,
+            volume,
         } => {
             let mut bytes = vec![PIPE_KIND];
             bytes.extend(first.to_le_bytes());
             bytes.extend(second.to_le_bytes());
             bytes.extend(length.to_le_bytes());
+            bytes.extend(volume.to_le_bytes());
+            bytes.truncate(1 + pipe_body(version));
             bytes
         }
     }
@@ -179,11 +209,14 @@ mod tests {
             (b"PNL\x00\x00", Refusal::Version),
             (b"PNL\x00\x01", Refusal::Version),
             (b"PNL\x01\x01F", Refusal::Version),
+            (b"PNL\x02\x01F", Refusal::Version),
+            (b"PNL\x03\x00F", Refusal::Version),
         ];
         for (list, refusal) in refusals {
             assert_eq!(stop_of(list), Err(Stop::Header(refusal)), "{list:?}");
         }
         assert_eq!(stop_of(b"PNL\x01\x00"), Ok(()));
+        assert_eq!(stop_of(b"PNL\x02\x00"), Ok(()));
     }
 
     #[test]
@@ -215,6 +248,42 @@ mod tests {
     }
 
     #[test]
+    fn records_of_version_2_are_refused_in_order() {
+        let refusals = [
+            // A record of version 1 is cut, and so is one without its last byte.
+            (&b"P\x00\x00\x01\x00\x01\x00\x00\x00"[..], Refusal::Cut),
+            (
+                b"P\x00\x00\x02\x00\x00\x00\x00\x00\xff\xff\xff",
+                Refusal::Cut,
+            ),
+            // The length comes before the volume.
+            (
+                b"P\x00\x00\x01\x00\x00\x00\x00\x00\x41\x42\x0f\x00",
+                Refusal::Length,
+            ),
+            (
+                b"P\x00\x00\x01\x00\x01\x00\x00\x00\x41\x42\x0f\x00",
+                Refusal::Volume,
+            ),
+        ];
+        for (tail, refusal) in refusals {
+            let list = [b"PNL\x02\x00FF", tail].concat();
+            assert_eq!(stop_of(&list), Err(Stop::Record(2, refusal)), "{tail:?}");
+        }
+        let largest = b"PNL\x02\x00FFP\x00\x00\x01\x00\x01\x00\x00\x00\x40\x42\x0f\x00";
+        let (house, result) = grow(largest);
+        assert_eq!((house.pipes()[0].volume, result), (1_000_000, Ok(())));
+    }
+
+    #[test]
+    fn an_unknown_volume_is_that_of_version_1() {
+        let old = b"PNL\x01\x00FFP\x00\x00\x01\x00\x01\x00\x00\x00";
+        let new = b"PNL\x02\x00FFP\x00\x00\x01\x00\x01\x00\x00\x00\x00\x00\x00\x00";
+        assert_eq!(grow(old), grow(new));
+        assert_eq!(written(&grow(old).0), new);
+    }
+
+    #[test]
     fn growing_from_the_written_list_leaves_the_same_register() {
         for index in 0..300 {
             let house = grow(&gen::list(606, index)).0;
@@ -231,19 +300,25 @@ mod tests {
                 first: 1,
                 second: 0,
                 length: 0x0001_0203,
+                volume: 0x000A_0B0C,
             },
         ];
-        let list = write(&records);
-        assert_eq!(list, b"PNL\x01\x00FFP\x01\x00\x00\x00\x03\x02\x01\x00");
-        let (house, result) = grow(&list);
-        assert_eq!(result, Ok(()));
-        assert_eq!(
-            house.pipes(),
-            [Pipe {
-                first: 1,
-                second: 0,
-                length: 66_051
-            }]
-        );
+        let old = b"PNL\x01\x00FFP\x01\x00\x00\x00\x03\x02\x01\x00";
+        let new = b"PNL\x02\x00FFP\x01\x00\x00\x00\x03\x02\x01\x00\x0c\x0b\x0a\x00";
+        for (version, bytes, volume) in [(1, &old[..], 0), (2, new, 658_188)] {
+            let list = write(version, &records);
+            assert_eq!(list, bytes);
+            let (house, result) = grow(&list);
+            assert_eq!(result, Ok(()));
+            assert_eq!(
+                house.pipes(),
+                [Pipe {
+                    first: 1,
+                    second: 0,
+                    length: 66_051,
+                    volume
+                }]
+            );
+        }
     }
 }

@@ -42,8 +42,12 @@ fn print_house(house: &House, f: &mut fmt::Formatter) -> fmt::Result {
     let sheet = queries::sheet(house);
     let (fittings, pipes) = (house.fittings(), house.pipes().len());
     writeln!(f, "{fittings} {pipes} {} {}", sheet.len(), house.re_hung())?;
-    for [name, lower, other, couplings, length] in sheet {
-        writeln!(f, "{name} {lower} {other} {couplings} {length}")?;
+    for [name, lower, other, couplings, length, volume] in sheet {
+        write!(f, "{name} {lower} {other} {couplings} {length} ")?;
+        match volume {
+            0 => writeln!(f, "-")?,
+            _ => writeln!(f, "{volume}")?,
+        }
     }
     Ok(())
 }
@@ -69,7 +73,7 @@ mod tests {
 
     #[test]
     fn more_than_65_536_bytes_are_too_long() {
-        let mut input = list::header();
+        let mut input = list::header(1);
         input.resize(MOST_BYTES, list::FITTING_KIND);
         assert_eq!(printed(&input), "4096 0 0 0\nstopped 4096 22\n");
         input.push(list::FITTING_KIND);

@@ -1,4 +1,4 @@
-//! Find, distance and sheet (document 01, "What may be called"; document 02, S-2, S-3 and S-7).
+//! Find, distance and sheet (document 01, "What may be called"; document 02, S-2 to S-4 and S-7).
 
 use std::cmp::Reverse;
 use std::collections::{BTreeMap, BinaryHeap};
@@ -8,8 +8,8 @@ use crate::refusal::Refusal;
 use crate::ring::Ring;
 use crate::run::{self, Run};
 
-/// Name, end with the lower number, other end, couplings, length.
-pub type Line = [u32; 5];
+/// Name, end with the lower number, other end, couplings, length, volume or 0.
+pub type Line = [u32; 6];
 
 /// What a find answers: the run or ring, the coupling that wears the tag, and the lengths from there to
 /// the low and the high end; in a ring, 0 and the ring's length.
@@ -169,6 +169,7 @@ fn line(house: &House, run: &Run) -> Line {
         number(run.low().max(run.high())),
         number(run.couplings().len()),
         run.length(house.pipes()),
+        run.volume(house.pipes()),
     ]
 }
 
@@ -180,6 +181,7 @@ fn ring_line(house: &House, ring: &Ring) -> Line {
         number(ring.lowest_fitting()),
         number(ring.fittings().len()),
         ring.length(house.pipes()),
+        ring.volume(house.pipes()),
     ]
 }
 

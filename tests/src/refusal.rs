@@ -1,8 +1,8 @@
-//! The refusals of document 01 that a list or a question can meet.
+//! The refusals of documents 01 and 02 that a list or a question can meet.
 //!
 //! 21 and 25 are missing: they speak of lent tables, and here there are none.
 
-/// A refusal under document 01's number, where its condition stands.
+/// A refusal under its number, where its condition stands.
 #[derive(Clone, Copy, Debug, PartialEq, Eq, PartialOrd, Ord)]
 pub enum Refusal {
     NoMark = 1,
@@ -16,6 +16,7 @@ pub enum Refusal {
     TooShort = 9,
     FullFittings = 22,
     FullPipes = 23,
+    Volume = 31,
 }
 
 impl Refusal {

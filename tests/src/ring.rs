@@ -1,7 +1,7 @@
 //! A ring as an ordered list (document 02, S-2).
 
-use crate::house::{Fitting, Millimetres, Pipe, PipeNumber};
-use crate::run::{sum, Run};
+use crate::house::{Fitting, Millilitres, Millimetres, Pipe, PipeNumber};
+use crate::run::{self, sum, Run};
 
 /// A closed path through couplings only: pipe `i` joins fittings `i` and `i + 1`, and the last pipe the
 /// last fitting and the first. Tags rise by 1 from the first fitting to the last.
@@ -53,6 +53,11 @@ impl Ring {
     /// The sum of the pipes.
     pub fn length(&self, pipes: &[Pipe]) -> Millimetres {
         sum(&self.pipes, pipes)
+    }
+
+    /// The sum of the pipes, or 0 where one of them is unknown.
+    pub fn volume(&self, pipes: &[Pipe]) -> Millilitres {
+        run::volume(&self.pipes, pipes)
     }
 
     /// The lengths between two different fittings of this ring, one way round and the other.

@@ -1,6 +1,6 @@
 //! A run as an ordered path (document 01, "Fittings, pipes, runs").
 
-use crate::house::{Fitting, Millimetres, Pipe, PipeNumber};
+use crate::house::{Fitting, Millilitres, Millimetres, Pipe, PipeNumber};
 use crate::ring::Ring;
 
 /// A path of pipes from junction to junction: pipe `i` joins fittings `i` and `i + 1` of the path.
@@ -55,6 +55,11 @@ impl Run {
     /// The sum of the pipes.
     pub fn length(&self, pipes: &[Pipe]) -> Millimetres {
         sum(&self.pipes, pipes)
+    }
+
+    /// The sum of the pipes, or 0 where one of them is unknown.
+    pub fn volume(&self, pipes: &[Pipe]) -> Millilitres {
+        volume(&self.pipes, pipes)
     }
 
     /// The lengths from a coupling of this run to its low and its high end.
@@ -132,6 +137,15 @@ impl Run {
 
 pub fn sum(numbers: &[PipeNumber], pipes: &[Pipe]) -> Millimetres {
     numbers.iter().map(|&number| pipes[number].length).sum()
+}
+
+/// The volume of these pipes together; one that is unknown makes it so (document 02, S-4).
+pub fn volume(numbers: &[PipeNumber], pipes: &[Pipe]) -> Millilitres {
+    let volumes = numbers.iter().map(|&number| match pipes[number].volume {
+        0 => None,
+        volume => Some(volume),
+    });
+    volumes.sum::<Option<Millilitres>>().unwrap_or(0)
 }
 
 /// The runs and the rings by rising name, from the pipes alone. The order of each path, and where a

@@ -114,8 +114,8 @@ pub fn verdict(enough: bool, missing: &[String]) -> ExitCode {
 /// What a list can come to.
 fn kinds() -> Vec<Kind> {
     use Refusal::{Cut, NoMark, UnknownKind, Version};
-    use Refusal::{FullFittings, FullPipes, Length, NotLanded, SameFitting};
-    let of_pipe = [NotLanded, SameFitting, Length, FullPipes];
+    use Refusal::{FullFittings, FullPipes, Length, NotLanded, SameFitting, Volume};
+    let of_pipe = [NotLanded, SameFitting, Length, Volume, FullPipes];
     let mut kinds = vec![Kind::Whole, Kind::TooLong];
     kinds.extend([NoMark, Version, Cut].map(Kind::InHeader));
     kinds.extend([UnknownKind, Cut, FullFittings].map(Kind::InRecord));
@@ -163,7 +163,7 @@ mod tests {
     #[test]
     fn what_was_counted_is_not_missing() {
         let mut tally = Tally::default();
-        let (kinds, cases) = (12, 35);
+        let (kinds, cases) = (13, 35);
         assert_eq!(tally.missing().len(), kinds + cases);
         let pipe = b"P\x00\x00\x01\x00\x05\x00\x00\x00";
         let joined = [&b"PNL\x01\x00FF"[..], pipe].concat();

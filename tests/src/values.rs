@@ -12,7 +12,15 @@ pub fn pipes(fittings: usize, pipes: &[(usize, usize, u32)]) -> Vec<u8> {
     let mut records = vec![Record::Fitting; fittings];
     let pipes = pipes.iter();
     records.extend(pipes.map(|&(first, second, length)| records::pipe(first, second, length)));
-    list::write(&records)
+    list::write(1, &records)
+}
+
+/// The same with volumes, in version 2.
+pub fn with_volumes(fittings: usize, pipes: &[(usize, usize, u32, u32)]) -> Vec<u8> {
+    let mut records = vec![Record::Fitting; fittings];
+    let pipes = pipes.iter();
+    records.extend(pipes.map(|&(a, b, length, volume)| records::with_volume(a, b, length, volume)));
+    list::write(2, &records)
 }
 
 /// The example of "The printing program".
@@ -63,7 +71,7 @@ fn stop_of(list: &[u8]) -> Option<Refusal> {
 fn the_listing() {
     assert_eq!(
         printed(&listing()),
-        "7 6 3 1\n0 0 3 2 3300\n2 3 5 1 1200\n5 3 6 0 900\n"
+        "7 6 3 1\n0 0 3 2 3300 -\n2 3 5 1 1200 -\n5 3 6 0 900 -\n"
     );
 }
 
@@ -76,6 +84,70 @@ fn the_tags_of_the_listing() {
     assert_eq!(queries::find(&house, 8194), Err(Refusal::NoCoupling));
 }
 
+/// Document 02, S-4: the sum where each volume is known, and a dash where one is not.
+#[test]
+fn volumes_of_runs_and_rings() {
+    let listed = |volumes: [u32; 3], ring: [u32; 2]| {
+        let [a, b, c] = volumes;
+        let list = with_volumes(
+            6,
+            &[
+                (0, 1, 10, a),
+                (1, 2, 20, b),
+                (2, 3, 30, c),
+                (4, 5, 1, ring[0]),
+                (5, 4, 2, ring[1]),
+            ],
+        );
+        printed(&list)
+    };
+    let known = "6 5 2 0\n0 0 3 2 60 1000006\n3 4 4 2 3 9\n";
+    assert_eq!(listed([1, 1_000_000, 5], [4, 5]), known);
+    let line_unknown = "6 5 2 0\n0 0 3 2 60 -\n3 4 4 2 3 9\n";
+    for volumes in [[0, 2, 3], [1, 0, 3], [1, 2, 0], [0, 0, 0]] {
+        assert_eq!(listed(volumes, [4, 5]), line_unknown);
+    }
+    let ring_unknown = "6 5 2 0\n0 0 3 2 60 6\n3 4 4 2 3 -\n";
+    for volumes in [[0, 5], [4, 0]] {
+        assert_eq!(listed([1, 2, 3], volumes), ring_unknown);
+    }
+    let refused = listed([1, 1_000_001, 0], [0, 0]);
+    assert!(refused.ends_with("\n0 0 1 0 10 1\nstopped 7 31\n"));
+}
+
+/// A pipe of version 1 beside one of version 2 on one run.
+#[test]
+fn lists_of_both_versions_on_one_register() {
+    let mut house = grown(&with_volumes(3, &[(0, 1, 10, 7)]));
+    assert_eq!(queries::sheet(&house), [[0, 0, 1, 0, 10, 7]]);
+    let onward = list::write(1, &[records::with_volume(1, 2, 20, 9)]);
+    assert_eq!(list::land(&mut house, &onward), Ok(()));
+    assert_eq!(queries::sheet(&house), [[0, 0, 2, 1, 30, 0]]);
+}
+
+/// 4,096 pipes of 1,000,000 ml each: below 2 to the 32.
+#[test]
+fn the_largest_volume() {
+    let mut records = vec![Record::Fitting; MOST_FITTINGS];
+    for first in 0..MOST_FITTINGS {
+        let second = (first + 1) % MOST_FITTINGS;
+        records.push(records::with_volume(first, second, 1, 1_000_000));
+    }
+    let house = grown(&list::write(2, &records));
+    let line = [0, 0, 0, 4_096, 4_096, 4_096_000_000];
+    assert_eq!(queries::sheet(&house), [line]);
+}
+
+#[test]
+fn volume_before_full() {
+    let mut records = vec![Record::Fitting; 3];
+    records.push(records::pipe(0, 1, 1));
+    records.resize(3 + MOST_PIPES, records::pipe(0, 2, 1));
+    records.push(records::with_volume(0, 1, 1, 1_000_001));
+    assert_eq!(stop_of(&list::write(2, &records)), Some(Refusal::Volume));
+    assert_eq!(stop_of(&list::write(1, &records)), Some(Refusal::FullPipes));
+}
+
 #[test]
 fn header_alone() {
     assert_eq!(printed(b"PNL\x01\x00"), "0 0 0 0\n");
@@ -84,7 +156,7 @@ fn header_alone() {
 #[test]
 fn two_pipes_on_two_fittings() {
     let list = pipes(2, &[(0, 1, 10), (1, 0, 20)]);
-    assert_eq!(printed(&list), "2 2 1 0\n0 0 0 2 30\n");
+    assert_eq!(printed(&list), "2 2 1 0\n0 0 0 2 30 -\n");
     let house = grown(&list);
     assert_eq!(house.tags(), [8193, 8192]);
     assert_eq!(queries::find_at(&house, 0), Ok(found(0, 0, 0, 30)));
@@ -97,7 +169,7 @@ fn closing_a_run_with_couplings() {
         let house = joined(3, &[(0, 1), (1, 2), closing]);
         assert_eq!(house.tags(), [8191, 8192, 8193]);
         assert_eq!((house.births(), house.re_hung()), (1, 0));
-        assert_eq!(queries::sheet(&house), [[0, 0, 0, 3, 3]]);
+        assert_eq!(queries::sheet(&house), [[0, 0, 0, 3, 3, 0]]);
     }
     // Tags that ran downwards: 3 is the high end, 6 the low one.
     let mut joins = vec![(1, 2), (2, 3), (1, 4), (4, 5), (5, 6), (3, 6)];
@@ -125,7 +197,10 @@ fn a_tapped_ring_of_two() {
     let house = joined(3, &[(0, 1), (1, 0), (0, 2)]);
     assert_eq!(house.tags(), [0, 16_384, 0]);
     assert_eq!((house.births(), house.re_hung()), (2, 1));
-    assert_eq!(queries::sheet(&house), [[0, 0, 0, 1, 2], [2, 0, 2, 0, 1]]);
+    assert_eq!(
+        queries::sheet(&house),
+        [[0, 0, 0, 1, 2, 0], [2, 0, 2, 0, 1, 0]]
+    );
     let lengths = [(0, 1, 10), (1, 0, 200), (2, 1, 1)];
     let house = grown(&pipes(3, &lengths));
     assert_eq!(house.tags(), [16_384, 0, 0]);
@@ -157,7 +232,7 @@ fn two_fittings_of_one_ring() {
     let house = joined(5, &[&ring[..], &[(3, 1)]].concat());
     assert_eq!(house.tags(), [16_386, 0, 16_384, 0, 16_387]);
     assert_eq!((house.births(), house.re_hung()), (2, 3));
-    let lines = [[0, 1, 3, 2, 3], [1, 1, 3, 1, 2], [5, 1, 3, 0, 1]];
+    let lines = [[0, 1, 3, 2, 3, 0], [1, 1, 3, 1, 2, 0], [5, 1, 3, 0, 1, 0]];
     assert_eq!(queries::sheet(&house), lines);
     // A third pipe of a ring of two: nothing is left to wear a tag.
     let house = joined(2, &[(0, 1), (1, 0), (0, 1)]);
@@ -193,7 +268,7 @@ fn a_loop() {
         5,
         &[(0, 3, 5), (0, 4, 5), (0, 1, 10), (1, 2, 20), (2, 0, 30)],
     );
-    assert!(printed(&list).ends_with("\n2 0 0 2 60\n"));
+    assert!(printed(&list).ends_with("\n2 0 0 2 60 -\n"));
     assert_eq!(queries::distance(&grown(&list), 1, 2), Ok(Some(20)));
 }
 
@@ -227,13 +302,13 @@ fn full_and_ring_together() {
 
     let mut not_full = records.clone();
     not_full.push(ring);
-    assert_eq!(grown(&list::write(&not_full)).rings().len(), 1);
+    assert_eq!(grown(&list::write(1, &not_full)).rings().len(), 1);
 
     let mut full = records;
     full.push(records::pipe(hub, 5, 1));
-    assert_eq!(stop_of(&list::write(&full)), None);
+    assert_eq!(stop_of(&list::write(1, &full)), None);
     full.push(ring);
-    assert_eq!(stop_of(&list::write(&full)), Some(Refusal::FullPipes));
+    assert_eq!(stop_of(&list::write(1, &full)), Some(Refusal::FullPipes));
 }
 
 #[test]
@@ -277,19 +352,25 @@ fn two_couplings_of_one_run() {
     let house = joined(6, &[(0, 1), (1, 2), (2, 3), (3, 4), (4, 5), (4, 1)]);
     assert_eq!(house.tags(), [0, 0, 8193, 8194, 0, 0]);
     let sheet = queries::sheet(&house);
-    assert_eq!(sheet[..2], [[0, 0, 1, 0, 1], [1, 1, 4, 2, 3]]);
-    assert_eq!(sheet[2..], [[4, 4, 5, 0, 1], [5, 1, 4, 0, 1]]);
+    assert_eq!(sheet[..2], [[0, 0, 1, 0, 1, 0], [1, 1, 4, 2, 3, 0]]);
+    assert_eq!(sheet[2..], [[4, 4, 5, 0, 1, 0], [5, 1, 4, 0, 1, 0]]);
 }
 
 #[test]
 fn a_free_end_joined_to_its_own_run() {
     let house = joined(4, &[(0, 1), (1, 2), (2, 3), (3, 1)]);
     assert_eq!(house.tags(), [0, 0, 8193, 8194]);
-    assert_eq!(queries::sheet(&house), [[0, 0, 1, 0, 1], [1, 1, 1, 2, 3]]);
+    assert_eq!(
+        queries::sheet(&house),
+        [[0, 0, 1, 0, 1, 0], [1, 1, 1, 2, 3, 0]]
+    );
     // A piece without couplings has no sides: its extension is a birth.
     let house = joined(3, &[(0, 1), (1, 2), (1, 2)]);
     assert_eq!(house.tags(), [0, 0, 16_384]);
-    assert_eq!(queries::sheet(&house), [[0, 0, 1, 0, 1], [1, 1, 1, 1, 2]]);
+    assert_eq!(
+        queries::sheet(&house),
+        [[0, 0, 1, 0, 1, 0], [1, 1, 1, 1, 2, 0]]
+    );
 }
 
 #[test]

@@ -19,7 +19,7 @@ const BEHIND: usize = 32;
 const CUT_EVERY: usize = 50;
 const CUT_MOST: usize = 400;
 /// The largest sheet.
-const SHEET_MOST: usize = 81_920;
+const SHEET_MOST: usize = 98_304;
 /// One call of each kind.
 const CALLS: [Call; 4] = [
     Call::Sheet,
@@ -34,9 +34,9 @@ pub type Difference = String;
 /// Null pointers of length 0: no list is refused with 1; without an answer slice, the sheet of the
 /// header alone is whole, the other calls have their own refusals there, and on a house all have 9.
 pub fn null_pointers() -> Result<(), Difference> {
-    let header = list::header();
+    let header = list::header(1);
     let joined = [records::pipe(0, 1, 1), records::pipe(1, 2, 1)];
-    let house = list::write(&[&[Record::Fitting; 3][..], &joined].concat());
+    let house = list::write(2, &[&[Record::Fitting; 3][..], &joined].concat());
     let cases = [
         (None, [-1; 4]),
         (Some(&header[..]), [0, -8, -8, -5]),

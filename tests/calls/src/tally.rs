@@ -64,7 +64,7 @@ impl Tally {
     /// The refusals that no call returned, the cases of landing that no pipe came to, and whether no two
     /// fittings were found not joined, and no stack was measured.
     pub fn missing(&self) -> Vec<String> {
-        let refusals = (1..=9).chain([22, 23]);
+        let refusals = (1..=9).chain([22, 23, 31]);
         let unseen = refusals.filter(|refusal| !self.returned.contains_key(refusal));
         let mut missing: Vec<String> = unseen.map(|refusal| format!("refusal {refusal}")).collect();
         missing.extend(self.cases.missing());

@@ -29,8 +29,8 @@ struct Tally {
 
 /// The refusals of each call, 0 for an answer.
 const OUTCOMES: [(&str, &[u32]); 7] = [
-    ("grow", &[0, 3, 4, 5, 7, 22, 23, 25]),
-    ("land", &[0, 1, 2, 3, 4, 5, 6, 7, 21, 25]),
+    ("grow", &[0, 3, 4, 5, 7, 22, 23, 25, 31]),
+    ("land", &[0, 1, 2, 3, 4, 5, 6, 7, 21, 25, 31]),
     ("find", &[0, 8, 21, 25]),
     ("find_at", &[0, 8, 21, 25]),
     ("distance", &[0, 5, 21, 25]),

@@ -3,8 +3,8 @@
 use super::layout::Layout;
 use super::random::Random;
 use super::shapes::{self, Shape};
-use super::{records, stops, whole_of, Maker};
-use crate::house::{LONGEST_PIPE, MOST_FITTINGS};
+use super::{records, stops, version, whole_of, Maker};
+use crate::house::{LARGEST_VOLUME, LONGEST_PIPE, MOST_FITTINGS};
 use crate::list::{self, Record};
 
 /// Shapes that are landed whole.
@@ -25,17 +25,19 @@ const WHOLE: &[Shape] = &[
 const STOPPING: &[Maker] = &[
     pipe_too_many,
     ring_too_many,
-    fitting_too_many,
     fault_too_many,
+    volume_too_many,
     cut_too_many,
     kind_too_many,
+    fitting_too_many,
 ];
 
 /// By turns one that is landed whole and one that stops, each kind going round all of its own.
 pub fn list(random: &mut Random, turn: usize) -> Vec<u8> {
     let round = turn / 2;
     if turn.is_multiple_of(2) {
-        list::write(&whole(random, WHOLE[round % WHOLE.len()]))
+        let records = whole(random, WHOLE[round % WHOLE.len()]);
+        list::write(version(random), &records)
     } else {
         STOPPING[round % STOPPING.len()](random)
     }
@@ -65,7 +67,8 @@ pub fn pipe_too_many(random: &mut Random) -> Vec<u8> {
     for _ in 0..random.between(1, 3) {
         layout.joins.push(random.pair_below(fittings));
     }
-    list::write(&records::of(random, &layout))
+    let records = records::of(random, &layout);
+    list::write(version(random), &records)
 }
 
 /// 23: a 4,097th pipe that would close a ring.
@@ -73,7 +76,8 @@ pub fn ring_too_many(random: &mut Random) -> Vec<u8> {
     let line = random.between(2, 50);
     let mut layout = full_layout(random, 1_000, line);
     layout.join(0, line - 1);
-    list::write(&records::of(random, &layout))
+    let records = records::of(random, &layout);
+    list::write(version(random), &records)
 }
 
 /// 5, 6 or 7 and not 23: a 4,097th pipe with a fault of its own.
@@ -86,29 +90,41 @@ pub fn fault_too_many(random: &mut Random) -> Vec<u8> {
         (0, 1, 0),
         (0, 1, LONGEST_PIPE + 1),
     ]);
-    let mut list = full_list(random, fittings);
-    list.extend(list::record_bytes(&records::pipe(first, second, length)));
-    list.extend(list::record_bytes(&Record::Fitting));
+    let version = version(random);
+    let mut list = full_list(random, version, fittings);
+    let fault = records::pipe(first, second, length);
+    list.extend(list::record_bytes(version, &fault));
+    list.extend(list::record_bytes(version, &Record::Fitting));
+    list
+}
+
+/// 31 and not 23: a 4,097th pipe whose volume is too large.
+pub fn volume_too_many(random: &mut Random) -> Vec<u8> {
+    let mut list = full_list(random, 2, 64);
+    let fault = records::with_volume(0, 1, 1, LARGEST_VOLUME + 1);
+    list.extend(list::record_bytes(2, &fault));
     list
 }
 
 /// 3 and not 23: a 4,097th pipe that is cut.
 pub fn cut_too_many(random: &mut Random) -> Vec<u8> {
-    let mut list = full_list(random, 64);
-    list.extend(stops::cut(random, &records::pipe(0, 1, 1)));
+    let version = version(random);
+    let mut list = full_list(random, version, 64);
+    list.extend(stops::cut(random, version, &records::pipe(0, 1, 1)));
     list
 }
 
 /// 4, and neither 22 nor 23: an unknown kind where no fitting and no pipe has room.
 pub fn kind_too_many(random: &mut Random) -> Vec<u8> {
-    let mut list = full_list(random, MOST_FITTINGS);
+    let version = version(random);
+    let mut list = full_list(random, version, MOST_FITTINGS);
     list.push(stops::kind(random));
     list
 }
 
-fn full_list(random: &mut Random, fittings: usize) -> Vec<u8> {
+fn full_list(random: &mut Random, version: u16, fittings: usize) -> Vec<u8> {
     let layout = full_layout(random, fittings, 0);
-    list::write(&records::of(random, &layout))
+    list::write(version, &records::of(random, &layout))
 }
 
 /// A layout of 4,096 pipes. Its first fittings are a line that nothing else is joined to.
@@ -147,6 +163,7 @@ mod tests {
             (pipe_too_many as Maker, &[Refusal::FullPipes][..]),
             (ring_too_many, &[Refusal::FullPipes]),
             (fault_too_many, &faults),
+            (volume_too_many, &[Refusal::Volume]),
             (cut_too_many, &[Refusal::Cut]),
             (kind_too_many, &[Refusal::UnknownKind]),
         ] {
@@ -170,7 +187,7 @@ mod tests {
     fn full_lists_are_whole_otherwise() {
         for &shape in WHOLE {
             let records = whole(&mut Random::new(3), shape);
-            let (house, result) = grow(&list::write(&records));
+            let (house, result) = grow(&list::write(2, &records));
             assert_eq!(result, Ok(()));
             assert!(house.fittings().max(house.pipes().len()) > 3_500);
         }
@@ -180,7 +197,7 @@ mod tests {
     fn full_rings() {
         let lines = |shape, seed| {
             let records = whole(&mut Random::new(seed), shape);
-            let (house, result) = grow(&list::write(&records));
+            let (house, result) = grow(&list::write(2, &records));
             assert_eq!(result, Ok(()));
             (house.births(), queries::sheet(&house))
         };

@@ -125,6 +125,7 @@ fn lands(house: &mut House, (first, second): (usize, usize)) -> bool {
         first,
         second,
         length,
+        volume: 0,
     };
     house.land_pipe(pipe).is_ok()
 }

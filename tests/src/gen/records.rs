@@ -1,9 +1,9 @@
-//! From a layout to records: which fitting has which number, which is named first, the lengths, and
-//! where between the pipes the fittings are landed.
+//! From a layout to records: which fitting has which number, which is named first, the lengths and
+//! volumes, and where between the pipes the fittings are landed.
 
 use super::layout::Layout;
 use super::random::Random;
-use crate::house::LONGEST_PIPE;
+use crate::house::{LARGEST_VOLUME, LONGEST_PIPE};
 use crate::list::Record;
 
 /// The records of a layout, in its order.
@@ -11,23 +11,30 @@ pub fn of(random: &mut Random, layout: &Layout) -> Vec<Record> {
     let numbers = numbering(random, layout);
     let name_in_any_order = !random.one_in(4);
     let lengths = Lengths::any(random);
+    let volumes = Volumes::any(random);
     let mut pipes = Vec::new();
     for &(one, other) in &layout.joins {
         let (mut first, mut second) = (numbers[one], numbers[other]);
         if name_in_any_order && random.one_in(2) {
             (first, second) = (second, first);
         }
-        pipes.push((first, second, lengths.draw(random)));
+        let length = lengths.draw(random);
+        pipes.push((first, second, length, volumes.draw(random)));
     }
     mixed(random, layout.fittings, &pipes)
 }
 
-/// A pipe record of fittings that have numbers of 16 bits.
+/// A pipe record of fittings that have numbers of 16 bits; its volume is unknown.
 pub fn pipe(first: usize, second: usize, length: u32) -> Record {
+    with_volume(first, second, length, 0)
+}
+
+pub fn with_volume(first: usize, second: usize, length: u32, volume: u32) -> Record {
     Record::Pipe {
         first: u16::try_from(first).expect("16 bits"),
         second: u16::try_from(second).expect("16 bits"),
         length,
+        volume,
     }
 }
 
@@ -84,18 +91,53 @@ impl Lengths {
     }
 }
 
+/// How the volumes of a list are drawn.
+enum Volumes {
+    Any,
+    /// Now and then one that is unknown.
+    Gaps,
+    Unknown,
+    Small,
+    Largest,
+    Extreme,
+}
+
+impl Volumes {
+    fn any(random: &mut Random) -> Self {
+        match random.below(8) {
+            0 => Volumes::Unknown,
+            1 => Volumes::Small,
+            2 => Volumes::Largest,
+            3 => Volumes::Extreme,
+            4 | 5 => Volumes::Gaps,
+            _ => Volumes::Any,
+        }
+    }
+
+    fn draw(&self, random: &mut Random) -> u32 {
+        match self {
+            Volumes::Gaps if random.one_in(6) => 0,
+            Volumes::Any | Volumes::Gaps => 1 + random.u32() % LARGEST_VOLUME,
+            Volumes::Unknown => 0,
+            Volumes::Small => 1 + random.u32() % 9,
+            Volumes::Largest => LARGEST_VOLUME,
+            Volumes::Extreme => random.pick(&[0, 1, LARGEST_VOLUME]),
+        }
+    }
+}
+
 /// Fittings landed before the pipes that name them: all at first, as late as can be, or in between.
-fn mixed(random: &mut Random, fittings: usize, pipes: &[(usize, usize, u32)]) -> Vec<Record> {
+fn mixed(random: &mut Random, fittings: usize, pipes: &[(usize, usize, u32, u32)]) -> Vec<Record> {
     let style = random.below(3);
     let mut records = Vec::new();
     let mut landed = if style == 0 { fittings } else { 0 };
     records.resize(landed, Record::Fitting);
-    for &(first, second, length) in pipes {
+    for &(first, second, length, volume) in pipes {
         let early = if style == 1 { 0 } else { random.below(3) };
         let wanted = fittings.min((landed + early).max(first.max(second) + 1));
         records.extend((landed..wanted).map(|_| Record::Fitting));
         landed = landed.max(wanted);
-        records.push(pipe(first, second, length));
+        records.push(with_volume(first, second, length, volume));
     }
     records.extend((landed..fittings).map(|_| Record::Fitting));
     records

@@ -3,8 +3,8 @@
 
 use super::random::Random;
 use super::shapes::{self, Shape};
-use super::{full, list, records, whole_of};
-use crate::house::{House, Standing};
+use super::{full, list, records, version, whole_of};
+use crate::house::{House, Standing, LARGEST_VOLUME};
 use crate::lent::{Call, Command, Lent, BYTES, SIZES, SLICE};
 use crate::list::{self as lists, Record};
 use crate::queries;
@@ -64,13 +64,15 @@ fn grow(source: &mut Source, turn: usize) -> Command {
     } else {
         let shape = random.pick(WITH_RINGS);
         let size = random.between(2, 24);
-        lists::write(&whole_of(random, shape, size))
+        let records = whole_of(random, shape, size);
+        lists::write(version(random), &records)
     };
     list.truncate(LONGEST_LIST);
     Command::Call(Call::Grow(list))
 }
 
-/// A few records drawn from the fittings landed so far, by their degrees, and some that are refused.
+/// A few records drawn from the fittings landed so far, by their degrees, and some that are refused; in
+/// either version, so that pipes of both come to one register.
 fn land(random: &mut Random, house: Option<&House>) -> Call {
     let empty = House::default();
     let mut after = house.unwrap_or(&empty).clone();
@@ -81,11 +83,12 @@ fn land(random: &mut Random, house: Option<&House>) -> Call {
         let _ = lists::land_record(&mut after, record);
         landed.push(record);
     }
-    let mut list = lists::write(&landed);
+    let mut list = lists::write(version(random), &landed);
     match random.below(20) {
         0 => list.truncate(random.below(list.len() + 1)),
         1 => list.push(random.byte()),
-        2 if random.one_in(4) => list[3] = 2,
+        // No version, or the other one.
+        2 => list[3] ^= random.pick(&[2, 3, 4]),
         _ => {}
     }
     Call::Land(list)
@@ -112,7 +115,19 @@ fn record(random: &mut Random, house: &House) -> Record {
     } else {
         1 + random.u32() % 500
     };
-    records::pipe(first + missing, second, length)
+    records::with_volume(first + missing, second, length, volume(random))
+}
+
+/// Mostly known, now and then refused.
+fn volume(random: &mut Random) -> u32 {
+    let known = 1 + random.u32() % 900;
+    let above = (LARGEST_VOLUME + 1).max(random.u32());
+    match random.below(60) {
+        0 => random.pick(&[LARGEST_VOLUME + 1, above]),
+        1 | 2 => LARGEST_VOLUME,
+        3..=10 => 0,
+        _ => known,
+    }
 }
 
 /// A fitting of a ring, or of some standing.
@@ -142,7 +157,7 @@ fn question(random: &mut Random, house: Option<&House>) -> Call {
         2 | 3 => Call::FindAt(coupling(random, house)),
         4 | 5 => Call::Distance(fitting(random, fittings), fitting(random, fittings)),
         6 | 7 => {
-            let needs = house.map_or(5, |house| 5 * queries::sheet(house).len());
+            let needs = house.map_or(6, |house| 6 * queries::sheet(house).len());
             Call::Sheet(room(random, needs, SLICE))
         }
         _ => {
@@ -197,8 +212,9 @@ fn written_back(source: &mut Source, turn: usize, house: Option<&House>) -> Vec<
     let empty = House::default();
     let house = house.unwrap_or(&empty);
     let written = lists::written(house);
-    let cut = 5 + house.fittings() + 9 * source.random.below(house.pipes().len() + 1);
-    let rest = [&lists::header()[..], &written[cut..]].concat();
+    let of_pipe = 1 + lists::pipe_body(lists::WRITTEN);
+    let cut = 5 + house.fittings() + of_pipe * source.random.below(house.pipes().len() + 1);
+    let rest = [&lists::header(lists::WRITTEN)[..], &written[cut..]].concat();
     vec![
         Command::Call(Call::Write(BYTES)),
         grow(source, turn),
@@ -215,7 +231,7 @@ fn written_back(source: &mut Source, turn: usize, house: Option<&House>) -> Vec<
 fn any_call(random: &mut Random, house: Option<&House>) -> Command {
     Command::Call(match random.below(4) {
         0 => land(random, house),
-        1 => Call::Grow(lists::header()),
+        1 => Call::Grow(lists::header(version(random))),
         _ => question(random, house),
     })
 }
@@ -239,9 +255,10 @@ fn with_damage(random: &mut Random, lent: &Lent, house: Option<&House>) -> Vec<C
     let (table, place) = place(random, house);
     let old = lent.number(table, place);
     let any = random.u32();
-    let new = random.pick(&[old ^ 1, old.wrapping_add(1), 0, 1, any]);
+    let above = LARGEST_VOLUME + 1;
+    let new = random.pick(&[old ^ 1, old.wrapping_add(1), 0, 1, above, any]);
     // The first three tables and the first three counts have 16 bits.
-    let wide = [3, 4].contains(&table) || (table == 5 && place == 3);
+    let wide = [3, 4, 5].contains(&table) || (table == 6 && place == 3);
     let new = if wide { new } else { new & 0xFFFF };
     let mut commands = vec![Command::Set(table, place, new)];
     for _ in 0..random.between(1, 2) {
@@ -251,7 +268,7 @@ fn with_damage(random: &mut Random, lent: &Lent, house: Option<&House>) -> Vec<C
         }));
     }
     commands.push(if random.one_in(10) {
-        Command::Call(Call::Grow(lists::write(&[Record::Fitting; 3])))
+        Command::Call(Call::Grow(lists::write(2, &[Record::Fitting; 3])))
     } else {
         Command::Set(table, place, old)
     });
@@ -260,7 +277,7 @@ fn with_damage(random: &mut Random, lent: &Lent, house: Option<&House>) -> Vec<C
 
 /// A place in a table or in the head, mostly one that is in use or the next one.
 fn place(random: &mut Random, house: Option<&House>) -> (usize, usize) {
-    let table = random.below(6);
+    let table = random.below(SIZES.len() + 1);
     let Some(&size) = SIZES.get(table) else {
         return (table, random.below(4));
     };
@@ -269,6 +286,7 @@ fn place(random: &mut Random, house: Option<&House>) -> (usize, usize) {
         counts[0],
         2 * counts[0],
         2 * counts[1],
+        counts[1],
         counts[1],
         counts[0],
     ][table];

@@ -2,8 +2,8 @@
 
 use super::layout::Layout;
 use super::random::Random;
-use super::{records, shapes, small_size, whole, Maker};
-use crate::house::{LONGEST_PIPE, MOST_FITTINGS};
+use super::{records, shapes, small_size, whole, whole_list, Maker};
+use crate::house::{LARGEST_VOLUME, LONGEST_PIPE, MOST_FITTINGS};
 use crate::list::{self, Record};
 
 pub fn any(random: &mut Random) -> Vec<u8> {
@@ -17,6 +17,8 @@ pub fn any(random: &mut Random) -> Vec<u8> {
         same_fitting,
         wrong_length,
         wrong_length_of_ring,
+        wrong_volume,
+        wrong_volume_of_ring,
         cut_ring,
         full_fittings,
     ] as &[Maker]);
@@ -24,7 +26,7 @@ pub fn any(random: &mut Random) -> Vec<u8> {
 }
 
 pub fn no_mark(random: &mut Random) -> Vec<u8> {
-    let mut list = list::write(&whole(random));
+    let mut list = whole_list(random);
     let at = random.below(list::MARK.len());
     if random.one_in(2) {
         list.truncate(at);
@@ -36,12 +38,12 @@ pub fn no_mark(random: &mut Random) -> Vec<u8> {
 
 pub fn version(random: &mut Random) -> Vec<u8> {
     let any = match u16::from_le_bytes([random.byte(), random.byte()]) {
-        list::VERSION => 0,
+        1 | 2 => 0,
         other => other,
     };
-    let of_one_byte = u16::from(random.byte().max(2));
-    let version = random.pick(&[0, 2, 0x0100, 0x0101, of_one_byte, any]);
-    let mut list = list::write(&whole(random));
+    let of_one_byte = u16::from(random.byte().max(3));
+    let version = random.pick(&[0, 3, 0x0100, 0x0101, 0x0102, 0x0200, of_one_byte, any]);
+    let mut list = whole_list(random);
     list[3..5].copy_from_slice(&version.to_le_bytes());
     list
 }
@@ -62,14 +64,15 @@ pub fn cut_record(random: &mut Random) -> Vec<u8> {
     } else {
         records::pipe(landed, landed, 0)
     };
-    let before = list::write(&records[..place]);
-    [before, cut(random, &pipe)].concat()
+    let version = super::version(random);
+    let before = list::write(version, &records[..place]);
+    [before, cut(random, version, &pipe)].concat()
 }
 
 /// The first bytes of a pipe, at least one and not all.
-pub fn cut(random: &mut Random, pipe: &Record) -> Vec<u8> {
-    let mut bytes = list::record_bytes(pipe);
-    bytes.truncate(random.between(1, list::PIPE_BODY));
+pub fn cut(random: &mut Random, version: u16, pipe: &Record) -> Vec<u8> {
+    let mut bytes = list::record_bytes(version, pipe);
+    bytes.truncate(random.between(1, list::pipe_body(version)));
     bytes
 }
 
@@ -77,7 +80,8 @@ pub fn unknown_kind(random: &mut Random) -> Vec<u8> {
     let records = whole(random);
     let (place, _) = place(random, &records, 0);
     let kind = kind(random);
-    with_tail(random, &records, place, &[kind])
+    let version = super::version(random);
+    with_tail(random, version, (&records, place), &[kind])
 }
 
 /// A byte that is no record's kind.
@@ -132,13 +136,40 @@ pub fn wrong_length_of_ring(random: &mut Random) -> Vec<u8> {
     if let Some(Record::Pipe { length, .. }) = records.last_mut() {
         *length = no_length(random);
     }
-    list::write(&records)
+    list::write(super::version(random), &records)
+}
+
+/// A volume above 1,000,000; only a list of version 2 has one.
+pub fn wrong_volume(random: &mut Random) -> Vec<u8> {
+    let records = whole(random);
+    let (place, landed) = place(random, &records, 2);
+    let (first, second) = random.pair_below(landed);
+    let length = random.pick(&[1, LONGEST_PIPE]);
+    let fault = records::with_volume(first, second, length, no_volume(random));
+    let bytes = list::record_bytes(2, &fault);
+    with_tail(random, 2, (&records, place), &bytes)
+}
+
+fn no_volume(random: &mut Random) -> u32 {
+    let above = (LARGEST_VOLUME + 1).max(random.u32());
+    let with_good_low_half = 0x0010_0001;
+    random.pick(&[LARGEST_VOLUME + 1, with_good_low_half, u32::MAX, above])
+}
+
+/// The same of a pipe that would close a ring.
+pub fn wrong_volume_of_ring(random: &mut Random) -> Vec<u8> {
+    let mut records = closing_a_ring(random);
+    if let Some(Record::Pipe { volume, .. }) = records.last_mut() {
+        *volume = no_volume(random);
+    }
+    list::write(2, &records)
 }
 
 /// The pipe that would close a ring is cut.
 pub fn cut_ring(random: &mut Random) -> Vec<u8> {
-    let mut list = list::write(&closing_a_ring(random));
-    list.truncate(list.len() - random.between(1, list::PIPE_BODY));
+    let version = super::version(random);
+    let mut list = list::write(version, &closing_a_ring(random));
+    list.truncate(list.len() - random.between(1, list::pipe_body(version)));
     list
 }
 
@@ -174,7 +205,7 @@ pub fn one_fitting_more(random: &mut Random, layout: &Layout) -> Vec<u8> {
         .rposition(|&record| record == Record::Fitting);
     let earliest = last_fitting.map_or(0, |at| at + 1);
     records.insert(random.between(earliest, records.len()), Record::Fitting);
-    list::write(&records)
+    list::write(super::version(random), &records)
 }
 
 /// A place before which at least so many fittings are landed, and how many are.
@@ -188,23 +219,33 @@ fn place(random: &mut Random, records: &[Record], least: usize) -> (usize, usize
     (place, landed_before(place))
 }
 
+/// The pipe is refused whatever its volume is.
 fn with_bad_pipe(
     random: &mut Random,
     records: &[Record],
     place: usize,
     (first, second, length): (usize, usize, u32),
 ) -> Vec<u8> {
-    let bytes = list::record_bytes(&records::pipe(first, second, length));
-    with_tail(random, records, place, &bytes)
+    let version = super::version(random);
+    let volume = random.pick(&[0, 1, LARGEST_VOLUME, LARGEST_VOLUME + 1, u32::MAX]);
+    let pipe = records::with_volume(first, second, length, volume);
+    let bytes = list::record_bytes(version, &pipe);
+    with_tail(random, version, (records, place), &bytes)
 }
 
 /// The records before a place, other bytes there, and perhaps the records after it.
-fn with_tail(random: &mut Random, records: &[Record], place: usize, bytes: &[u8]) -> Vec<u8> {
+fn with_tail(
+    random: &mut Random,
+    version: u16,
+    (records, place): (&[Record], usize),
+    bytes: &[u8],
+) -> Vec<u8> {
     let (before, after) = records.split_at(place);
-    let mut list = list::write(before);
+    let mut list = list::write(version, before);
     list.extend(bytes);
     if random.one_in(2) {
-        list.extend(after.iter().flat_map(list::record_bytes));
+        let rest = after.iter();
+        list.extend(rest.flat_map(|record| list::record_bytes(version, record)));
     }
     list
 }
@@ -244,6 +285,8 @@ mod tests {
             (same_fitting, Refusal::SameFitting),
             (wrong_length, Refusal::Length),
             (wrong_length_of_ring, Refusal::Length),
+            (wrong_volume, Refusal::Volume),
+            (wrong_volume_of_ring, Refusal::Volume),
             (cut_ring, Refusal::Cut),
             (full_fittings, Refusal::FullFittings),
         ] {

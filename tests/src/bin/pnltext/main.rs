@@ -15,10 +15,11 @@ usage: pnltext [FILE] > LIST                 writes the list of a house as text 
 
 A house as text has a record a line; numbers need only fit their places in a list, so that refused records can be written too:
 
-    # two fittings and the pipe between them, of 1,000 mm
+    # three fittings, and the pipes between them of 1,000 mm and of 500 mm, the second with a volume of 157 ml
     fittings 2
     pipe 0 1 1000
     fitting
+    pipe 1 2 500 157
 ";
 
 fn main() -> ExitCode {
@@ -51,7 +52,17 @@ fn write_list(file: Option<&str>) -> Result<(), String> {
         )
     })?;
     let records: Vec<Record> = records.into_iter().map(|(record, _)| record).collect();
-    write_out(&list::write(&records))
+    write_out(&list::write(version_for(&records), &records))
+}
+
+/// The second where a volume is given. The list of a text without volumes is one that every reader of lists knows.
+fn version_for(records: &[Record]) -> u16 {
+    let given = |record: &Record| matches!(record, Record::Pipe { volume, .. } if *volume > 0);
+    if records.iter().any(given) {
+        2
+    } else {
+        1
+    }
 }
 
 /// The line of a record; a text's list has a good header, so a stop is always one of its records.
@@ -77,6 +88,7 @@ fn words(refusal: u8) -> &'static str {
         5 => "there is no fitting of that number yet",
         6 => "the pipe goes from a fitting to itself",
         7 => "the pipe's length is 0 or above 100,000 mm",
+        31 => "the pipe's volume is above 1,000,000 ml",
         22 => "there are 4,096 fittings already",
         23 => "there are 4,096 pipes already",
         _ => "examples/README.md says which that is",

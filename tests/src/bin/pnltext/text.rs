@@ -4,7 +4,7 @@ use std::str::FromStr;
 
 use reference::list::{Record, MARK};
 
-const LINES: &str = "a line is `fittings N`, `fitting` or `pipe A B LENGTH`; `#` starts a comment";
+const LINES: &str = "a line is `fittings N`, `fitting`, `pipe A B LENGTH` or `pipe A B LENGTH VOLUME`; `#` starts a comment";
 const BYTE_ORDER_MARK: &[u8] = b"\xEF\xBB\xBF";
 
 /// Where in a text something is wrong, and what.
@@ -83,19 +83,39 @@ fn read_line(line: &[u8]) -> Result<Vec<Record>, String> {
             Ok(vec![Record::Fitting; count.into()])
         }
         ("fittings", _) => Err("behind `fittings` stands one number, how many".to_string()),
-        ("pipe", [first, second, length]) => Ok(vec![Record::Pipe {
-            first: number("the first fitting", 65_535, first)?,
-            second: number("the second fitting", 65_535, second)?,
-            length: number("the length", 4_294_967_295, length)?,
-        }]),
-        ("pipe", [_, _, _, unit, ..]) => Err(format!(
-            "`{unit}` behind the length: a length is in millimetres, without a unit"
-        )),
-        ("pipe", _) => Err(
-            "a pipe has two fittings and a length in millimetres: `pipe A B LENGTH`".to_string(),
-        ),
+        ("pipe", numbers) => Ok(vec![read_pipe(numbers)?]),
         _ => Err(unknown(kind)),
     }
+}
+
+/// Two fittings, a length, and a volume if it is known.
+fn read_pipe(numbers: &[&str]) -> Result<Record, String> {
+    let (first, second, length, volume) = match *numbers {
+        [first, second, length] => (first, second, length, "0"),
+        [_, _, _, unit, ..] if !unit.starts_with(|letter: char| letter.is_ascii_digit()) => {
+            return Err(format!(
+                "`{unit}` behind the length: a length is in millimetres, without a unit"
+            ));
+        }
+        [first, second, length, volume] => (first, second, length, volume),
+        [_, _, _, _, unit, ..] => {
+            return Err(format!(
+                "`{unit}` behind the volume: a volume is in millilitres, without a unit"
+            ));
+        }
+        _ => {
+            return Err(
+                "a pipe has two fittings and a length in millimetres: `pipe A B LENGTH`, and perhaps a volume in millilitres behind it"
+                    .to_string(),
+            );
+        }
+    };
+    Ok(Record::Pipe {
+        first: number("the first fitting", 65_535, first)?,
+        second: number("the second fitting", 65_535, second)?,
+        length: number("the length", 4_294_967_295, length)?,
+        volume: number("the volume", 4_294_967_295, volume)?,
+    })
 }
 
 fn unknown(kind: &str) -> String {
@@ -136,18 +156,22 @@ mod tests {
 
     #[test]
     fn a_text_becomes_records_with_their_lines() {
-        let pipe = Record::Pipe {
+        let pipe = |volume| Record::Pipe {
             first: 0,
             second: 1,
             length: 1000,
+            volume,
         };
         let expected = vec![
             (Record::Fitting, 2),
             (Record::Fitting, 2),
-            (pipe, 4),
+            (pipe(0), 4),
             (Record::Fitting, 5),
+            (pipe(157), 6),
+            (pipe(0), 7),
         ];
-        let text = "# house\nfittings 2\n\n  pipe 0 1 1000 # first\nfitting\n";
+        let text =
+            "# house\nfittings 2\n\n  pipe 0 1 1000 # first\nfitting\npipe 0 1 1000 157\npipe 0 1 1000 0\n";
         assert_eq!(read(text.as_bytes()), Ok(expected.clone()));
         let from_windows = format!("\u{feff}{}", text.replace('\n', "\r\n"));
         assert_eq!(read(from_windows.as_bytes()), Ok(expected));
@@ -160,6 +184,18 @@ mod tests {
             ("fitting\npipe 0 1\n", 2, "`pipe A B LENGTH`"),
             ("\n\npipe 0 1 5mm", 3, "without a unit: `5`, not `5mm`"),
             ("pipe 0 1 5 mm", 1, "`mm` behind the length"),
+            ("pipe 0 1 5 -", 1, "`-` behind the length"),
+            (
+                "pipe 0 1 5 7ml",
+                1,
+                "the volume is a number without a unit: `7`",
+            ),
+            ("pipe 0 1 5 7 ml", 1, "`ml` behind the volume"),
+            (
+                "pipe 0 1 5 4294967296",
+                1,
+                "the volume is at most 4294967295",
+            ),
             ("pipe 0 70000 5", 1, "the second fitting is at most 65535"),
             (
                 "pipe 0 1 4294967296",
