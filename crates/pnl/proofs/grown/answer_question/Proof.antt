@@ -15,7 +15,7 @@ returns-2 : tie.Need-returns-2
 returns-2 c =
     let at-find-checked = c .before .before .before .before in
     let at-question = at-find-checked .before .before in
-    λ register h. rw (at-question .question .given .1) (find-question _ _ _ _ _ _ _ register h _ _ _ _ (at-find-checked .find-checked .ensures _ _) (handed (c .before .before .answer-found .ok) (c .before .before .answer-found .ensures register)))
+    λ register h. rw (at-question .question .given .1) (find-question _ _ _ _ _ _ _ register h _ _ _ _ (at-find-checked .find-checked .ensures _) (handed (c .before .before .answer-found .ok) (c .before .before .answer-found .ensures register)))
 
 returns-3 : tie.Need-returns-3
 returns-3 c =
