@@ -7,7 +7,7 @@ use Rattle.values.proofs.put_result.Tie as tie
 
 slice-aggregate-grow-from-13 : tie.Need-slice-aggregate-grow-from-13
 slice-aggregate-grow-from-13 c =
-    let at-if1 = c .before .before .before .before .before .before .before .before .before .before .before .before in
+    let at-if1 = c .before .before .before .before .before .before .before .before .before .before .before .before .before .before in
     sym (length-take-le _ _ (omega (arith, at-if1 .if1 .left)))
 
 -- the needs in the order of the code
@@ -17,6 +17,8 @@ put-result-spec =
     (tie.spec
     (λ c. search needs)
     (λ c κs. search needs)
+    (λ c. search needs)
+    (λ c. search needs)
     (λ c. search needs)
     (λ c. search needs)
     (λ c. search needs)
