@@ -12,10 +12,10 @@ use Rattle.tables.specs.Steps.{farIn, sum32}
 use Rattle.chains.specs.Chains.{WalkEnd, walkIn, nameIn}
 use Rattle.chains.specs.Newest.{searchIn}
 
--- by the search from the newest chain, then by the wearer's edge on the low side; a tree is lent for the search
+-- by the search from the newest chain, then by the wearer's edge on the low side; what is lent for the search decides nothing
 unfoldable pub findIn : Tables → Counts → List ℕ → ℕ → Reply
-findIn t c tree label =
-    elim ((searchIn (t .degrees) (t .sides) (t .ends) (t .labels) (c .vertices) (c .edges) label tree) .wearer) [
+findIn t c lent label =
+    elim ((searchIn (t .degrees) (t .sides) (t .ends) (t .labels) (c .vertices) (c .edges) label) .wearer) [
       | some v ↦ found (nameIn (t .degrees) (t .sides) (t .ends) (c .edges) (getD (t .sides) (2 * v) 0))
       | none ↦ refuses 8
     ]
