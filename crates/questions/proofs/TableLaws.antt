@@ -30,16 +30,16 @@ way-law ds ss es ls n d v w at l own r a b c e =
 module _ (t : Tables) (c : Counts) where
   -- ---- find
 
-  module _ (tree : List ℕ) (label : ℕ) (s : Sought) (e : s ≡ searchIn (t .degrees) (t .sides) (t .ends) (t .labels) (c .vertices) (c .edges) label tree) where
+  module _ (tree : List ℕ) (label : ℕ) (s : Sought) (e : s ≡ searchIn (t .degrees) (t .sides) (t .ends) (t .labels) (c .vertices) (c .edges) label) where
     pub find-nobody : none ≡ s .wearer → refuses 8 ≡ findIn t c tree label
     unfolding findIn
-    find-nobody f = let g : (searchIn (t .degrees) (t .sides) (t .ends) (t .labels) (c .vertices) (c .edges) label tree) .wearer ≡ none = rw e at (sym f) in rw (g, findIn)
+    find-nobody f = let g : (searchIn (t .degrees) (t .sides) (t .ends) (t .labels) (c .vertices) (c .edges) label) .wearer ≡ none = rw e at (sym f) in rw (g, findIn)
 
     pub find-chain : (v d r : ℕ) → some v ≡ s .wearer → d ≡ getD (t .sides) (2 * v) 0
         → r ≡ nameIn (t .degrees) (t .sides) (t .ends) (c .edges) d → found r ≡ findIn t c tree label
     unfolding findIn
     find-chain v d r f p q =
-        let g : (searchIn (t .degrees) (t .sides) (t .ends) (t .labels) (c .vertices) (c .edges) label tree) .wearer ≡ some v = rw e at (sym f) in
+        let g : (searchIn (t .degrees) (t .sides) (t .ends) (t .labels) (c .vertices) (c .edges) label) .wearer ≡ some v = rw e at (sym f) in
         rw (g, findIn, ← p, q)
 
   -- ---- reach
