@@ -36,7 +36,7 @@ pub zeroed-cleared : (t : Tables) → fits t ≡ true → zeroed t ≡ cleared
 unfolding fits sizes rightSizes zeroed cleared
 zeroed-cleared t h =
     let s = eqList-true (sizes t) rightSizes h in
-    tables-parts (zeros 0 s) (zeros 1 s) (zeros 2 s) (zeros 3 s) (zeros 4 s)
+    tables-parts (zeros 0 s) (zeros 1 s) (zeros 2 s) (zeros 3 s) (zeros 4 s) (zeros 5 s)
   where
     zeros : (i : ℕ) → sizes t ≡ rightSizes → replicate {A = ℕ} (getD (sizes t) i 0) 0 ≡ replicate {A = ℕ} (getD rightSizes i 0) 0
     zeros i s = ap (λ (l : List ℕ). replicate {A = ℕ} (getD l i 0) 0) s

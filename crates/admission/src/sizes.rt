@@ -12,9 +12,10 @@ pub fn sizes_fit(
     sides: &[u16],
     ends: &[u16],
     lengths: &[u32],
+    volumes: &[u32],
     labels: &[u32],
 ) -> bool
-    ensures { λ r. ⌜ r ≡ fits (tables (now (degrees .entry)) (now (sides .entry)) (now (ends .entry)) (now (lengths .entry)) (now (labels .entry))) ⌝ }
+    ensures { λ r. ⌜ r ≡ fits (tables (now (degrees .entry)) (now (sides .entry)) (now (ends .entry)) (now (lengths .entry)) (now (volumes .entry)) (now (labels .entry))) ⌝ }
 {
     if degrees.len() != VERTICES {
         return false;
@@ -26,6 +27,9 @@ pub fn sizes_fit(
         return false;
     }
     if lengths.len() != EDGES {
+        return false;
+    }
+    if volumes.len() != EDGES {
         return false;
     }
     labels.len() == VERTICES

@@ -1,31 +1,34 @@
 -- A walk over the tables of a register is the walk over its edges until its home: it ends where that one ends, passes as many regular
--- vertices, and the sum of its lengths is never cut at 32 bits.
-use mathlib.Core.Path.{_≡_, refl, ap}
+-- vertices, and the sum of its lengths is never cut at 32 bits, nor that of its volumes where all of them fit.
+use mathlib.Core.Path.{_≡_, refl, sym, ap, _∙_, subst}
 use mathlib.Core.Logic.{_≢_, _⊎_, inl, inr}
 use Prim.Native.Nat.{ℕ, zero, suc, _+_, _*_, _≤_, _<_, min}
 use native.Mathlib.Omega.{arith}
 use native.Mathlib.Decide.{decLt, ℕ-discrete}
 use borrow.Author.Tests.{eq-eqb, ne-eqb}
 use lib.Dec.{eqb}
-use mathlib.Core.Bool.{Bool, true, false, _&&_}
+use mathlib.Core.Bool.{Bool, true, false, _&&_, _||_}
 use mathlib.Core.List.{List, [], _∷_, map}
 use lib.ListN.{length, getD, length-map, List·getD-eq-default}
-use Rattle.model.specs.Basics.{maxEdges, maxLength, sum}
-use Rattle.model.specs.Graph.{Edge, Pass, afterOf, atOf, edgeAt, endOf, far, isRegular, lengthAt, lengthsOf, noEdge, turn, until, walk}
+use Rattle.model.specs.Basics.{if_then_else_, maxEdges, maxLength, sum}
+use Rattle.model.specs.Graph.{Edge, Pass, afterOf, atOf, edgeAt, endOf, far, isRegular, lengthAt, lengthsOf, noEdge, turn, until, volumeAt, walk}
 use Rattle.model.specs.Register.{Register}
 use Rattle.model.specs.Tables.{Tables, tablesOf}
 use Rattle.model.specs.Notions.{Reachable}
-use Rattle.tables.specs.Steps.{farIn, turnIn}
+use Rattle.tables.specs.Steps.{farIn, turnIn, most32}
 use Rattle.tables.proofs.Sums.{sum32-is}
-use Rattle.chains.specs.Chains.{WalkEnd, goesOnIn, walkEnd, walkAhead, walkIn}
+use Rattle.chains.specs.Chains.{WalkEnd, goesOnIn, plusVolume32, walkEnd, walkAhead, walkIn, walkVolumeIn}
 use Rattle.chains.proofs.WalkLaws.{walkIn-on, walkIn-stop}
+use Rattle.chains.proofs.VolumeLaws.{volume-none, volume-on, volume-stop}
 use Rattle.model.proofs.Walks.Degree.{end-first, end-second}
 use Rattle.model.proofs.Walks.Turn.{At}
 use Rattle.model.proofs.Walks.Joins.{proper-at}
 use Rattle.model.proofs.Basics.Booleans.{true-or-false}
+use Rattle.model.proofs.Basics.Volumes.{plusVolume, volumeOnto}
+use Rattle.model.proofs.Chains.Volumes.{passed}
 use Rattle.model.proofs.Walks.Round.{length-until, until-no, until-yes}
 use Rattle.model.proofs.Walks.Trail.{walk-on, walk-stop, Next, next-edge}
-use Rattle.model.proofs.Registers.ReadBack.{length-read}
+use Rattle.model.proofs.Registers.ReadBack.{length-read, volume-read}
 use Rattle.agreement.proofs.Lockstep.{Shows, shows-regular, shows-singular, shows-turn}
 use Rattle.agreement.proofs.Tables.{far-is, shows}
 use Rattle.agreement.proofs.Registers.{lawful, proper, room}
@@ -35,6 +38,10 @@ use Rattle.agreement.proofs.Registers.{lawful, proper, room}
 pub length-is : (r : Register) (d : ℕ) → d < length (r .edges) → getD ((tablesOf r) .lengths) d 0 ≡ lengthAt (r .edges) d
 unfolding lengthAt
 length-is r d h = length-read r d h
+
+pub volume-is : (r : Register) (d : ℕ) → d < length (r .edges) → getD ((tablesOf r) .volumes) d 0 ≡ volumeAt (r .edges) d
+unfolding volumeAt
+volume-is r d h = volume-read r d h
 
 module _ (r : Register) (g : Reachable r) where
   -- an edge lies at its two ends
@@ -205,3 +212,58 @@ module _ (r : Register) (g : Reachable r) (home : ℕ) where
             sum32-is (lengthAt es c) (sum (lengthsOf es (map afterOf us))) (omega (arith, length-few r g c, walk-sum r g home n c (far es c v))),
             k,
           )
+
+-- ---- the volumes along the walk
+
+plus-fits : (v w : ℕ) → v + w ≤ most32 → plusVolume32 v w ≡ plusVolume v w
+unfolding plusVolume32 plusVolume
+plus-fits v w h = rw (sum32-is v w h)
+
+plus-most : (v w : ℕ) → plusVolume v w ≤ v + w
+unfolding plusVolume
+plus-most v w = go (eqb v 0 || eqb w 0)
+  where
+    go : (b : Bool) → (if b then 0 else v + w) ≤ v + w
+    go true = omega arith
+    go false = omega arith
+
+abbrev pub volumeOver : Tables → ℕ → ℕ → ℕ → ℕ → ℕ → ℕ
+volumeOver t = walkVolumeIn (t .degrees) (t .sides) (t .ends) (t .volumes)
+
+module _ (r : Register) (g : Reachable r) (home : ℕ) where
+  pub walk-volumes : (n known d v : ℕ) → At (r .edges) v d → known + sum (passed (r .edges) (until home (walk n (r .edges) d v))) ≤ most32
+      → volumeOver (tablesOf r) home n known d v ≡ volumeOnto known (passed (r .edges) (until home (walk n (r .edges) d v)))
+  unfolding walk until volumeOnto sum afterOf
+  walk-volumes zero known d v a f =
+      sym (volume-none ((tablesOf r) .degrees) ((tablesOf r) .sides) ((tablesOf r) .ends) ((tablesOf r) .volumes) home zero known d v (omega arith))
+  walk-volumes (suc n) known d v a f = go (first-step r home v) (λ c k at m. walk-volumes n k c (far es c v) at m)
+    where
+      es : List Edge
+      es = r .edges
+
+      t : Tables
+      t = tablesOf r
+
+      Goal : Type 0
+      Goal = volumeOver t home (suc n) known d v ≡ volumeOnto known (passed es (until home (walk (suc n) es d v)))
+
+      stop : goesOnIn (t .degrees) home v ≡ false → until home (walk (suc n) es d v) ≡ [] → Goal
+      stop q e = rw e (sym (volume-stop (t .degrees) (t .sides) (t .ends) (t .volumes) home (suc n) known d v q))
+
+      go : First r home v
+          → ((c k : ℕ) → At es (far es c v) c → k + sum (passed es (until home (walk n es c (far es c v)))) ≤ most32
+          → volumeOver t home n k c (far es c v) ≡ volumeOnto k (passed es (until home (walk n es c (far es c v))))) → Goal
+      go (at-end q) ih = stop (goes-not r g home d v a q) (before-none home n es d v q)
+      go (at-home q e) ih = stop (goes-home r g home d v a e) (before-home home n es d v q e)
+      go (onward q e) ih =
+          let c : ℕ = turn es d v in
+          let x : Step r d v = steps r g d v a q in
+          let us : List Pass = until home (walk n es c (far es c v)) in
+          let b = before-on home n es d v q e in
+          let m : known + (volumeAt es c + sum (passed es us)) ≤ most32 = subst (λ (ss : List Pass). known + sum (passed es ss) ≤ most32) b f in
+          let more : plusVolume32 known (getD (t .volumes) c 0) ≡ plusVolume known (volumeAt es c) =
+          ap (plusVolume32 known) (volume-is r c (x .inside)) ∙ plus-fits known (volumeAt es c) (omega (arith, m)) in
+          rw b
+          (volume-on (t .degrees) (t .sides) (t .ends) (t .volumes) home n known d v c (far es c v) (goes-on r g home d v a q e) (x .turns) (x .arrives)
+          ∙ ap (λ (k : ℕ). volumeOver t home n k c (far es c v)) more
+          ∙ ih c (plusVolume known (volumeAt es c)) (x .at) (omega (arith, m, plus-most known (volumeAt es c))))

@@ -11,7 +11,7 @@ use lib.ListN.{length, set}
 use lib.Dec.{eqb, leb, ltb}
 use native.Mathlib.Decide.{decLt}
 use borrow.Author.Tests.{lt-ltb, le-ltb}
-use Rattle.model.specs.Basics.{if_then_else_, maxEdges, maxLength, maxVertices}
+use Rattle.model.specs.Basics.{if_then_else_, maxEdges, maxLength, maxVertices, maxVolume}
 use Rattle.model.specs.Graph.{Edge}
 use Rattle.model.specs.Cases.{closesRing}
 use Rattle.model.specs.Labels.{labelEdge, relabelCount}
@@ -27,7 +27,8 @@ use Rattle.insertion.specs.Insertion.{CheckIn, LandingIn, checkIn, done, failed
 use Rattle.model.proofs.Walks.NewEdge.{length-new}
 use Rattle.model.proofs.Registers.Small.{total-small}
 use Rattle.model.proofs.Registers.Accepted.{unrefused}
-use Rattle.agreement.proofs.Lists.{ends-stored, lengths-stored}
+use Rattle.model.proofs.Registers.Quotes.{land-edge-by, unlessRefused}
+use Rattle.agreement.proofs.Lists.{ends-stored, lengths-stored, volumes-stored}
 use Rattle.agreement.proofs.Relabelled.{relabelled-most}
 use Rattle.agreement.proofs.Tables.{degrees-are, linked-sides}
 use Rattle.agreement.proofs.Registers.{few, labels-long}
@@ -72,6 +73,10 @@ module _ (r : Register) (e : Edge) (rings : Bool) (g : Reachable r) (warns : War
   unfolding withEdge tablesOf countsOf
   lengths-new = lengths-stored (r .edges) e rm
 
+  volumes-new : set ((tablesOf r) .volumes) ((countsOf r) .edges) (e .volume) ≡ (tablesOf r′) .volumes
+  unfolding withEdge tablesOf countsOf
+  volumes-new = volumes-stored (r .edges) e rm
+
   labels-new : p .labels ≡ (tablesOf r′) .labels
   unfolding withEdge tablesOf
   labels-new = st .holds .kept .labels-are
@@ -99,7 +104,7 @@ module _ (r : Register) (e : Edge) (rings : Bool) (g : Reachable r) (warns : War
   unfolding insertIn
   inserts-agree =
       ap₂ {C = LandingIn} (λ (t : Tables) (c : Counts). landingIn t (done c (rings || p .ring)))
-      (tables-parts degrees-new sides-new ends-new lengths-new labels-new)
+      (tables-parts degrees-new sides-new ends-new lengths-new volumes-new labels-new)
       (counts-parts vertices-new edges-new blocks-new relabellings-new)
       ∙ ap (λ (t : Bool). landingIn (tablesOf r′) (done (countsOf r′) (rings || t))) (st .ring-is)
 
@@ -108,7 +113,7 @@ module _ (r : Register) (e : Edge) (rings : Bool) (g : Reachable r) (warns : War
 -- what the code's check comes to, by the model's refusal
 abbrev checkedAs : Edge → Option ℕ → CheckIn
 checkedAs e (some x) = failed x
-checkedAs e none = passed (e .first) (e .second) (e .len)
+checkedAs e none = passed (e .first) (e .second) (e .len) (e .volume)
 
 checked-if : (e : Edge) (b : Bool) (x : ℕ) (c : CheckIn) (o : Option ℕ) → c ≡ checkedAs e o → (if b then failed x else c) ≡ checkedAs e (if b then some x else o)
 checked-if e true x c o h = refl
@@ -129,7 +134,8 @@ check-agrees r e few =
     (checked-if e (not (ltb (e .first) (r .vertices) && ltb (e .second) (r .vertices))) 5 _ _
     (checked-if e (eqb (e .first) (e .second)) 6 _ _
     (checked-if e (eqb (e .len) 0 || ltb maxLength (e .len)) 7 _ _
-    (checked-if e (leb maxEdges (length (r .edges))) 23 _ _ refl))))
+    (checked-if e (ltb maxVolume (e .volume)) 31 _ _
+    (checked-if e (leb maxEdges (length (r .edges))) 23 _ _ refl)))))
 
 module _ (r : Register) (e : Edge) (rings : Bool) where
   abbrev shown : Landed → LandingIn
@@ -137,7 +143,7 @@ module _ (r : Register) (e : Edge) (rings : Bool) where
 
   module _ (g : Reachable r) (warns : Warns rings (r .edges)) where
     by-refusal : (o : Option ℕ) → edgeRefusal r e ≡ o
-        → landChecked (tablesOf r) (countsOf r) rings e (checkedAs e o) ≡ shown (elim o [ some x ↦ refused x | none ↦ landed (withEdge r e) ])
+        → landChecked (tablesOf r) (countsOf r) rings e (checkedAs e o) ≡ shown (unlessRefused r e o)
     unfolding shownIn
     by-refusal (some x) q = refl
     by-refusal none q =
@@ -145,8 +151,10 @@ module _ (r : Register) (e : Edge) (rings : Bool) where
         inserts-agree r e rings g warns (a .lawful .first-landed) (a .lawful .second-landed) (a .lawful .differ) (a .room)
 
     pub land-agrees : landIn (tablesOf r) (countsOf r) rings e ≡ shownIn r (ringsAfter r rings e) (landEdge r e)
-    unfolding landIn landEdge
-    land-agrees = ap (landChecked (tablesOf r) (countsOf r) rings e) (check-agrees r e (few r g)) ∙ by-refusal (edgeRefusal r e) refl
+    unfolding landIn
+    land-agrees =
+        ap (landChecked (tablesOf r) (countsOf r) rings e) (check-agrees r e (few r g)) ∙ by-refusal (edgeRefusal r e) refl
+        ∙ ap (shownIn r (ringsAfter r rings e)) (sym (land-edge-by r e))
 
     -- .. in two parts, for a function that goes on by the answer
     pub edge-parts : (l : Landed) → landEdge r e ≡ l → let shows = shownIn r (ringsAfter r rings e) l in

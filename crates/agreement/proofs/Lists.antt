@@ -10,10 +10,10 @@ use lib.Seq.{getD-set-same, getD-set-other, drop-cons, append-snoc, set-append-s
 use Rattle.model.specs.Basics.{countFrom, inFront, upTo, maxEdges}
 use Rattle.model.specs.Graph.{Edge}
 use Rattle.model.specs.Register.{Register}
-use Rattle.model.specs.Tables.{edgeLengths, endsOf, highSide, lowSide, padded, sidesOf}
+use Rattle.model.specs.Tables.{edgeLengths, edgeVolumes, endsOf, highSide, lowSide, padded, sidesOf}
 use Rattle.tables.specs.Steps.{setPair}
 use Rattle.model.proofs.Basics.Lists.{length-upTo, getD-counted}
-use Rattle.model.proofs.Registers.ReadBack.{length-ends, length-lengths}
+use Rattle.model.proofs.Registers.ReadBack.{length-ends, length-lengths, length-volumes}
 
 -- ---- a map of 0, 1, ..
 
@@ -110,6 +110,11 @@ unfolding edgeLengths
 lengths-snoc [] e = refl
 lengths-snoc (d ∷ es) e = ap (λ (l : List ℕ). d .len ∷ l) (lengths-snoc es e)
 
+volumes-snoc : (es : List Edge) (e : Edge) → edgeVolumes (es ++ (e ∷ [])) ≡ edgeVolumes es ++ (e .volume ∷ [])
+unfolding edgeVolumes
+volumes-snoc [] e = refl
+volumes-snoc (d ∷ es) e = ap (λ (l : List ℕ). d .volume ∷ l) (volumes-snoc es e)
+
 pub ends-stored : (es : List Edge) (e : Edge) → length es < maxEdges
     → setPair (padded (2 * maxEdges) (endsOf es)) (length es) (e .first) (e .second) ≡ padded (2 * maxEdges) (endsOf (es ++ (e ∷ [])))
 unfolding setPair
@@ -124,3 +129,8 @@ pub lengths-stored : (es : List Edge) (e : Edge) → length es < maxEdges
     → set (padded maxEdges (edgeLengths es)) (length es) (e .len) ≡ padded maxEdges (edgeLengths (es ++ (e ∷ [])))
 lengths-stored es e h =
     rw (lengths-snoc es e, ← length-lengths es) (padded-snoc maxEdges (edgeLengths es) (e .len) (omega (arith, length-lengths es)))
+
+pub volumes-stored : (es : List Edge) (e : Edge) → length es < maxEdges
+    → set (padded maxEdges (edgeVolumes es)) (length es) (e .volume) ≡ padded maxEdges (edgeVolumes (es ++ (e ∷ [])))
+volumes-stored es e h =
+    rw (volumes-snoc es e, ← length-volumes es) (padded-snoc maxEdges (edgeVolumes es) (e .volume) (omega (arith, length-volumes es)))

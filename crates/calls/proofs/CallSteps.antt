@@ -33,21 +33,21 @@ use Rattle.calls.proofs.distance.distance as distance
 
 -- ---- the parameters of a call
 
--- five lent slices, then others
-abbrev Five : Type 0 → Type 0
-Five R = RefT (List ℕ) × (RefT (List ℕ) × (RefT (List ℕ) × (RefT (List ℕ) × (RefT (List ℕ) × R))))
+-- six lent slices, then others
+abbrev Six : Type 0 → Type 0
+Six R = RefT (List ℕ) × (RefT (List ℕ) × (RefT (List ℕ) × (RefT (List ℕ) × (RefT (List ℕ) × (RefT (List ℕ) × R)))))
 
 -- the tables, the counts, the scratch tables, then the query's own
 abbrev Query : Type 0 → Type 0
-Query R = Five (Counts × Five R)
+Query R = Six (Counts × Six R)
 
--- what five slices hold
-abbrev tablesIn : {R : Type 0} → Five R → Tables
-tablesIn a = tables (now (a .0)) (now (a .1 .0)) (now (a .1 .1 .0)) (now (a .1 .1 .1 .0)) (now (a .1 .1 .1 .1 .0))
+-- what six slices hold
+abbrev tablesIn : {R : Type 0} → Six R → Tables
+tablesIn a = tables (now (a .0)) (now (a .1 .0)) (now (a .1 .1 .0)) (now (a .1 .1 .1 .0)) (now (a .1 .1 .1 .1 .0)) (now (a .1 .1 .1 .1 .1 .0))
 
 -- what stands behind them
-abbrev past : {R : Type 0} → Five R → R
-past a = a .1 .1 .1 .1 .1
+abbrev past : {R : Type 0} → Six R → R
+past a = a .1 .1 .1 .1 .1 .1
 
 -- a query's own parameters
 abbrev own : {R : Type 0} → Query R → R
@@ -55,7 +55,7 @@ own a = past (past a .1)
 
 -- the parameters of a landing: the counts, the tables, the scratch tables, then its own
 abbrev Lands : Type 0 → Type 0
-Lands R = RefT Counts × Five (Five R)
+Lands R = RefT Counts × Six (Six R)
 
 -- ---- the contracts
 
@@ -71,23 +71,23 @@ module _ {M : Type 1} (𝓤 : URA M) (H : Heap 𝓤) (A : Atoms 𝓤) (mem : Mem
       let counts = asCounts (past a .0) in
       fact 𝓤 (outcome before counts (tablesIn (past z .1)) slice reply ≡ step c (lent before counts (tablesIn (past a .1))))
 
-  pub find-steps : (κs : Lfts 10) (a : Args find.signature κs)
+  pub find-steps : (κs : Lfts 12) (a : Args find.signature κs)
       → find.clauses 𝓤 H A mem run κs a ≡ Ensures find.ended κs (λ r z. Steps a z [] (foundReply r) (finds (own a .0 .0)))
   find-steps κs a = refl
 
-  pub reach-steps : (κs : Lfts 10) (a : Args reach.signature κs)
+  pub reach-steps : (κs : Lfts 12) (a : Args reach.signature κs)
       → reach.clauses 𝓤 H A mem run κs a ≡ Ensures reach.ended κs (λ r z. Steps a z [] (reachedReply r) (reaches (own a .0 .0)))
   reach-steps κs a = refl
 
-  pub sheet-steps : (κs : Lfts 11) (a : Args sheet.signature κs)
+  pub sheet-steps : (κs : Lfts 13) (a : Args sheet.signature κs)
       → sheet.clauses 𝓤 H A mem run κs a ≡ Ensures sheet.ended κs (λ r z. Steps a z (now (own z .0)) (listedReply r) (sheets (now (own a .0))))
   sheet-steps κs a = refl
 
-  pub write-steps : (κs : Lfts 11) (a : Args write.signature κs)
+  pub write-steps : (κs : Lfts 13) (a : Args write.signature κs)
       → write.clauses 𝓤 H A mem run κs a ≡ Ensures write.ended κs (λ r z. Steps a z (now (own z .0)) (writtenReply r) (writes (now (own a .0))))
   write-steps κs a = refl
 
-  pub distance-steps : (κs : Lfts 10) (a : Args distance.signature κs)
+  pub distance-steps : (κs : Lfts 12) (a : Args distance.signature κs)
       → distance.clauses 𝓤 H A mem run κs a
       ≡ Ensures distance.ended κs (λ r z. Steps a z [] (measuredReply r) (measures (own a .0 .0) (own a .1 .0 .0)))
   distance-steps κs a = refl
@@ -98,10 +98,10 @@ module _ {M : Type 1} (𝓤 : URA M) (H : Heap 𝓤) (A : Atoms 𝓤) (mem : Mem
       fact 𝓤 (outcome (tablesIn (z .1)) (asCounts (now (z .0))) (tablesIn (past (z .1))) [] (listReply r)
       ≡ step c (lent (tablesIn (a .1)) (asCounts (now (a .0))) (tablesIn (past (a .1)))))
 
-  pub grow-steps : (κs : Lfts 12) (a : Args grow.signature κs)
+  pub grow-steps : (κs : Lfts 14) (a : Args grow.signature κs)
       → grow.clauses 𝓤 H A mem run κs a ≡ Ensures grow.ended κs (λ r z. LandSteps a z r (grows (now (past (past (a .1)) .0))))
   grow-steps κs a = refl
 
-  pub land-steps : (κs : Lfts 12) (a : Args land.signature κs)
+  pub land-steps : (κs : Lfts 14) (a : Args land.signature κs)
       → land.clauses 𝓤 H A mem run κs a ≡ Ensures land.ended κs (λ r z. LandSteps a z r (lands (now (past (past (a .1)) .0))))
   land-steps κs a = refl

@@ -38,19 +38,19 @@ module _ (t : Tables) (c : Counts) (s g : Tables) (h : none ≡ barred (lent t c
 
   pub find-answered : (tree : List ℕ) (label : ℕ) (a : Reply) → (2 * maxVertices ≤ length (g .sides) → Answers (finds label) t c [] a)
       → tree ≡ replicate (length (g .sides)) 0
-      → outcome t c (tables (g .degrees) tree (g .ends) (g .lengths) (g .labels)) [] a ≡ step (finds label) (lent t c s)
+      → outcome t c (tables (g .degrees) tree (g .ends) (g .lengths) (g .volumes) (g .labels)) [] a ≡ step (finds label) (lent t c s)
   find-answered tree label a f n =
       let n′ : tree ≡ g .sides = n ∙ again (g .sides) (2 * maxVertices) sides-are in
-      let u : tables (g .degrees) tree (g .ends) (g .lengths) (g .labels) ≡ g = rw n′ in
+      let u : tables (g .degrees) tree (g .ends) (g .lengths) (g .volumes) (g .labels) ≡ g = rw n′ in
       let l : 2 * maxVertices ≤ length (g .sides) = rw (sides-are, length-replicate) (omega arith) in
       query-answered (finds label) (lent t c s) _ [] a h (u ∙ e) (f l)
 
   pub sheet-answered : (counting marks xs ys : List ℕ) (a : Reply) → answered ys a ≡ sheetedIn t c (g .degrees) (g .sides) xs
       → counting ≡ replicate (length (g .degrees)) 0 → marks ≡ replicate (length (g .sides)) 0
-      → outcome t c (tables counting marks (g .ends) (g .lengths) (g .labels)) ys a ≡ step (sheets xs) (lent t c s)
+      → outcome t c (tables counting marks (g .ends) (g .lengths) (g .volumes) (g .labels)) ys a ≡ step (sheets xs) (lent t c s)
   sheet-answered counting marks xs ys a q m n =
       let m′ : counting ≡ g .degrees = m ∙ again (g .degrees) maxVertices degrees-are in
       let n′ : marks ≡ g .sides = n ∙ again (g .sides) (2 * maxVertices) sides-are in
-      let u : tables counting marks (g .ends) (g .lengths) (g .labels) ≡ g = rw (m′, n′) in
+      let u : tables counting marks (g .ends) (g .lengths) (g .volumes) (g .labels) ≡ g = rw (m′, n′) in
       query-answered (sheets xs) (lent t c s) _ ys a h (u ∙ e)
       (sheet-answers t c maxVertices (2 * maxVertices) (g .degrees) (g .sides) xs ys a (omega arith) (omega arith) degrees-are sides-are q)

@@ -22,32 +22,36 @@ fn grow_with(
     sides: &mut [u16],
     ends: &mut [u16],
     lengths: &mut [u32],
+    volumes: &mut [u32],
     labels: &mut [u32],
     sdegrees: &mut [u16],
     ssides: &mut [u16],
     sends: &mut [u16],
     slengths: &mut [u32],
+    svolumes: &mut [u32],
     slabels: &mut [u32],
     list: &[u8],
 ) -> ListAnswer
-    ensures { λ r. ⌜ outcome (tables (now (degrees .exit)) (now (sides .exit)) (now (ends .exit)) (now (lengths .exit)) (now (labels .exit)))
+    ensures { λ r. ⌜ outcome (tables (now (degrees .exit)) (now (sides .exit)) (now (ends .exit)) (now (lengths .exit)) (now (volumes .exit)) (now (labels .exit)))
         (counts (now (vertices .exit)) (now (edges .exit)) (now (blocks .exit)) (now (relabellings .exit)))
-        (tables (now (sdegrees .exit)) (now (ssides .exit)) (now (sends .exit)) (now (slengths .exit)) (now (slabels .exit))) [] (listReply r)
+        (tables (now (sdegrees .exit)) (now (ssides .exit)) (now (sends .exit)) (now (slengths .exit)) (now (svolumes .exit)) (now (slabels .exit))) [] (listReply r)
         ≡ step (grows (now (list .entry)))
-        (lent (tables (now (degrees .entry)) (now (sides .entry)) (now (ends .entry)) (now (lengths .entry)) (now (labels .entry)))
+        (lent (tables (now (degrees .entry)) (now (sides .entry)) (now (ends .entry)) (now (lengths .entry)) (now (volumes .entry)) (now (labels .entry)))
         (counts (now (vertices .entry)) (now (edges .entry)) (now (blocks .entry)) (now (relabellings .entry)))
-        (tables (now (sdegrees .entry)) (now (ssides .entry)) (now (sends .entry)) (now (slengths .entry)) (now (slabels .entry)))) ⌝ }
+        (tables (now (sdegrees .entry)) (now (ssides .entry)) (now (sends .entry)) (now (slengths .entry)) (now (svolumes .entry)) (now (slabels .entry)))) ⌝ }
 {
     if !clear_if_fit(
         degrees,
         sides,
         ends,
         lengths,
+        volumes,
         labels,
         sdegrees,
         ssides,
         sends,
         slengths,
+        svolumes,
         slabels,
     ) {
         return ListAnswer::Refused(Refusal::WrongSize);
@@ -65,6 +69,7 @@ fn grow_with(
         sides,
         ends,
         lengths,
+        volumes,
         labels,
         list,
     );
@@ -78,19 +83,21 @@ pub fn grow(
     sides: &mut [u16],
     ends: &mut [u16],
     lengths: &mut [u32],
+    volumes: &mut [u32],
     labels: &mut [u32],
     sdegrees: &mut [u16],
     ssides: &mut [u16],
     sends: &mut [u16],
     slengths: &mut [u32],
+    svolumes: &mut [u32],
     slabels: &mut [u32],
     list: &[u8],
 ) -> ListAnswer
-    ensures { λ r. ⌜ outcome (tables (now (degrees .exit)) (now (sides .exit)) (now (ends .exit)) (now (lengths .exit)) (now (labels .exit))) (asCounts (now (counts .exit)))
-        (tables (now (sdegrees .exit)) (now (ssides .exit)) (now (sends .exit)) (now (slengths .exit)) (now (slabels .exit))) [] (listReply r)
+    ensures { λ r. ⌜ outcome (tables (now (degrees .exit)) (now (sides .exit)) (now (ends .exit)) (now (lengths .exit)) (now (volumes .exit)) (now (labels .exit))) (asCounts (now (counts .exit)))
+        (tables (now (sdegrees .exit)) (now (ssides .exit)) (now (sends .exit)) (now (slengths .exit)) (now (svolumes .exit)) (now (slabels .exit))) [] (listReply r)
         ≡ step (grows (now (list .entry)))
-        (lent (tables (now (degrees .entry)) (now (sides .entry)) (now (ends .entry)) (now (lengths .entry)) (now (labels .entry))) (asCounts (now (counts .entry)))
-        (tables (now (sdegrees .entry)) (now (ssides .entry)) (now (sends .entry)) (now (slengths .entry)) (now (slabels .entry)))) ⌝ }
+        (lent (tables (now (degrees .entry)) (now (sides .entry)) (now (ends .entry)) (now (lengths .entry)) (now (volumes .entry)) (now (labels .entry))) (asCounts (now (counts .entry)))
+        (tables (now (sdegrees .entry)) (now (ssides .entry)) (now (sends .entry)) (now (slengths .entry)) (now (svolumes .entry)) (now (slabels .entry)))) ⌝ }
 {
     grow_with(
         &mut counts.vertices,
@@ -101,11 +108,13 @@ pub fn grow(
         sides,
         ends,
         lengths,
+        volumes,
         labels,
         sdegrees,
         ssides,
         sends,
         slengths,
+        svolumes,
         slabels,
         list,
     )
@@ -118,19 +127,21 @@ pub fn grow_from(
     sides: &mut [u16],
     ends: &mut [u16],
     lengths: &mut [u32],
+    volumes: &mut [u32],
     labels: &mut [u32],
     sdegrees: &mut [u16],
     ssides: &mut [u16],
     sends: &mut [u16],
     slengths: &mut [u32],
+    svolumes: &mut [u32],
     slabels: &mut [u32],
     list: &[u8],
 ) -> Answered
-    ensures { λ r. ⌜ outcome (tables (now (degrees .exit)) (now (sides .exit)) (now (ends .exit)) (now (lengths .exit)) (now (labels .exit))) (asCounts (r .counts))
-        (tables (now (sdegrees .exit)) (now (ssides .exit)) (now (sends .exit)) (now (slengths .exit)) (now (slabels .exit))) [] (listReply (r .answer))
+    ensures { λ r. ⌜ outcome (tables (now (degrees .exit)) (now (sides .exit)) (now (ends .exit)) (now (lengths .exit)) (now (volumes .exit)) (now (labels .exit))) (asCounts (r .counts))
+        (tables (now (sdegrees .exit)) (now (ssides .exit)) (now (sends .exit)) (now (slengths .exit)) (now (svolumes .exit)) (now (slabels .exit))) [] (listReply (r .answer))
         ≡ step (grows (now (list .entry)))
-        (lent (tables (now (degrees .entry)) (now (sides .entry)) (now (ends .entry)) (now (lengths .entry)) (now (labels .entry))) (asCounts c)
-        (tables (now (sdegrees .entry)) (now (ssides .entry)) (now (sends .entry)) (now (slengths .entry)) (now (slabels .entry)))) ⌝ }
+        (lent (tables (now (degrees .entry)) (now (sides .entry)) (now (ends .entry)) (now (lengths .entry)) (now (volumes .entry)) (now (labels .entry))) (asCounts c)
+        (tables (now (sdegrees .entry)) (now (ssides .entry)) (now (sends .entry)) (now (slengths .entry)) (now (svolumes .entry)) (now (slabels .entry)))) ⌝ }
 {
     let mut counts = c;
     let answer = grow(
@@ -139,11 +150,13 @@ pub fn grow_from(
         sides,
         ends,
         lengths,
+        volumes,
         labels,
         sdegrees,
         ssides,
         sends,
         slengths,
+        svolumes,
         slabels,
         list,
     );

@@ -21,21 +21,23 @@ fn land_with(
     sides: &mut [u16],
     ends: &mut [u16],
     lengths: &mut [u32],
+    volumes: &mut [u32],
     labels: &mut [u32],
     sdegrees: &mut [u16],
     ssides: &mut [u16],
     sends: &mut [u16],
     slengths: &mut [u32],
+    svolumes: &mut [u32],
     slabels: &mut [u32],
     list: &[u8],
 ) -> ListAnswer
-    ensures { λ r. ⌜ outcome (tables (now (degrees .exit)) (now (sides .exit)) (now (ends .exit)) (now (lengths .exit)) (now (labels .exit)))
+    ensures { λ r. ⌜ outcome (tables (now (degrees .exit)) (now (sides .exit)) (now (ends .exit)) (now (lengths .exit)) (now (volumes .exit)) (now (labels .exit)))
         (counts (now (vertices .exit)) (now (edges .exit)) (now (blocks .exit)) (now (relabellings .exit)))
-        (tables (now (sdegrees .exit)) (now (ssides .exit)) (now (sends .exit)) (now (slengths .exit)) (now (slabels .exit))) [] (listReply r)
+        (tables (now (sdegrees .exit)) (now (ssides .exit)) (now (sends .exit)) (now (slengths .exit)) (now (svolumes .exit)) (now (slabels .exit))) [] (listReply r)
         ≡ step (lands (now (list .entry)))
-        (lent (tables (now (degrees .entry)) (now (sides .entry)) (now (ends .entry)) (now (lengths .entry)) (now (labels .entry)))
+        (lent (tables (now (degrees .entry)) (now (sides .entry)) (now (ends .entry)) (now (lengths .entry)) (now (volumes .entry)) (now (labels .entry)))
         (counts (now (vertices .entry)) (now (edges .entry)) (now (blocks .entry)) (now (relabellings .entry)))
-        (tables (now (sdegrees .entry)) (now (ssides .entry)) (now (sends .entry)) (now (slengths .entry)) (now (slabels .entry)))) ⌝ }
+        (tables (now (sdegrees .entry)) (now (ssides .entry)) (now (sends .entry)) (now (slengths .entry)) (now (svolumes .entry)) (now (slabels .entry)))) ⌝ }
 {
     let counts = Counts {
         vertices: *vertices,
@@ -48,12 +50,14 @@ fn land_with(
         sides,
         ends,
         lengths,
+        volumes,
         labels,
         counts,
         sdegrees,
         ssides,
         sends,
         slengths,
+        svolumes,
         slabels,
     );
     match passed {
@@ -67,6 +71,7 @@ fn land_with(
                 sides,
                 ends,
                 lengths,
+                volumes,
                 labels,
                 list,
             );
@@ -83,19 +88,21 @@ pub fn land(
     sides: &mut [u16],
     ends: &mut [u16],
     lengths: &mut [u32],
+    volumes: &mut [u32],
     labels: &mut [u32],
     sdegrees: &mut [u16],
     ssides: &mut [u16],
     sends: &mut [u16],
     slengths: &mut [u32],
+    svolumes: &mut [u32],
     slabels: &mut [u32],
     list: &[u8],
 ) -> ListAnswer
-    ensures { λ r. ⌜ outcome (tables (now (degrees .exit)) (now (sides .exit)) (now (ends .exit)) (now (lengths .exit)) (now (labels .exit))) (asCounts (now (counts .exit)))
-        (tables (now (sdegrees .exit)) (now (ssides .exit)) (now (sends .exit)) (now (slengths .exit)) (now (slabels .exit))) [] (listReply r)
+    ensures { λ r. ⌜ outcome (tables (now (degrees .exit)) (now (sides .exit)) (now (ends .exit)) (now (lengths .exit)) (now (volumes .exit)) (now (labels .exit))) (asCounts (now (counts .exit)))
+        (tables (now (sdegrees .exit)) (now (ssides .exit)) (now (sends .exit)) (now (slengths .exit)) (now (svolumes .exit)) (now (slabels .exit))) [] (listReply r)
         ≡ step (lands (now (list .entry)))
-        (lent (tables (now (degrees .entry)) (now (sides .entry)) (now (ends .entry)) (now (lengths .entry)) (now (labels .entry))) (asCounts (now (counts .entry)))
-        (tables (now (sdegrees .entry)) (now (ssides .entry)) (now (sends .entry)) (now (slengths .entry)) (now (slabels .entry)))) ⌝ }
+        (lent (tables (now (degrees .entry)) (now (sides .entry)) (now (ends .entry)) (now (lengths .entry)) (now (volumes .entry)) (now (labels .entry))) (asCounts (now (counts .entry)))
+        (tables (now (sdegrees .entry)) (now (ssides .entry)) (now (sends .entry)) (now (slengths .entry)) (now (svolumes .entry)) (now (slabels .entry)))) ⌝ }
 {
     land_with(
         &mut counts.vertices,
@@ -106,11 +113,13 @@ pub fn land(
         sides,
         ends,
         lengths,
+        volumes,
         labels,
         sdegrees,
         ssides,
         sends,
         slengths,
+        svolumes,
         slabels,
         list,
     )

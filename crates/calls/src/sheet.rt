@@ -1,4 +1,4 @@
-// Sheet: five numbers a chain (document 01: run) to the front of a lent slice: 25, 21, then 9.
+// Sheet: six numbers a chain (document 01: run) to the front of a lent slice: 25, 21, then 9.
 use admission::gate::Gate;
 use admission::gate::pass_gate;
 use counters::counts::Counts;
@@ -17,40 +17,54 @@ pub fn sheet(
     sides: &[u16],
     ends: &[u16],
     lengths: &[u32],
+    volumes: &[u32],
     labels: &[u32],
     counts: Counts,
     sdegrees: &mut [u16],
     ssides: &mut [u16],
     sends: &mut [u16],
     slengths: &mut [u32],
+    svolumes: &mut [u32],
     slabels: &mut [u32],
     out: &mut [u32],
 ) -> Listed
     ensures { λ r. ⌜ outcome
-        (tables (now (degrees .entry)) (now (sides .entry)) (now (ends .entry)) (now (lengths .entry)) (now (labels .entry)))
+        (tables (now (degrees .entry)) (now (sides .entry)) (now (ends .entry)) (now (lengths .entry)) (now (volumes .entry)) (now (labels .entry)))
         (asCounts counts)
-        (tables (now (sdegrees .exit)) (now (ssides .exit)) (now (sends .exit)) (now (slengths .exit)) (now (slabels .exit)))
+        (tables (now (sdegrees .exit)) (now (ssides .exit)) (now (sends .exit)) (now (slengths .exit)) (now (svolumes .exit)) (now (slabels .exit)))
         (now (out .exit)) (listedReply r)
         ≡ step (sheets (now (out .entry)))
-        (lent (tables (now (degrees .entry)) (now (sides .entry)) (now (ends .entry)) (now (lengths .entry)) (now (labels .entry)))
+        (lent (tables (now (degrees .entry)) (now (sides .entry)) (now (ends .entry)) (now (lengths .entry)) (now (volumes .entry)) (now (labels .entry)))
         (asCounts counts)
-        (tables (now (sdegrees .entry)) (now (ssides .entry)) (now (sends .entry)) (now (slengths .entry)) (now (slabels .entry)))) ⌝ }
+        (tables (now (sdegrees .entry)) (now (ssides .entry)) (now (sends .entry)) (now (slengths .entry)) (now (svolumes .entry)) (now (slabels .entry)))) ⌝ }
 {
     let passed = pass_gate(
         degrees,
         sides,
         ends,
         lengths,
+        volumes,
         labels,
         counts,
         sdegrees,
         ssides,
         sends,
         slengths,
+        svolumes,
         slabels,
     );
     match passed {
-        Gate::Open => sheet_cleared(degrees, sides, ends, lengths, counts, sdegrees, ssides, out),
+        Gate::Open => sheet_cleared(
+            degrees,
+            sides,
+            ends,
+            lengths,
+            volumes,
+            counts,
+            sdegrees,
+            ssides,
+            out,
+        ),
         Gate::Refused(refusal) => Listed::Refused(refusal),
     }
 }

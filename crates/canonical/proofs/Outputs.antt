@@ -58,16 +58,16 @@ module _ (bs out : List ℕ) (d : ReadingIn) (short : length bs ≤ 65536) (long
   same-stop : (s : Stop) → s ≡ d .stop → (growList bs) .stop ≡ s
   same-stop s e = sym (e ∙ ap (λ (z : ReadingIn). z .stop) shown)
 
-  pub whole-given : (q : Page) → whole ≡ d .stop → q ≡ write (listIn (d .tables .ends) (d .tables .lengths) (d .counts)) (page out 0)
+  pub whole-given : (q : Page) → whole ≡ d .stop → q ≡ write (listIn (d .tables .ends) (d .tables .lengths) (d .tables .volumes) (d .counts)) (page out 0)
       → Counted (q .at) (q .slice) × (gives (take (q .at) (q .slice)) ≡ canonical bs)
   unfolding canonical canonicalOf
   whole-given q s e =
       let g : Reachable reg = reachable-grown bs in
       let c : d .counts ≡ countsOf reg = ap (λ (z : ReadingIn). z .counts) shown in
-      let w : listIn (d .tables .ends) (d .tables .lengths) (d .counts) ≡ written reg = list-written reg (d .tables) (d .counts) (ap (λ (z : ReadingIn). z .tables) shown) c in
+      let w : listIn (d .tables .ends) (d .tables .lengths) (d .tables .volumes) (d .counts) ≡ written reg = list-written reg (d .tables) (d .counts) (ap (λ (z : ReadingIn). z .tables) shown) c in
       let v : d .counts .vertices ≤ maxVertices = rw c (vertices-few reg g) in
       let n : d .counts .edges ≤ maxEdges = rw c (edges-few reg g) in
-      let fits : length (listIn (d .tables .ends) (d .tables .lengths) (d .counts)) ≤ length out = omega (arith, v, n, list-bytes (d .tables .ends) (d .tables .lengths) (d .counts)) in
+      let fits : length (listIn (d .tables .ends) (d .tables .lengths) (d .tables .volumes) (d .counts)) ≤ length out = omega (arith, v, n, list-bytes (d .tables .ends) (d .tables .lengths) (d .tables .volumes) (d .counts)) in
       page-holds gives _ bs out q e fits (rw (le-ltb 65536 (length bs) short, same-stop whole s) (ap gives w))
 
   pub stop-told : (k x : ℕ) (q : Page) → k < 18446744073709551616 → x < 4294967296 → stopped k x ≡ d .stop → q ≡ write (stopLine (stopped k x)) (page out 0)

@@ -37,6 +37,6 @@ abbrev pub asOutput : Output → List ℕ → Streams
 asOutput (output.List n) xs = gives (take n xs)
 asOutput (output.Complaint n) xs = tells (take n xs)
 
--- the program's slice: 4,096 vertices and edges need 40,965 bytes, a complaint fewer
+-- the program's slice: 4,096 vertices and edges need 57,349 bytes, a complaint fewer
 abbrev pub roomBytes : ℕ
 roomBytes = 65536

@@ -37,19 +37,21 @@ pub fn canonical_list(list: &[u8], out: &mut [u8]) -> Output
     let mut sides = [0u16; SIDES];
     let mut ends = [0u16; ENDS];
     let mut lengths = [0u32; EDGES];
+    let mut volumes = [0u32; EDGES];
     let mut labels = [0u32; VERTICES];
     let reading = grow_list(
         &mut degrees,
         &mut sides,
         &mut ends,
         &mut lengths,
+        &mut volumes,
         &mut labels,
         list,
     );
     let stop = reading.stop;
     match stop {
         Stop::Whole => {
-            let size = put_list(out, &ends, &lengths, reading.counts);
+            let size = put_list(out, &ends, &lengths, &volumes, reading.counts);
             Output::List(size)
         }
         Stop::Stopped(record, refusal) => {

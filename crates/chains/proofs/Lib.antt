@@ -1,5 +1,6 @@
 -- Laws for the proofs of the functions: for each way out of a function, and for a turn of its loop.
 pub mod WalkLaws
+pub mod VolumeLaws
 pub mod NameLaws
 pub mod LookupLaws
 pub mod SheetLaws

@@ -8,9 +8,9 @@ use Rattle.chains.specs.declared.newest.Found.{Found}
 use Rattle.chains.specs.declared.newest.Found.the-variants.{At, Nothing}
 use Rattle.chains.specs.declared.newest.Searched.{Searched}
 
--- "name, end with the lower number, other end, couplings, length"
+-- "name, end with the lower number, other end, couplings, length", and the volume (S-4)
 abbrev pub rowOf : Row → List ℕ
-rowOf r = r .name .0 ∷ r .lower .0 ∷ r .other .0 ∷ r .inner ∷ r .length .0 ∷ []
+rowOf r = r .name .0 ∷ r .lower .0 ∷ r .other .0 ∷ r .inner ∷ r .length .0 ∷ r .volume .0 ∷ []
 
 abbrev pub asFound : Found → Option ℕ
 asFound (At v) = some (v .0)

@@ -1,7 +1,7 @@
 -- Chains found by walking over the lent tables, as functions of lists that mirror the code. A walker stands at vertex v, which it
 -- reached by edge d; n bounds its steps.
 use Prim.Native.Nat.{ℕ, zero, suc, _+_, _*_, min, max}
-use mathlib.Core.Bool.{Bool, true, false, not, _&&_}
+use mathlib.Core.Bool.{Bool, true, false, not, _&&_, _||_}
 use mathlib.Core.List.{List, [], _∷_, map}
 use lib.ListN.{getD, set}
 use lib.Dec.{eqb}
@@ -34,6 +34,20 @@ walkIn degrees sides ends lengths home (suc n) d v =
     let rest = walkIn degrees sides ends lengths home n c (farIn ends c v) in
     let on = walkAhead 1 (getD lengths c 0) v rest in
     if goesOnIn degrees home v then on else walkEnd v 0 0 home
+
+-- ---- volumes, of which 0 is unknown
+
+-- two volumes together: unknown if one of them is
+unfoldable pub plusVolume32 : ℕ → ℕ → ℕ
+plusVolume32 v w = if eqb v 0 || eqb w 0 then 0 else sum32 v w
+
+-- the volumes of the edges behind the regular vertices that a walk passes, onto what is known so far
+unfoldable pub walkVolumeIn : List ℕ → List ℕ → List ℕ → List ℕ → ℕ → ℕ → ℕ → ℕ → ℕ → ℕ
+walkVolumeIn degrees sides ends volumes home zero known d v = known
+walkVolumeIn degrees sides ends volumes home (suc n) known d v =
+    let c = turnIn sides d v in
+    let rest = walkVolumeIn degrees sides ends volumes home n (plusVolume32 known (getD volumes c 0)) c (farIn ends c v) in
+    if goesOnIn degrees home v then rest else known
 
 -- ---- names, by marks on the edges that were passed
 
@@ -83,21 +97,24 @@ namesIn degrees sides ends n marks = sweepIn degrees sides ends n n marks 0
 -- ---- rows
 
 -- The row of the chain named e, by one walk round a ring, or by two walks from e to the ends of a chain.
-unfoldable pub rowIn : List ℕ → List ℕ → List ℕ → List ℕ → ℕ → ℕ → List ℕ
-rowIn degrees sides ends lengths n e =
+unfoldable pub rowIn : List ℕ → List ℕ → List ℕ → List ℕ → List ℕ → ℕ → ℕ → List ℕ
+rowIn degrees sides ends lengths volumes n e =
     let a = getD ends (2 * e) 0 in
-    let on = walkIn degrees sides ends lengths a n e (getD ends (2 * e + 1) 0) in
+    let b = getD ends (2 * e + 1) 0 in
+    let on = walkIn degrees sides ends lengths a n e b in
     let back = walkIn degrees sides ends lengths (on .at) n e a in
     let own = sum32 (getD lengths e 0) (on .length) in
-    if eqb (getD degrees (on .at) 0) 2 then e ∷ on .lowest ∷ on .lowest ∷ (1 + on .inner) ∷ own ∷ []
-    else e ∷ min (back .at) (on .at) ∷ max (back .at) (on .at) ∷ (back .inner + on .inner) ∷ sum32 (back .length) own ∷ []
+    let known = walkVolumeIn degrees sides ends volumes a n (getD volumes e 0) e b in
+    let all = walkVolumeIn degrees sides ends volumes (on .at) n known e a in
+    if eqb (getD degrees (on .at) 0) 2 then e ∷ on .lowest ∷ on .lowest ∷ (1 + on .inner) ∷ own ∷ known ∷ []
+    else e ∷ min (back .at) (on .at) ∷ max (back .at) (on .at) ∷ (back .inner + on .inner) ∷ sum32 (back .length) own ∷ all ∷ []
 
-unfoldable pub rowsIn : List ℕ → List ℕ → List ℕ → List ℕ → ℕ → List ℕ → List (List ℕ)
-rowsIn degrees sides ends lengths n names = map (rowIn degrees sides ends lengths n) names
+unfoldable pub rowsIn : List ℕ → List ℕ → List ℕ → List ℕ → List ℕ → ℕ → List ℕ → List (List ℕ)
+rowsIn degrees sides ends lengths volumes n names = map (rowIn degrees sides ends lengths volumes n) names
 
 -- the rows of all chains among the first n edges, over marks that are lent
-unfoldable pub sheetIn : List ℕ → List ℕ → List ℕ → List ℕ → ℕ → List ℕ → List (List ℕ)
-sheetIn degrees sides ends lengths n marks = rowsIn degrees sides ends lengths n (namesIn degrees sides ends n marks)
+unfoldable pub sheetIn : List ℕ → List ℕ → List ℕ → List ℕ → List ℕ → ℕ → List ℕ → List (List ℕ)
+sheetIn degrees sides ends lengths volumes n marks = rowsIn degrees sides ends lengths volumes n (namesIn degrees sides ends n marks)
 
 -- ---- one name
 

@@ -6,4 +6,5 @@ pub mod newest;
 pub mod numbers;
 pub mod rows;
 pub mod tournament;
+pub mod volumes;
 pub mod walks;

@@ -116,7 +116,7 @@ impl Millimetres {
     }
 }
 
-// The volume of one pipe, if it is known.
+// The volume of one pipe; 0 in the register where it is not known.
 pub struct Millilitres(pub u32);
 
 pub enum CheckedMillilitres {

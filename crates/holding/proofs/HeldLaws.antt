@@ -36,7 +36,7 @@ Agrees (landed r) l = leftBy l ≡ some (stored (tablesOf r) (countsOf r))
 Agrees (refused x) l = l .answer ≡ refusedIn x
 
 module _ (own : Tables) where
-  own-is : (e : ℕ) → edgeOf (own .ends) (own .lengths) e ≡ storedEdge own e
+  own-is : (e : ℕ) → edgeOf (own .ends) (own .lengths) (own .volumes) e ≡ storedEdge own e
   unfolding storedEdge
   own-is e = refl
 
@@ -45,7 +45,7 @@ module _ (own : Tables) where
   edgesFrom n e = map (storedEdge own) (countFrom e n)
 
   replay-agrees : (n e : ℕ) (r : Register) (rings : Bool) → Reachable r → Warns rings (r .edges)
-      → Agrees (landEdges (edgesFrom n e) r) (replayIn (own .ends) (own .lengths) n e (tablesOf r) (countsOf r) rings)
+      → Agrees (landEdges (edgesFrom n e) r) (replayIn (own .ends) (own .lengths) (own .volumes) n e (tablesOf r) (countsOf r) rings)
   unfolding replayIn landEdges countFrom shownIn
   replay-agrees zero e r rings g w = refl
   replay-agrees (suc n) e r rings g w = go (landEdge r (storedEdge own e)) refl (λ r′ rings′ h w′. replay-agrees n (e + 1) r′ rings′ h w′)
@@ -55,8 +55,8 @@ module _ (own : Tables) where
 
       go : (l : Landed) → landEdge r (storedEdge own e) ≡ l
           → ((r′ : Register) (rings′ : Bool) → Reachable r′ → Warns rings′ (r′ .edges)
-          → Agrees (landEdges (edgesFrom n (e + 1)) r′) (replayIn (own .ends) (own .lengths) n (e + 1) (tablesOf r′) (countsOf r′) rings′))
-          → Agrees (landEdges (edgesFrom (suc n) e) r) (replayIn (own .ends) (own .lengths) (suc n) e (tablesOf r) (countsOf r) rings)
+          → Agrees (landEdges (edgesFrom n (e + 1)) r′) (replayIn (own .ends) (own .lengths) (own .volumes) n (e + 1) (tablesOf r′) (countsOf r′) rings′))
+          → Agrees (landEdges (edgesFrom (suc n) e) r) (replayIn (own .ends) (own .lengths) (own .volumes) (suc n) e (tablesOf r) (countsOf r) rings)
       go (landed r′) q ih =
           let p = edge-parts r (storedEdge own e) rings g w (landed r′) q in
           rw (q, own-is e, p .0, replayIn, landEdges, own-is e, p .1, ← next) (ih r′ _ (with-edge (storedEdge own e) g q) (warns-edge r (storedEdge own e) r′ rings g q w))
@@ -116,7 +116,7 @@ abbrev growing : Tables → Counts → Landed
 growing t c = growFrom (c .vertices) (storedEdges t (c .edges))
 
 abbrev regrown : Tables → Counts → LandingIn
-regrown t c = regrowIn (t .ends) (t .lengths) c cleared
+regrown t c = regrowIn (t .ends) (t .lengths) (t .volumes) c cleared
 
 regrow-agrees : (t : Tables) (c : Counts) → Agrees (growing t c) (regrown t c)
 unfolding regrowIn storedEdges upTo

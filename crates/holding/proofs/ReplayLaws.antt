@@ -21,17 +21,17 @@ use Rattle.insertion.specs.Insertion.{AnswerIn, done, refusedIn, LandingIn, lan
 use Rattle.tables.proofs.SameLengths.{SameLengths}
 use Rattle.holding.specs.Replay.{replayIn, regrowIn, leftAs, leftBy, Regrows}
 
-module _ (es ls : List ℕ) where
-  pub replay-full : (c : Counts) (t : Tables) → maxVertices < c .vertices → landingIn t (refusedIn 22) ≡ regrowIn es ls c t
+module _ (es ls us : List ℕ) where
+  pub replay-full : (c : Counts) (t : Tables) → maxVertices < c .vertices → landingIn t (refusedIn 22) ≡ regrowIn es ls us c t
   unfolding regrowIn
   replay-full c t h = rw (lt-leb (c .vertices) maxVertices h)
 
   pub replay-all : (c : Counts) (t : Tables) (l : LandingIn) → c .vertices ≤ maxVertices
-      → l ≡ replayIn es ls (c .edges) 0 t (counts (c .vertices) 0 0 0) false → l ≡ regrowIn es ls c t
+      → l ≡ replayIn es ls us (c .edges) 0 t (counts (c .vertices) 0 0 0) false → l ≡ regrowIn es ls us c t
   unfolding regrowIn
   replay-all c t l h e = rw (le-leb (c .vertices) maxVertices h) e
 
-  pub replay-end : (n e : ℕ) (t : Tables) (c : Counts) (rings : Bool) → n ≤ 0 → landingIn t (done c rings) ≡ replayIn es ls n e t c rings
+  pub replay-end : (n e : ℕ) (t : Tables) (c : Counts) (rings : Bool) → n ≤ 0 → landingIn t (done c rings) ≡ replayIn es ls us n e t c rings
   unfolding replayIn
   replay-end zero e t c rings h = refl
   replay-end (suc n) e t c rings h = absurd (not-suc-le-zero h)
@@ -43,36 +43,36 @@ answer-of : {x y : LandingIn} → x ≡ y → x .answer ≡ y .answer
 answer-of e = ap (λ (l : LandingIn). l .answer) e
 
 -- the edge that the code reads
-own-edge : (es ls : List ℕ) (e i a b l : ℕ) → i ≡ 2 * e → a ≡ getD es i 0 → b ≡ getD es (i + 1) 0 → l ≡ getD ls e 0
-    → record { first = a; second = b; len = l } ≡ edgeOf es ls e
+own-edge : (es ls us : List ℕ) (e i a b l u : ℕ) → i ≡ 2 * e → a ≡ getD es i 0 → b ≡ getD es (i + 1) 0 → l ≡ getD ls e 0 → u ≡ getD us e 0
+    → record { first = a; second = b; len = l; volume = u } ≡ edgeOf es ls us e
 unfolding storedEdge
-own-edge es ls e i a b l p q r s = rw (q, r, s, p)
+own-edge es ls us e i a b l u p q r s z = rw (q, r, s, z, p)
 
-module _ (es ls : List ℕ) (e : ℕ) (t t′ : Tables) (c : Counts) (rings : Bool) where
-  replay-step-on : (n : ℕ) (c′ : Counts) (rings′ : Bool) → 0 < n → landingIn t′ (done c′ rings′) ≡ landIn t c rings (edgeOf es ls e)
-      → replayIn es ls n e t c rings ≡ replayIn es ls (n - 1) (e + 1) t′ c′ rings′
+module _ (es ls us : List ℕ) (e : ℕ) (t t′ : Tables) (c : Counts) (rings : Bool) where
+  replay-step-on : (n : ℕ) (c′ : Counts) (rings′ : Bool) → 0 < n → landingIn t′ (done c′ rings′) ≡ landIn t c rings (edgeOf es ls us e)
+      → replayIn es ls us n e t c rings ≡ replayIn es ls us (n - 1) (e + 1) t′ c′ rings′
   unfolding replayIn
   replay-step-on zero c′ rings′ h q = absurd (not-suc-le-zero h)
   replay-step-on (suc n) c′ rings′ h q = rw (← answer-of q, sub-one, replayIn, ← tables-of q)
 
-  replay-step-refused : (n x : ℕ) → 0 < n → landingIn t′ (refusedIn x) ≡ landIn t c rings (edgeOf es ls e)
-      → landingIn t′ (refusedIn x) ≡ replayIn es ls n e t c rings
+  replay-step-refused : (n x : ℕ) → 0 < n → landingIn t′ (refusedIn x) ≡ landIn t c rings (edgeOf es ls us e)
+      → landingIn t′ (refusedIn x) ≡ replayIn es ls us n e t c rings
   unfolding replayIn
   replay-step-refused zero x h q = absurd (not-suc-le-zero h)
   replay-step-refused (suc n) x h q = rw (← answer-of q, replayIn) q
 
-module _ (es ls : List ℕ) (n e i a b l : ℕ) (t t′ : Tables) (c : Counts) (rings : Bool) (more : 0 < n) (at : i ≡ 2 * e)
-    (first : a ≡ getD es i 0) (second : b ≡ getD es (i + 1) 0) (long : l ≡ getD ls e 0) (answer : AnswerIn)
-    (lands : landingIn t′ answer ≡ landIn t c rings (record { first = a; second = b; len = l })) where
-  landed-own : (answer′ : AnswerIn) → answer ≡ answer′ → landingIn t′ answer′ ≡ landIn t c rings (edgeOf es ls e)
-  landed-own answer′ w = ap (landingIn t′) (sym w) ∙ lands ∙ ap (landIn t c rings) (own-edge es ls e i a b l at first second long)
+module _ (es ls us : List ℕ) (n e i a b l u : ℕ) (t t′ : Tables) (c : Counts) (rings : Bool) (more : 0 < n) (at : i ≡ 2 * e)
+    (first : a ≡ getD es i 0) (second : b ≡ getD es (i + 1) 0) (long : l ≡ getD ls e 0) (holds : u ≡ getD us e 0) (answer : AnswerIn)
+    (lands : landingIn t′ answer ≡ landIn t c rings (record { first = a; second = b; len = l; volume = u })) where
+  landed-own : (answer′ : AnswerIn) → answer ≡ answer′ → landingIn t′ answer′ ≡ landIn t c rings (edgeOf es ls us e)
+  landed-own answer′ w = ap (landingIn t′) (sym w) ∙ lands ∙ ap (landIn t c rings) (own-edge es ls us e i a b l u at first second long holds)
 
   pub replay-on : (c′ : Counts) (rings′ : Bool) → answer ≡ done c′ rings′
-      → replayIn es ls n e t c rings ≡ replayIn es ls (n - 1) (e + 1) t′ c′ rings′
-  replay-on c′ rings′ w = replay-step-on es ls e t t′ c rings n c′ rings′ more (landed-own (done c′ rings′) w)
+      → replayIn es ls us n e t c rings ≡ replayIn es ls us (n - 1) (e + 1) t′ c′ rings′
+  replay-on c′ rings′ w = replay-step-on es ls us e t t′ c rings n c′ rings′ more (landed-own (done c′ rings′) w)
 
-  pub replay-refused : (x : ℕ) → answer ≡ refusedIn x → landingIn t′ (refusedIn x) ≡ replayIn es ls n e t c rings
-  replay-refused x w = replay-step-refused es ls e t t′ c rings n x more (landed-own (refusedIn x) w)
+  pub replay-refused : (x : ℕ) → answer ≡ refusedIn x → landingIn t′ (refusedIn x) ≡ replayIn es ls us n e t c rings
+  replay-refused x w = replay-step-refused es ls us e t t′ c rings n x more (landed-own (refusedIn x) w)
 
 -- ---- the comparison
 
@@ -88,18 +88,18 @@ none-some s e = let z : _≡_ {A = ℕ} 0 1 = cc in omega arith
 
 -- What the replay left is compared with the register `own` and its counts c: it was refused; the counts differ; or they agree and
 -- the tables decide.
-module _ (own : Tables) (c : Counts) (t t′ : Tables) (answer : AnswerIn) (q : landingIn t′ answer ≡ regrowIn (own .ends) (own .lengths) c t) where
-  left-is : (answer′ : AnswerIn) → answer ≡ answer′ → leftBy (regrowIn (own .ends) (own .lengths) c t) ≡ leftAs t′ answer′
+module _ (own : Tables) (c : Counts) (t t′ : Tables) (answer : AnswerIn) (q : landingIn t′ answer ≡ regrowIn (own .ends) (own .lengths) (own .volumes) c t) where
+  left-is : (answer′ : AnswerIn) → answer ≡ answer′ → leftBy (regrowIn (own .ends) (own .lengths) (own .volumes) c t) ≡ leftAs t′ answer′
   left-is answer′ w = ap leftBy (sym q) ∙ ap (leftAs t′) w
 
-  regrows-not : (leftBy (regrowIn (own .ends) (own .lengths) c t) ≡ some (stored own c) → ⊥) → Regrows false own c t
-  regrows-not h = let n = differ (leftBy (regrowIn (own .ends) (own .lengths) c t)) (some (stored own c)) h in record { if-true = n .0; true-if = n .1 }
+  regrows-not : (leftBy (regrowIn (own .ends) (own .lengths) (own .volumes) c t) ≡ some (stored own c) → ⊥) → Regrows false own c t
+  regrows-not h = let n = differ (leftBy (regrowIn (own .ends) (own .lengths) (own .volumes) c t)) (some (stored own c)) h in record { if-true = n .0; true-if = n .1 }
 
   pub regrows-refused : (x : ℕ) → answer ≡ refusedIn x → Regrows false own c t
   regrows-refused x w = regrows-not (λ e. none-some (stored own c) (sym (left-is (refusedIn x) w) ∙ e))
 
   module _ (c′ : Counts) (rings : Bool) (w : answer ≡ done c′ rings) where
-    same-stored : leftBy (regrowIn (own .ends) (own .lengths) c t) ≡ some (stored own c) → stored t′ c′ ≡ stored own c
+    same-stored : leftBy (regrowIn (own .ends) (own .lengths) (own .volumes) c t) ≡ some (stored own c) → stored t′ c′ ≡ stored own c
     same-stored e = stored-is (stored t′ c′) (stored own c) (sym (left-is (done c′ rings) w) ∙ e)
 
     pub regrows-other : (c′ ≡ c → ⊥) → Regrows false own c t
@@ -115,9 +115,10 @@ module _ (own : Tables) (c : Counts) (t t′ : Tables) (answer : AnswerIn) (q : 
         both : own ≡ t′ → some (stored t′ c′) ≡ some (stored own c)
         both e = rw (h, e)
 
-pub zeroed-again : {d s e l t d′ s′ e′ l′ t′ : List ℕ} → SameLengths d s e l t d′ s′ e′ l′ t′ → zeroed (tables d′ s′ e′ l′ t′) ≡ zeroed (tables d s e l t)
+pub zeroed-again : {d s e l v t d′ s′ e′ l′ v′ t′ : List ℕ} → SameLengths d s e l v t d′ s′ e′ l′ v′ t′
+    → zeroed (tables d′ s′ e′ l′ v′ t′) ≡ zeroed (tables d s e l v t)
 unfolding zeroed
-zeroed-again k = rw (k .degrees, k .sides, k .ends, k .lengths, k .labels)
+zeroed-again k = rw (k .degrees, k .sides, k .ends, k .lengths, k .volumes, k .labels)
 
 -- the same answer, and the same tables to land on
 pub regrows-on : (r : Bool) (own : Tables) (c : Counts) (t t′ : Tables) → t ≡ t′ → Regrows r own c t → Regrows r own c t′

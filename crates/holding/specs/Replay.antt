@@ -12,20 +12,20 @@ use Rattle.tables.specs.Meaning.{stored}
 use Rattle.tables.specs.Steps.{edgeOf}
 use Rattle.insertion.specs.Insertion.{AnswerIn, done, refusedIn, LandingIn, landingIn, landIn}
 
--- n edges of the tables of ends and lengths, from number e on, landed on t; rings: a ring may stand
-unfoldable pub replayIn : List ℕ → List ℕ → ℕ → ℕ → Tables → Counts → Bool → LandingIn
-replayIn ends lengths zero e t c rings = landingIn t (done c rings)
-replayIn ends lengths (suc n) e t c rings =
-    let l = landIn t c rings (edgeOf ends lengths e) in
+-- n edges of the tables of ends, lengths and volumes, from number e on, landed on t; rings: a ring may stand
+unfoldable pub replayIn : List ℕ → List ℕ → List ℕ → ℕ → ℕ → Tables → Counts → Bool → LandingIn
+replayIn ends lengths volumes zero e t c rings = landingIn t (done c rings)
+replayIn ends lengths volumes (suc n) e t c rings =
+    let l = landIn t c rings (edgeOf ends lengths volumes e) in
     elim (l .answer) [
-      | done c′ rings′ ↦ replayIn ends lengths n (e + 1) (l .tables) c′ rings′
+      | done c′ rings′ ↦ replayIn ends lengths volumes n (e + 1) (l .tables) c′ rings′
       | refusedIn x ↦ l
     ]
 
 -- all edges that the counts say, on tables t on which no ring stands, after as many vertices
-unfoldable pub regrowIn : List ℕ → List ℕ → Counts → Tables → LandingIn
-regrowIn ends lengths c t =
-    if leb (c .vertices) maxVertices then replayIn ends lengths (c .edges) 0 t (counts (c .vertices) 0 0 0) false
+unfoldable pub regrowIn : List ℕ → List ℕ → List ℕ → Counts → Tables → LandingIn
+regrowIn ends lengths volumes c t =
+    if leb (c .vertices) maxVertices then replayIn ends lengths volumes (c .edges) 0 t (counts (c .vertices) 0 0 0) false
     else landingIn t (refusedIn 22)
 
 -- the tables and counts that a landing leaves, if it is not refused
@@ -38,5 +38,5 @@ leftBy l = leftAs (l .tables) (l .answer)
 
 -- r tells whether the edges of `own`, landed on t, leave `own` itself with its counts
 pub record Regrows (r : Bool) (own : Tables) (c : Counts) (t : Tables) : Type 0 where
-  pub if-true : r ≡ true → leftBy (regrowIn (own .ends) (own .lengths) c t) ≡ some (stored own c)
-  pub true-if : leftBy (regrowIn (own .ends) (own .lengths) c t) ≡ some (stored own c) → r ≡ true
+  pub if-true : r ≡ true → leftBy (regrowIn (own .ends) (own .lengths) (own .volumes) c t) ≡ some (stored own c)
+  pub true-if : leftBy (regrowIn (own .ends) (own .lengths) (own .volumes) c t) ≡ some (stored own c) → r ≡ true

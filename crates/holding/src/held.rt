@@ -31,25 +31,29 @@ fn leaves_same(
     sides: &[u16],
     ends: &[u16],
     lengths: &[u32],
+    volumes: &[u32],
     labels: &[u32],
     own: Counts,
     sdegrees: &mut [u16],
     ssides: &mut [u16],
     sends: &mut [u16],
     slengths: &mut [u32],
+    svolumes: &mut [u32],
     slabels: &mut [u32],
 ) -> bool
-    ensures { λ r. ⌜ Regrows r (tables (now (degrees .entry)) (now (sides .entry)) (now (ends .entry)) (now (lengths .entry)) (now (labels .entry))) (asCounts own)
-        (tables (now (sdegrees .entry)) (now (ssides .entry)) (now (sends .entry)) (now (slengths .entry)) (now (slabels .entry))) ⌝ }
+    ensures { λ r. ⌜ Regrows r (tables (now (degrees .entry)) (now (sides .entry)) (now (ends .entry)) (now (lengths .entry)) (now (volumes .entry)) (now (labels .entry))) (asCounts own)
+        (tables (now (sdegrees .entry)) (now (ssides .entry)) (now (sends .entry)) (now (slengths .entry)) (now (svolumes .entry)) (now (slabels .entry))) ⌝ }
 {
     let inserted = regrow(
         ends,
         lengths,
+        volumes,
         own,
         sdegrees,
         ssides,
         sends,
         slengths,
+        svolumes,
         slabels,
     );
     match inserted {
@@ -62,11 +66,13 @@ fn leaves_same(
                 sides,
                 ends,
                 lengths,
+                volumes,
                 labels,
                 sdegrees,
                 ssides,
                 sends,
                 slengths,
+                svolumes,
                 slabels,
             )
         }
@@ -80,33 +86,37 @@ pub fn is_held(
     sides: &[u16],
     ends: &[u16],
     lengths: &[u32],
+    volumes: &[u32],
     labels: &[u32],
     own: Counts,
     sdegrees: &mut [u16],
     ssides: &mut [u16],
     sends: &mut [u16],
     slengths: &mut [u32],
+    svolumes: &mut [u32],
     slabels: &mut [u32],
 ) -> bool
-    ensures { λ r. ⌜ (tables (now (sdegrees .exit)) (now (ssides .exit)) (now (sends .exit)) (now (slengths .exit)) (now (slabels .exit))
-        ≡ zeroed (tables (now (sdegrees .entry)) (now (ssides .entry)) (now (sends .entry)) (now (slengths .entry)) (now (slabels .entry))))
-        × (Regrows r (tables (now (degrees .entry)) (now (sides .entry)) (now (ends .entry)) (now (lengths .entry)) (now (labels .entry))) (asCounts own)
-        (zeroed (tables (now (sdegrees .entry)) (now (ssides .entry)) (now (sends .entry)) (now (slengths .entry)) (now (slabels .entry))))) ⌝ }
+    ensures { λ r. ⌜ (tables (now (sdegrees .exit)) (now (ssides .exit)) (now (sends .exit)) (now (slengths .exit)) (now (svolumes .exit)) (now (slabels .exit))
+        ≡ zeroed (tables (now (sdegrees .entry)) (now (ssides .entry)) (now (sends .entry)) (now (slengths .entry)) (now (svolumes .entry)) (now (slabels .entry))))
+        × (Regrows r (tables (now (degrees .entry)) (now (sides .entry)) (now (ends .entry)) (now (lengths .entry)) (now (volumes .entry)) (now (labels .entry))) (asCounts own)
+        (zeroed (tables (now (sdegrees .entry)) (now (ssides .entry)) (now (sends .entry)) (now (slengths .entry)) (now (svolumes .entry)) (now (slabels .entry))))) ⌝ }
 {
-    clear_tables(sdegrees, ssides, sends, slengths, slabels);
+    clear_tables(sdegrees, ssides, sends, slengths, svolumes, slabels);
     let same = leaves_same(
         degrees,
         sides,
         ends,
         lengths,
+        volumes,
         labels,
         own,
         sdegrees,
         ssides,
         sends,
         slengths,
+        svolumes,
         slabels,
     );
-    clear_tables(sdegrees, ssides, sends, slengths, slabels);
+    clear_tables(sdegrees, ssides, sends, slengths, svolumes, slabels);
     same
 }

@@ -1,4 +1,4 @@
-// The edges of a table of ends and lengths landed again on other tables.
+// The edges of tables of ends, lengths and volumes landed again on other tables.
 use counters::counts::Counts;
 use counters::numbers::Vertex;
 use counters::refusals::Refusal;
@@ -13,10 +13,11 @@ ghost use Rattle.insertion.specs.Insertion.{landingIn};
 ghost use Rattle.insertion.specs.Meaning.{asAnswer};
 ghost use Rattle.holding.specs.Replay.{replayIn, regrowIn};
 
-// So many edges of the tables of ends and lengths, from number `first` on, landed on other tables; rings: a ring may stand on these.
+// So many edges of the tables of ends, lengths and volumes, from number `first` on, landed on other tables; rings: a ring may stand on these.
 pub fn replay(
     ownends: &[u16],
     ownlengths: &[u32],
+    ownvolumes: &[u32],
     first: u16,
     number: u16,
     from: Counts,
@@ -25,11 +26,12 @@ pub fn replay(
     sides: &mut [u16],
     ends: &mut [u16],
     lengths: &mut [u32],
+    volumes: &mut [u32],
     labels: &mut [u32],
 ) -> Inserted
-    ensures { λ r. ⌜ landingIn (tables (now (degrees .exit)) (now (sides .exit)) (now (ends .exit)) (now (lengths .exit)) (now (labels .exit))) (asAnswer r)
-        ≡ replayIn (now (ownends .entry)) (now (ownlengths .entry)) number first
-        (tables (now (degrees .entry)) (now (sides .entry)) (now (ends .entry)) (now (lengths .entry)) (now (labels .entry))) (asCounts from) rings ⌝ }
+    ensures { λ r. ⌜ landingIn (tables (now (degrees .exit)) (now (sides .exit)) (now (ends .exit)) (now (lengths .exit)) (now (volumes .exit)) (now (labels .exit))) (asAnswer r)
+        ≡ replayIn (now (ownends .entry)) (now (ownlengths .entry)) (now (ownvolumes .entry)) number first
+        (tables (now (degrees .entry)) (now (sides .entry)) (now (ends .entry)) (now (lengths .entry)) (now (volumes .entry)) (now (labels .entry))) (asCounts from) rings ⌝ }
 {
     let mut counts = from;
     let mut ringed = rings;
@@ -42,11 +44,13 @@ pub fn replay(
             sides,
             ends,
             lengths,
+            volumes,
             labels,
             counts,
             at16(ownends, i),
             at16(ownends, i + 1),
             at32(ownlengths, edge),
+            at32(ownvolumes, edge),
             ringed,
         );
         match inserted {
@@ -69,16 +73,18 @@ pub fn replay(
 pub fn regrow(
     ownends: &[u16],
     ownlengths: &[u32],
+    ownvolumes: &[u32],
     own: Counts,
     degrees: &mut [u16],
     sides: &mut [u16],
     ends: &mut [u16],
     lengths: &mut [u32],
+    volumes: &mut [u32],
     labels: &mut [u32],
 ) -> Inserted
-    ensures { λ r. ⌜ landingIn (tables (now (degrees .exit)) (now (sides .exit)) (now (ends .exit)) (now (lengths .exit)) (now (labels .exit))) (asAnswer r)
-        ≡ regrowIn (now (ownends .entry)) (now (ownlengths .entry)) (asCounts own)
-        (tables (now (degrees .entry)) (now (sides .entry)) (now (ends .entry)) (now (lengths .entry)) (now (labels .entry))) ⌝ }
+    ensures { λ r. ⌜ landingIn (tables (now (degrees .exit)) (now (sides .exit)) (now (ends .exit)) (now (lengths .exit)) (now (volumes .exit)) (now (labels .exit))) (asAnswer r)
+        ≡ regrowIn (now (ownends .entry)) (now (ownlengths .entry)) (now (ownvolumes .entry)) (asCounts own)
+        (tables (now (degrees .entry)) (now (sides .entry)) (now (ends .entry)) (now (lengths .entry)) (now (volumes .entry)) (now (labels .entry))) ⌝ }
 {
     if Vertex::COUNT < own.vertices {
         return Inserted::Refused(Refusal::TooManyVertices);
@@ -92,6 +98,7 @@ pub fn regrow(
     replay(
         ownends,
         ownlengths,
+        ownvolumes,
         0,
         own.edges,
         from,
@@ -100,6 +107,7 @@ pub fn regrow(
         sides,
         ends,
         lengths,
+        volumes,
         labels,
     )
 }

@@ -1,5 +1,5 @@
 -- A vertex; the refusals of an edge, in their order, and an insertion.
-use mathlib.Core.Path.{_≡_, refl, sym, _∙_}
+use mathlib.Core.Path.{_≡_, refl, sym, ap, _∙_}
 use mathlib.Core.Bool.{Bool, true, false, _||_}
 use mathlib.Core.List.{List}
 use mathlib.Core.Option.{none, some}
@@ -9,17 +9,17 @@ use native.Mathlib.Decide.{decLe, decLt}
 use borrow.Author.Tests.{eq-eqb, ne-eqb, lt-ltb, le-ltb, le-leb, lt-leb}
 use lib.Dec.{eqb, ltb}
 use lib.ListN.{getD, set}
-use Rattle.model.specs.Basics.{if_then_else_, maxEdges, maxLength, maxVertices}
+use Rattle.model.specs.Basics.{if_then_else_, maxEdges, maxLength, maxVertices, maxVolume}
 use Rattle.model.specs.Graph.{Edge}
 use Rattle.model.specs.Cases.{Case, classOf, caseOf}
 use Rattle.model.specs.Tables.{Tables, Counts}
 use Rattle.counters.specs.Answers.{counts}
-use Rattle.counters.specs.Numbers.{isLanded, within}
-use Rattle.counters.proofs.Within.{within-yes, within-below, within-above}
+use Rattle.counters.specs.Numbers.{isLanded, within, volumeOf}
+use Rattle.counters.proofs.Within.{within-yes, within-below, within-above, volume-known, volume-unknown, volume-above}
 use Rattle.tables.specs.Meaning.{tables}
 use Rattle.tables.specs.Steps.{setPair, more16, sum32}
 use Rattle.insertion.specs.Placing.{placed, placeIn}
-use Rattle.insertion.specs.Insertion.{done, refusedIn, landingIn, landVertexIn, insertIn, passed, failed, checkIn, landChecked, landIn}
+use Rattle.insertion.specs.Insertion.{done, refusedIn, landingIn, landVertexIn, insertIn, passed, failed, storedVolume, checkIn, landChecked, landIn}
 use Rattle.insertion.specs.Meaning.{asChecked}
 use Rattle.insertion.specs.declared.edges.Checked.{Checked}
 
@@ -33,15 +33,15 @@ module _ (c : Counts) (rings : Bool) where
   unfolding landVertexIn
   vertex-more n h e = rw (lt-leb maxVertices (c .vertices) h, e)
 
-pub insert-done : (d s ends l t d′ s′ t′ ends′ l′ : List ℕ) (c : Counts) (rings ring after : Bool) (a b len da db blocks m edges n : ℕ) (k : Case)
+pub insert-done : (d s ends l u t d′ s′ t′ ends′ l′ u′ : List ℕ) (c : Counts) (rings ring after : Bool) (a b len volume da db blocks m edges n : ℕ) (k : Case)
     → da ≡ getD d a 0 → db ≡ getD d b 0 → k ≡ caseOf (classOf da) (classOf db)
     → placed d′ s′ t′ blocks m ring ≡ placeIn k d s ends t (c .blocks) a b (c .edges) rings → ends′ ≡ setPair ends (c .edges) a b
-    → l′ ≡ set l (c .edges) len → edges ≡ more16 (c .edges) → n ≡ sum32 (c .relabellings) m → after ≡ (rings || ring)
-    → landingIn (tables d′ s′ ends′ l′ t′) (done (counts (c .vertices) edges blocks n) after)
-    ≡ insertIn (tables d s ends l t) c rings (record { first = a; second = b; len = len })
+    → l′ ≡ set l (c .edges) len → u′ ≡ set u (c .edges) volume → edges ≡ more16 (c .edges) → n ≡ sum32 (c .relabellings) m → after ≡ (rings || ring)
+    → landingIn (tables d′ s′ ends′ l′ u′ t′) (done (counts (c .vertices) edges blocks n) after)
+    ≡ insertIn (tables d s ends l u t) c rings (record { first = a; second = b; len = len; volume = volume })
 unfolding insertIn
-insert-done d s ends l t d′ s′ t′ ends′ l′ c rings ring after a b len da db blocks m edges n k i j g p z x v u o =
-    rw (← i, ← j, ← g, ← p, z, x, v, u, o)
+insert-done d s ends l u t d′ s′ t′ ends′ l′ u′ c rings ring after a b len volume da db blocks m edges n k i j g p z x y v w o =
+    rw (← i, ← j, ← g, ← p, z, x, y, v, w, o)
 
 -- a ring may stand where one did before, or is closed now
 pub ring-before : (rings ring : Bool) → rings ≡ true → rings ≡ (rings || ring)
@@ -70,10 +70,21 @@ if-some : (t : Bool) (m n : ℕ) → some m ≡ (if t then none else some n) →
 if-some true m n h = (cc, cc)
 if-some false m n h = (refl, cc)
 
--- an edge from a to b, n mm long: how it is checked
-module _ (c : Counts) (a b n : ℕ) where
+-- the test of refusal 31 is that of `check_volume`
+volume-test : (n : ℕ) → storedVolume (volumeOf n) ≡ (if ltb maxVolume n then none else some n)
+volume-test n =
+    elim (decLe n maxVolume) [
+      | yes g ↦ elim (decLt n 1) [
+        | yes h ↦ ap storedVolume (sym (volume-unknown n h)) ∙ (let z : n ≡ 0 = omega arith in rw (le-ltb maxVolume n g, z))
+        | no h ↦ ap storedVolume (sym (volume-known n (omega arith) g)) ∙ rw (le-ltb maxVolume n g)
+      ]
+      | no g ↦ ap storedVolume (sym (volume-above n (omega arith))) ∙ rw (lt-ltb maxVolume n (omega arith))
+    ]
+
+-- an edge from a to b, n mm long and of volume v: how it is checked
+module _ (c : Counts) (a b n v : ℕ) where
   abbrev edge : Edge
-  edge = record { first = a; second = b; len = n }
+  edge = record { first = a; second = b; len = n; volume = v }
 
   pub check-first : isLanded (c .vertices) a ≡ false → failed 5 ≡ checkIn c edge
   unfolding checkIn
@@ -88,21 +99,31 @@ module _ (c : Counts) (a b n : ℕ) where
     unfolding checkIn
     check-same e = rw (h, g, eq-eqb _ _ e)
 
-    pub check-length : (a ≡ b → ⊥) → none ≡ within 1 maxLength n → failed 7 ≡ checkIn c edge
-    unfolding checkIn
-    check-length e l = rw (h, g, ne-eqb _ _ e, if-none (eqb n 0 || ltb maxLength n) n (l ∙ length-test n))
+    module _ (e : a ≡ b → ⊥) where
+      pub check-length : none ≡ within 1 maxLength n → failed 7 ≡ checkIn c edge
+      unfolding checkIn
+      check-length l = rw (h, g, ne-eqb _ _ e, if-none (eqb n 0 || ltb maxLength n) n (l ∙ length-test n))
 
-    pub check-edges : (m : ℕ) → (a ≡ b → ⊥) → some m ≡ within 1 maxLength n → maxEdges ≤ c .edges → failed 23 ≡ checkIn c edge
-    unfolding checkIn
-    check-edges m e l o =
-        rw (h, g, ne-eqb _ _ e, if-some (eqb n 0 || ltb maxLength n) m n (l ∙ length-test n) .0, le-leb _ _ o)
+      module _ (m : ℕ) (l : some m ≡ within 1 maxLength n) where
+        length-is : ((eqb n 0 || ltb maxLength n) ≡ false) × (m ≡ n)
+        length-is = if-some (eqb n 0 || ltb maxLength n) m n (l ∙ length-test n)
 
-    pub check-passed : (a′ b′ m : ℕ) → a′ ≡ a → b′ ≡ b → (a ≡ b → ⊥) → some m ≡ within 1 maxLength n → c .edges < maxEdges
-        → passed a′ b′ m ≡ checkIn c edge
-    unfolding checkIn
-    check-passed a′ b′ m x y e l o =
-        let q = if-some (eqb n 0 || ltb maxLength n) m n (l ∙ length-test n) in
-        rw (h, g, ne-eqb _ _ e, q .0, lt-leb _ _ o, q .1, x, y)
+        pub check-volume : none ≡ storedVolume (volumeOf v) → failed 31 ≡ checkIn c edge
+        unfolding checkIn
+        check-volume w = rw (h, g, ne-eqb _ _ e, length-is .0, if-none (ltb maxVolume v) v (w ∙ volume-test v))
+
+        module _ (u : ℕ) (w : some u ≡ storedVolume (volumeOf v)) where
+          volume-is : (ltb maxVolume v ≡ false) × (u ≡ v)
+          volume-is = if-some (ltb maxVolume v) u v (w ∙ volume-test v)
+
+          pub check-edges : maxEdges ≤ c .edges → failed 23 ≡ checkIn c edge
+          unfolding checkIn
+          check-edges o = rw (h, g, ne-eqb _ _ e, length-is .0, volume-is .0, le-leb _ _ o)
+
+          pub check-passed : (a′ b′ : ℕ) → a′ ≡ a → b′ ≡ b → c .edges < maxEdges → passed a′ b′ m u ≡ checkIn c edge
+          unfolding checkIn
+          check-passed a′ b′ x y o =
+              rw (h, g, ne-eqb _ _ e, length-is .0, volume-is .0, lt-leb _ _ o, length-is .1, volume-is .1, x, y)
 
 -- landing goes on as the check's answer says
 pub checked-given : (t : Tables) (c : Counts) (rings : Bool) (e : Edge) (k k′ : Checked) → k ≡ k′ → asChecked k ≡ checkIn c e

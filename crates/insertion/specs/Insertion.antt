@@ -1,13 +1,14 @@
--- One vertex or one edge into the five tables: its refusals in their order, what it leaves and its answer.
+-- One vertex or one edge into the six tables: its refusals in their order, what it leaves and its answer.
 use Prim.Native.Nat.{ℕ}
 use mathlib.Core.Bool.{Bool, not, _&&_, _||_}
+use mathlib.Core.Option.{Option, none, some}
 use lib.ListN.{set}
 use lib.Dec.{eqb, leb, ltb}
-use Rattle.model.specs.Basics.{if_then_else_, maxEdges, maxLength, maxVertices}
+use Rattle.model.specs.Basics.{if_then_else_, maxEdges, maxLength, maxVertices, maxVolume}
 use Rattle.model.specs.Graph.{Edge}
 use Rattle.model.specs.Tables.{Tables, Counts}
 use Rattle.counters.specs.Answers.{counts}
-use Rattle.counters.specs.Numbers.{isLanded}
+use Rattle.counters.specs.Numbers.{Volume, known, unknown, outOfRange, isLanded}
 use Rattle.tables.specs.Meaning.{tables}
 use Rattle.tables.specs.Steps.{setPair, more16, sum32}
 use Rattle.insertion.specs.Placing.{placedBy}
@@ -31,18 +32,25 @@ landVertexIn c rings =
     if leb maxVertices (c .vertices) then refusedIn 22
     else done (counts (more16 (c .vertices)) (c .edges) (c .blocks) (c .relabellings)) rings
 
--- an edge that passed refusals 5, 6, 7 and 23; rings: a ring may stand
+-- an edge that passed refusals 5, 6, 7, 31 and 23; rings: a ring may stand
 unfoldable pub insertIn : Tables → Counts → Bool → Edge → LandingIn
 insertIn t c rings e =
     let new = c .edges in
     let p = placedBy t c rings e in
     landingIn
-    (tables (p .degrees) (p .sides) (setPair (t .ends) new (e .first) (e .second)) (set (t .lengths) new (e .len)) (p .labels))
+    (tables (p .degrees) (p .sides) (setPair (t .ends) new (e .first) (e .second)) (set (t .lengths) new (e .len))
+    (set (t .volumes) new (e .volume)) (p .labels))
     (done (counts (c .vertices) (more16 new) (p .blocks) (sum32 (c .relabellings) (p .relabellings))) (rings || p .ring))
 
--- the ends and the length of an edge that passed, or the first of refusals 5, 6, 7 and 23 that holds of it
+-- "0 means unknown in the register"
+abbrev pub storedVolume : Volume → Option ℕ
+storedVolume (known v) = some v
+storedVolume unknown = some 0
+storedVolume outOfRange = none
+
+-- the ends, the length and the volume of an edge that passed, or the first of refusals 5, 6, 7, 31 and 23 that holds of it
 pub data CheckIn : Type 0 where
-  passed : ℕ → ℕ → ℕ → CheckIn
+  passed : ℕ → ℕ → ℕ → ℕ → CheckIn
   failed : ℕ → CheckIn
 
 unfoldable pub checkIn : Counts → Edge → CheckIn
@@ -50,12 +58,13 @@ checkIn c e =
     if not (isLanded (c .vertices) (e .first) && isLanded (c .vertices) (e .second)) then failed 5
     else if eqb (e .first) (e .second) then failed 6
     else if eqb (e .len) 0 || ltb maxLength (e .len) then failed 7
+    else if ltb maxVolume (e .volume) then failed 31
     else if leb maxEdges (c .edges) then failed 23
-    else passed (e .first) (e .second) (e .len)
+    else passed (e .first) (e .second) (e .len) (e .volume)
 
 -- what landing comes to, once the edge was checked; a refused edge leaves the tables
 abbrev pub landChecked : Tables → Counts → Bool → Edge → CheckIn → LandingIn
-landChecked t c rings e (passed a b n) = insertIn t c rings (record { first = a; second = b; len = n })
+landChecked t c rings e (passed a b n v) = insertIn t c rings (record { first = a; second = b; len = n; volume = v })
 landChecked t c rings e (failed x) = landingIn t (refusedIn x)
 
 unfoldable pub landIn : Tables → Counts → Bool → Edge → LandingIn

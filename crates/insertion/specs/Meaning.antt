@@ -1,5 +1,7 @@
 -- Document 01's values of the enums of this crate.
 use Rattle.model.specs.Cases as C
+use Prim.Native.Nat.{ℕ}
+use mathlib.Core.Option.{Option, none, some}
 use Rattle.counters.specs.Refusals.{numberOf}
 use Rattle.counters.specs.Answers.{asCounts}
 use Rattle.insertion.specs.Insertion.{AnswerIn, done, refusedIn, CheckIn, passed, failed}
@@ -11,6 +13,8 @@ use Rattle.insertion.specs.declared.edges.Inserted.{Inserted}
 use Rattle.insertion.specs.declared.edges.Inserted.the-variants as inserted
 use Rattle.insertion.specs.declared.edges.Checked.{Checked}
 use Rattle.insertion.specs.declared.edges.Checked.the-variants as checked
+use Rattle.insertion.specs.declared.edges.CheckedVolume.{CheckedVolume}
+use Rattle.insertion.specs.declared.edges.CheckedVolume.the-variants as volume
 
 abbrev pub asClass : Class → C.Class
 asClass Isolated = C.isolated
@@ -41,5 +45,9 @@ asAnswer (inserted.Done c rings) = done (asCounts c) rings
 asAnswer (inserted.Refused x) = refusedIn (numberOf x)
 
 abbrev pub asChecked : Checked → CheckIn
-asChecked (checked.Passed a b l) = passed (a .0) (b .0) (l .0)
+asChecked (checked.Passed a b l v) = passed (a .0) (b .0) (l .0) (v .0)
 asChecked (checked.Refused x) = failed (numberOf x)
+
+abbrev pub asVolume : CheckedVolume → Option ℕ
+asVolume (volume.Is v) = some (v .0)
+asVolume volume.OutOfRange = none

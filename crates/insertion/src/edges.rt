@@ -3,9 +3,11 @@ use crate::cases::case_of;
 use crate::cases::class_of;
 use crate::placing::place_edge;
 use counters::counts::Counts;
+use counters::numbers::CheckedMillilitres;
 use counters::numbers::CheckedMillimetres;
 use counters::numbers::CheckedVertex;
 use counters::numbers::Edge;
+use counters::numbers::Millilitres;
 use counters::numbers::Millimetres;
 use counters::numbers::Vertex;
 use counters::refusals::Refusal;
@@ -15,13 +17,15 @@ use tables::access::one_more16;
 use tables::kinds::degree_of;
 use tables::kinds::put_ends;
 use tables::kinds::put_length;
+use tables::kinds::put_volume;
 ghost use mathlib.Core.Path.{_≡_};
 ghost use lib.ListN.{set};
 ghost use Rattle.counters.specs.Answers.{asCounts};
+ghost use Rattle.counters.specs.Numbers.{volumeOf};
 ghost use Rattle.tables.specs.Meaning.{tables};
 ghost use Rattle.tables.specs.Steps.{setPair};
-ghost use Rattle.insertion.specs.Insertion.{landingIn, insertIn, checkIn, landIn};
-ghost use Rattle.insertion.specs.Meaning.{asAnswer, asChecked};
+ghost use Rattle.insertion.specs.Insertion.{landingIn, insertIn, storedVolume, checkIn, landIn};
+ghost use Rattle.insertion.specs.Meaning.{asAnswer, asChecked, asVolume};
 
 // The counts after the edge (document 01: the head) and whether a ring may stand then; or the edge's refusal.
 pub enum Inserted {
@@ -29,15 +33,32 @@ pub enum Inserted {
     Refused(Refusal),
 }
 
-// The first of refusals 5, 6, 7 and 23 that holds of an edge (document 01: pipe), or its ends and its length where none does.
+// A volume as the register has it, if it is within its bounds.
+pub enum CheckedVolume {
+    Is(Millilitres),
+    OutOfRange,
+}
+
+// "0 means unknown in the register".
+fn check_volume(volume: u32) -> CheckedVolume
+    ensures { λ r. ⌜ asVolume r ≡ storedVolume (volumeOf volume) ⌝ }
+{
+    match Millilitres::new(volume) {
+        CheckedMillilitres::Known(known) => CheckedVolume::Is(known),
+        CheckedMillilitres::Unknown => CheckedVolume::Is(Millilitres(Millilitres::UNKNOWN)),
+        CheckedMillilitres::OutOfRange => CheckedVolume::OutOfRange,
+    }
+}
+
+// The first of refusals 5, 6, 7, 31 and 23 that holds of an edge (document 01: pipe), or its ends, length and volume where none does.
 pub enum Checked {
-    Passed(Vertex, Vertex, Millimetres),
+    Passed(Vertex, Vertex, Millimetres, Millilitres),
     Refused(Refusal),
 }
 
-// Document 01's order. These refusals look at no table. What a record says is a plain number until it is tested here.
-fn check_edge(counts: Counts, first: u16, second: u16, length: u32) -> Checked
-    ensures { λ r. ⌜ asChecked r ≡ checkIn (asCounts counts) (record { first = first; second = second; len = length }) ⌝ }
+// Document 01's order, with 31 just after 7. These refusals look at no table. What a record says is a plain number until it is tested here.
+fn check_edge(counts: Counts, first: u16, second: u16, length: u32, volume: u32) -> Checked
+    ensures { λ r. ⌜ asChecked r ≡ checkIn (asCounts counts) (record { first = first; second = second; len = length; volume = volume }) ⌝ }
 {
     let CheckedVertex::Is(a) = Vertex::landed(first, counts.vertices) else {
         return Checked::Refused(Refusal::NotLanded);
@@ -51,26 +72,33 @@ fn check_edge(counts: Counts, first: u16, second: u16, length: u32) -> Checked
     let CheckedMillimetres::Is(millimetres) = Millimetres::new(length) else {
         return Checked::Refused(Refusal::Length);
     };
+    let CheckedVolume::Is(millilitres) = check_volume(volume) else {
+        return Checked::Refused(Refusal::Volume);
+    };
     if MAX_EDGES <= counts.edges {
         return Checked::Refused(Refusal::TooManyEdges);
     }
-    Checked::Passed(a, b, millimetres)
+    Checked::Passed(a, b, millimetres, millilitres)
 }
 
 // Edge e is written down, and nothing that another edge wrote is touched.
 fn record_edge(
     ends: &mut [u16],
     lengths: &mut [u32],
+    volumes: &mut [u32],
     e: Edge,
     a: Vertex,
     b: Vertex,
     length: Millimetres,
+    volume: Millilitres,
 )
     ensures { λ _. ⌜ (now (ends .exit) ≡ setPair (now (ends .entry)) (e .0) (a .0) (b .0))
-        × (now (lengths .exit) ≡ set (now (lengths .entry)) (e .0) (length .0)) ⌝ }
+        × (now (lengths .exit) ≡ set (now (lengths .entry)) (e .0) (length .0))
+        × (now (volumes .exit) ≡ set (now (volumes .entry)) (e .0) (volume .0)) ⌝ }
 {
     put_ends(ends, e, a, b);
     put_length(lengths, e, length);
+    put_volume(volumes, e, volume);
 }
 
 // An edge that no refusal of `check_edge` holds of. Whether a ring may stand is carried along: a ring comes by a closing alone, so that
@@ -80,18 +108,20 @@ fn insert_edge(
     sides: &mut [u16],
     ends: &mut [u16],
     lengths: &mut [u32],
+    volumes: &mut [u32],
     labels: &mut [u32],
     counts: Counts,
     first: Vertex,
     second: Vertex,
     length: Millimetres,
+    volume: Millilitres,
     rings: bool,
 ) -> Inserted
     ensures { λ r. ⌜ landingIn
-        (tables (now (degrees .exit)) (now (sides .exit)) (now (ends .exit)) (now (lengths .exit)) (now (labels .exit))) (asAnswer r)
+        (tables (now (degrees .exit)) (now (sides .exit)) (now (ends .exit)) (now (lengths .exit)) (now (volumes .exit)) (now (labels .exit))) (asAnswer r)
         ≡ insertIn
-        (tables (now (degrees .entry)) (now (sides .entry)) (now (ends .entry)) (now (lengths .entry)) (now (labels .entry)))
-        (asCounts counts) rings (record { first = first .0; second = second .0; len = length .0 }) ⌝ }
+        (tables (now (degrees .entry)) (now (sides .entry)) (now (ends .entry)) (now (lengths .entry)) (now (volumes .entry)) (now (labels .entry)))
+        (asCounts counts) rings (record { first = first .0; second = second .0; len = length .0; volume = volume .0 }) ⌝ }
 {
     // below MAX_EDGES: 23 was tested
     let e = Edge(counts.edges);
@@ -111,7 +141,7 @@ fn insert_edge(
         e,
         rings,
     );
-    record_edge(ends, lengths, e, first, second, length);
+    record_edge(ends, lengths, volumes, e, first, second, length, volume);
     let after = Counts {
         vertices: counts.vertices,
         edges: one_more16(counts.edges),
@@ -128,31 +158,35 @@ pub fn land_edge(
     sides: &mut [u16],
     ends: &mut [u16],
     lengths: &mut [u32],
+    volumes: &mut [u32],
     labels: &mut [u32],
     counts: Counts,
     first: u16,
     second: u16,
     length: u32,
+    volume: u32,
     rings: bool,
 ) -> Inserted
     ensures { λ r. ⌜ landingIn
-        (tables (now (degrees .exit)) (now (sides .exit)) (now (ends .exit)) (now (lengths .exit)) (now (labels .exit))) (asAnswer r)
+        (tables (now (degrees .exit)) (now (sides .exit)) (now (ends .exit)) (now (lengths .exit)) (now (volumes .exit)) (now (labels .exit))) (asAnswer r)
         ≡ landIn
-        (tables (now (degrees .entry)) (now (sides .entry)) (now (ends .entry)) (now (lengths .entry)) (now (labels .entry)))
-        (asCounts counts) rings (record { first = first; second = second; len = length }) ⌝ }
+        (tables (now (degrees .entry)) (now (sides .entry)) (now (ends .entry)) (now (lengths .entry)) (now (volumes .entry)) (now (labels .entry)))
+        (asCounts counts) rings (record { first = first; second = second; len = length; volume = volume }) ⌝ }
 {
-    let checked = check_edge(counts, first, second, length);
+    let checked = check_edge(counts, first, second, length, volume);
     match checked {
-        Checked::Passed(a, b, millimetres) => insert_edge(
+        Checked::Passed(a, b, millimetres, millilitres) => insert_edge(
             degrees,
             sides,
             ends,
             lengths,
+            volumes,
             labels,
             counts,
             a,
             b,
             millimetres,
+            millilitres,
             rings,
         ),
         Checked::Refused(refusal) => Inserted::Refused(refusal),

@@ -1,4 +1,4 @@
-// One record of a list into the five lent tables.
+// One record of a list into the six lent tables.
 // vertices: a vertex, which changes the counts alone; edges: an edge, its refusals, and what is written down; cases: which of document
 // 01's cases it is; placing: case by case.
 pub mod cases;

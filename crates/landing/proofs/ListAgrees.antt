@@ -12,10 +12,10 @@ use borrow.Author.Tests.{leb-false}
 use Rattle.model.specs.Basics.{if_then_else_, maxVertices, upTo}
 use Rattle.model.specs.Graph.{Edge}
 use Rattle.model.specs.Register.{Landed, Register, landEdge, landVertex, landed, refused, withVertex}
-use Rattle.model.specs.Format.{Read, Record, bad, edge, firstRecord, headerRefusal, landList, landRecords, u16At, u32At, vertex}
+use Rattle.model.specs.Format.{Read, Record, bad, edge, edgeBody, firstRecord, headerRefusal, landList, landRecords, u16At, u32At, versionOf, vertex, volumeIn}
 use Rattle.model.specs.Tables.{countsOf, highSide, lowSide, sidesOf, tablesOf}
 use Rattle.model.specs.Notions.{Reachable, with-edge, with-vertex}
-use Rattle.list.specs.Reading.{badRecord, edgeTo, ends, headerAt, recordAt, recordOf, vertexTo}
+use Rattle.list.specs.Reading.{Place, badRecord, edgeTo, ends, headerAt, place, recordAt, recordOf, vertexTo}
 use Rattle.tables.proofs.Sums.{more16-is}
 use Rattle.agreement.proofs.Standing.{Warns, warns-edge, warns-first, warns-vertex}
 use Rattle.insertion.specs.Insertion.{landVertexIn}
@@ -53,84 +53,95 @@ vertex-agrees r rings = go (leb maxVertices (r .vertices)) refl
 vertex-answer : (r : Register) (rings : Bool) (l : Landed) → landVertex r ≡ l → landVertexIn (countsOf r) rings ≡ (shownIn r rings l) .answer
 vertex-answer r rings l e = vertex-agrees r rings ∙ ap (λ (m : Landed). (shownIn r rings m) .answer) e
 
--- ---- which record stands at an index, and where the bytes behind it begin
+-- ---- which record stands at a place, and where the bytes behind it begin
 
-abbrev Behind : List ℕ → Record → Type 0
-Behind bytes (vertex rest) = bytes ≡ rest
-Behind bytes (edge e rest) = drop 8 bytes ≡ rest
-Behind bytes (bad x) = Unit {0}
+abbrev Behind : ℕ → List ℕ → Record → Type 0
+Behind version bytes (vertex rest) = bytes ≡ rest
+Behind version bytes (edge e rest) = drop (edgeBody version) bytes ≡ rest
+Behind version bytes (bad x) = Unit {0}
 
-behind : (kind : ℕ) (bytes : List ℕ) → Behind bytes (firstRecord kind bytes)
+behind : (version kind : ℕ) (bytes : List ℕ) → Behind version bytes (firstRecord version kind bytes)
 unfolding firstRecord
-behind kind bytes = go (eqb kind 0x46) (not (eqb kind 0x50)) (ltb (length bytes) 8)
+behind version kind bytes = go (eqb kind 0x46) (not (eqb kind 0x50)) (ltb (length bytes) (edgeBody version))
   where
     e : Edge
-    e = record { first = u16At bytes 0; second = u16At bytes 2; len = u32At bytes 4 }
+    e = record { first = u16At bytes 0; second = u16At bytes 2; len = u32At bytes 4; volume = volumeIn version bytes }
 
-    go : (a b c : Bool) → Behind bytes (if a then vertex bytes else if b then bad 4 else if c then bad 3 else edge e (drop 8 bytes))
+    go : (a b c : Bool) → Behind version bytes (if a then vertex bytes else if b then bad 4 else if c then bad 3 else edge e (drop (edgeBody version) bytes))
     go true b c = refl
     go false true c = tt
     go false false true = tt
     go false false false = refl
 
-module _ (bs : List ℕ) (i : ℕ) where
-  at-end : drop i bs ≡ [] → recordAt bs i ≡ ends
+-- the places behind a vertex, and behind an edge
+abbrev pastVertex : Place → Place
+pastVertex o = place (o .at + 1) (o .version)
+
+abbrev pastEdge : Place → Place
+pastEdge o = place (o .at + 1 + edgeBody (o .version)) (o .version)
+
+module _ (bs : List ℕ) (o : Place) where
+  at-end : drop (o .at) bs ≡ [] → recordAt bs o ≡ ends
   unfolding recordAt recordOf
   at-end p = rw p
 
-  module _ (kind : ℕ) (bytes : List ℕ) (p : drop i bs ≡ kind ∷ bytes) where
-    at-vertex : (rest : List ℕ) → firstRecord kind bytes ≡ vertex rest → (recordAt bs i ≡ vertexTo (i + 1)) × (drop (i + 1) bs ≡ rest)
+  module _ (kind : ℕ) (bytes : List ℕ) (p : drop (o .at) bs ≡ kind ∷ bytes) where
+    at-vertex : (rest : List ℕ) → firstRecord (o .version) kind bytes ≡ vertex rest → (recordAt bs o ≡ vertexTo (pastVertex o)) × (drop (o .at + 1) bs ≡ rest)
     unfolding recordAt recordOf
-    at-vertex rest q = (rw (p, q, recordOf), sym (drop-drop 1 i bs) ∙ rw p (rw q at (behind kind bytes)))
+    at-vertex rest q = (rw (p, q, recordOf), sym (drop-drop 1 (o .at) bs) ∙ rw p (rw q at (behind (o .version) kind bytes)))
 
-    at-edge : (e : Edge) (rest : List ℕ) → firstRecord kind bytes ≡ edge e rest → (recordAt bs i ≡ edgeTo e (i + 9)) × (drop (i + 9) bs ≡ rest)
+    at-edge : (e : Edge) (rest : List ℕ) → firstRecord (o .version) kind bytes ≡ edge e rest
+        → (recordAt bs o ≡ edgeTo e (pastEdge o)) × (drop (o .at + 1 + edgeBody (o .version)) bs ≡ rest)
     unfolding recordAt recordOf
-    at-edge e rest q = (rw (p, q, recordOf), sym (drop-drop 9 i bs) ∙ rw p (rw q at (behind kind bytes)))
+    at-edge e rest q =
+        let n = edgeBody (o .version) in
+        let one : drop (o .at + 1) bs ≡ bytes = sym (drop-drop 1 (o .at) bs) ∙ rw p in
+        (rw (p, q, recordOf), sym (drop-drop n (o .at + 1) bs) ∙ rw one (rw q at (behind (o .version) kind bytes)))
 
-    at-bad : (x : ℕ) → firstRecord kind bytes ≡ bad x → recordAt bs i ≡ badRecord x
+    at-bad : (x : ℕ) → firstRecord (o .version) kind bytes ≡ bad x → recordAt bs o ≡ badRecord x
     unfolding recordAt recordOf
     at-bad x q = rw (p, q, recordOf)
 
 -- ---- records, and the list
 
-records-agree : (bs : List ℕ) (n k : ℕ) (r : Register) (rings : Bool) (i : ℕ) → Reachable r → Warns rings (r .edges)
-    → landRecordsIn bs n k (tablesOf r) (countsOf r) rings i ≡ shownRead (landRecords n k r (drop i bs))
+records-agree : (bs : List ℕ) (n k : ℕ) (r : Register) (rings : Bool) (o : Place) → Reachable r → Warns rings (r .edges)
+    → landRecordsIn bs n k (tablesOf r) (countsOf r) rings o ≡ shownRead (landRecords (o .version) n k r (drop (o .at) bs))
 unfolding landRecordsIn landRecordIn landRecords shownIn
-records-agree bs zero k r rings i g w = refl
-records-agree bs (suc n) k r rings i g w = go (drop i bs) refl (λ r′ rings′ j g′ w′. records-agree bs n (k + 1) r′ rings′ j g′ w′)
+records-agree bs zero k r rings o g w = refl
+records-agree bs (suc n) k r rings o g w = go (drop (o .at) bs) refl (λ r′ rings′ j g′ w′. records-agree bs n (k + 1) r′ rings′ j g′ w′)
   where
     Goal : Type 0
-    Goal = landRecordsIn bs (suc n) k (tablesOf r) (countsOf r) rings i ≡ shownRead (landRecords (suc n) k r (drop i bs))
+    Goal = landRecordsIn bs (suc n) k (tablesOf r) (countsOf r) rings o ≡ shownRead (landRecords (o .version) (suc n) k r (drop (o .at) bs))
 
     Rest : Type 0
-    Rest = (r′ : Register) (rings′ : Bool) (j : ℕ) → Reachable r′ → Warns rings′ (r′ .edges) → landRecordsIn bs n (k + 1) (tablesOf r′) (countsOf r′) rings′ j ≡ shownRead (landRecords n (k + 1) r′ (drop j bs))
+    Rest = (r′ : Register) (rings′ : Bool) (j : Place) → Reachable r′ → Warns rings′ (r′ .edges) → landRecordsIn bs n (k + 1) (tablesOf r′) (countsOf r′) rings′ j ≡ shownRead (landRecords (j .version) n (k + 1) r′ (drop (j .at) bs))
 
-    on-vertex : (kind : ℕ) (bytes rest : List ℕ) → drop i bs ≡ kind ∷ bytes → firstRecord kind bytes ≡ vertex rest → (l : Landed) → landVertex r ≡ l → Rest → Goal
+    on-vertex : (kind : ℕ) (bytes rest : List ℕ) → drop (o .at) bs ≡ kind ∷ bytes → firstRecord (o .version) kind bytes ≡ vertex rest → (l : Landed) → landVertex r ≡ l → Rest → Goal
     on-vertex kind bytes rest p q (landed r′) f ih =
-        let s = at-vertex bs i kind bytes p rest q in
-        rw (s .0, vertex-answer r rings (landed r′) f, landRecordsIn, s .0, p, q, f, landRecords, ← vertex-tables r r′ f, ← s .1) (ih r′ _ (i + 1) (with-vertex g f) (warns-vertex r r′ rings f w))
+        let s = at-vertex bs o kind bytes p rest q in
+        rw (s .0, vertex-answer r rings (landed r′) f, landRecordsIn, s .0, p, q, f, landRecords, ← vertex-tables r r′ f, ← s .1) (ih r′ _ (pastVertex o) (with-vertex g f) (warns-vertex r r′ rings f w))
     on-vertex kind bytes rest p q (refused x) f ih =
-        let s = at-vertex bs i kind bytes p rest q in
+        let s = at-vertex bs o kind bytes p rest q in
         rw (s .0, vertex-answer r rings (refused x) f, landRecordsIn, s .0, p, q, f, landRecords)
 
-    on-edge : (kind : ℕ) (bytes : List ℕ) (e : Edge) (rest : List ℕ) → drop i bs ≡ kind ∷ bytes → firstRecord kind bytes ≡ edge e rest → (l : Landed) → landEdge r e ≡ l → Rest → Goal
+    on-edge : (kind : ℕ) (bytes : List ℕ) (e : Edge) (rest : List ℕ) → drop (o .at) bs ≡ kind ∷ bytes → firstRecord (o .version) kind bytes ≡ edge e rest → (l : Landed) → landEdge r e ≡ l → Rest → Goal
     on-edge kind bytes e rest p q (landed r′) f ih =
-        let s = at-edge bs i kind bytes p e rest q in
+        let s = at-edge bs o kind bytes p e rest q in
         let a = edge-parts r e rings g w (landed r′) f in
-        rw (s .0, a .0, landRecordsIn, s .0, a .1, p, q, f, landRecords, ← s .1) (ih r′ _ (i + 9) (with-edge e g f) (warns-edge r e r′ rings g f w))
+        rw (s .0, a .0, landRecordsIn, s .0, a .1, p, q, f, landRecords, ← s .1) (ih r′ _ (pastEdge o) (with-edge e g f) (warns-edge r e r′ rings g f w))
     on-edge kind bytes e rest p q (refused x) f ih =
-        let s = at-edge bs i kind bytes p e rest q in
+        let s = at-edge bs o kind bytes p e rest q in
         let a = edge-parts r e rings g w (refused x) f in
         rw (s .0, a .0, landRecordsIn, s .0, a .1, p, q, f, landRecords)
 
-    on-record : (kind : ℕ) (bytes : List ℕ) → drop i bs ≡ kind ∷ bytes → (d : Record) → firstRecord kind bytes ≡ d → Rest → Goal
+    on-record : (kind : ℕ) (bytes : List ℕ) → drop (o .at) bs ≡ kind ∷ bytes → (d : Record) → firstRecord (o .version) kind bytes ≡ d → Rest → Goal
     on-record kind bytes p (vertex rest) q ih = on-vertex kind bytes rest p q (landVertex r) refl ih
     on-record kind bytes p (edge e rest) q ih = on-edge kind bytes e rest p q (landEdge r e) refl ih
-    on-record kind bytes p (bad x) q ih = rw (at-bad bs i kind bytes p x q, landRecordsIn, at-bad bs i kind bytes p x q, p, q, landRecords)
+    on-record kind bytes p (bad x) q ih = rw (at-bad bs o kind bytes p x q, landRecordsIn, at-bad bs o kind bytes p x q, p, q, landRecords)
 
-    go : (l : List ℕ) → drop i bs ≡ l → Rest → Goal
-    go [] p ih = rw (at-end bs i p, landRecordsIn, at-end bs i p, p, landRecords)
-    go (kind ∷ bytes) p ih = on-record kind bytes p (firstRecord kind bytes) refl ih
+    go : (l : List ℕ) → drop (o .at) bs ≡ l → Rest → Goal
+    go [] p ih = rw (at-end bs o p, landRecordsIn, at-end bs o p, p, landRecords)
+    go (kind ∷ bytes) p ih = on-record kind bytes p (firstRecord (o .version) kind bytes) refl ih
 
 first-warns : (r : Register) → Warns (ltb 0 ((countsOf r) .edges)) (r .edges)
 unfolding countsOf
@@ -142,4 +153,4 @@ list-agrees r bs g = go (headerRefusal bs) refl
   where
     go : (o : Option ℕ) → headerRefusal bs ≡ o → landListIn (tablesOf r) (countsOf r) bs ≡ shownRead (landList r bs)
     go (some x) e = rw (e, landListIn, landList)
-    go none e = rw (e, landListIn, landList) (records-agree bs (length bs) 0 r (ltb 0 ((countsOf r) .edges)) 5 g (first-warns r))
+    go none e = rw (e, landListIn, landList) (records-agree bs (length bs) 0 r (ltb 0 ((countsOf r) .edges)) (place 5 (versionOf bs)) g (first-warns r))

@@ -12,7 +12,7 @@ use Rattle.model.specs.Format.{whole, stopped}
 use Rattle.model.specs.Tables.{Tables, Counts}
 use Rattle.counters.specs.Answers.{counts}
 use Rattle.insertion.specs.Insertion.{AnswerIn, done, refusedIn, landingIn, landIn, landVertexIn}
-use Rattle.list.specs.Reading.{good, badHeader, RecordAt, ends, vertexTo, edgeTo, badRecord, headerAt, recordAt}
+use Rattle.list.specs.Reading.{Place, good, badHeader, RecordAt, ends, vertexTo, edgeTo, badRecord, headerAt, recordAt}
 use Rattle.landing.specs.Records.{StepIn, ended, wentOn, stoppedIn, SteppedIn, steppedIn, stepOf, landRecordIn, ReadingIn, readingIn, landRecordsIn, landListIn}
 
 -- ---- one record
@@ -22,15 +22,15 @@ module _ (t : Tables) (c : Counts) (rings : Bool) (d : RecordAt) where
   unfolding landRecordIn
   record-ends e = rw (← e)
 
-  pub record-vertex : (i : ℕ) (a : AnswerIn) (s : StepIn) → vertexTo i ≡ d → a ≡ landVertexIn c rings → s ≡ stepOf i a
+  pub record-vertex : (p : Place) (a : AnswerIn) (s : StepIn) → vertexTo p ≡ d → a ≡ landVertexIn c rings → s ≡ stepOf p a
       → steppedIn t s ≡ landRecordIn t c rings d
   unfolding landRecordIn
-  record-vertex i a s e f g = rw (← e, ← f, g)
+  record-vertex p a s e f g = rw (← e, ← f, g)
 
-  pub record-edge : (t′ : Tables) (e : Edge) (i : ℕ) (a : AnswerIn) (s : StepIn) → edgeTo e i ≡ d
-      → landingIn t′ a ≡ landIn t c rings e → s ≡ stepOf i a → steppedIn t′ s ≡ landRecordIn t c rings d
+  pub record-edge : (t′ : Tables) (e : Edge) (p : Place) (a : AnswerIn) (s : StepIn) → edgeTo e p ≡ d
+      → landingIn t′ a ≡ landIn t c rings e → s ≡ stepOf p a → steppedIn t′ s ≡ landRecordIn t c rings d
   unfolding landRecordIn
-  record-edge t′ e i a s p q g = rw (← p, ← q, g)
+  record-edge t′ e p a s o q g = rw (← o, ← q, g)
 
   pub record-bad : (x : ℕ) → badRecord x ≡ d → steppedIn t (stoppedIn x) ≡ landRecordIn t c rings d
   unfolding landRecordIn
@@ -45,36 +45,36 @@ steps-are : {x y : SteppedIn} → x ≡ y → x .step ≡ y .step
 steps-are e = ap (λ (s : SteppedIn). s .step) e
 
 module _ (bs : List ℕ) where
-  pub records-none : (n k : ℕ) (t : Tables) (c : Counts) (rings : Bool) (i : ℕ) → n ≤ 0 → readingIn t c whole ≡ landRecordsIn bs n k t c rings i
+  pub records-none : (n k : ℕ) (t : Tables) (c : Counts) (rings : Bool) (p : Place) → n ≤ 0 → readingIn t c whole ≡ landRecordsIn bs n k t c rings p
   unfolding landRecordsIn
-  records-none zero k t c rings i h = refl
-  records-none (suc n) k t c rings i h = absurd (not-suc-le-zero h)
+  records-none zero k t c rings p h = refl
+  records-none (suc n) k t c rings p h = absurd (not-suc-le-zero h)
 
-  pub records-end : (n k : ℕ) (t t′ : Tables) (c : Counts) (rings : Bool) (i : ℕ) → 0 < n → steppedIn t′ ended ≡ landRecordIn t c rings (recordAt bs i)
-      → readingIn t′ c whole ≡ landRecordsIn bs n k t c rings i
+  pub records-end : (n k : ℕ) (t t′ : Tables) (c : Counts) (rings : Bool) (p : Place) → 0 < n → steppedIn t′ ended ≡ landRecordIn t c rings (recordAt bs p)
+      → readingIn t′ c whole ≡ landRecordsIn bs n k t c rings p
   unfolding landRecordsIn
-  records-end zero k t t′ c rings i h e = absurd (not-suc-le-zero h)
-  records-end (suc n) k t t′ c rings i h e = rw (← steps-are e, landRecordsIn, ← tables-of e)
+  records-end zero k t t′ c rings p h e = absurd (not-suc-le-zero h)
+  records-end (suc n) k t t′ c rings p h e = rw (← steps-are e, landRecordsIn, ← tables-of e)
 
-  pub records-stop : (n k : ℕ) (t t′ : Tables) (c : Counts) (rings : Bool) (i x : ℕ) → 0 < n
-      → steppedIn t′ (stoppedIn x) ≡ landRecordIn t c rings (recordAt bs i) → readingIn t′ c (stopped k x) ≡ landRecordsIn bs n k t c rings i
+  pub records-stop : (n k : ℕ) (t t′ : Tables) (c : Counts) (rings : Bool) (p : Place) (x : ℕ) → 0 < n
+      → steppedIn t′ (stoppedIn x) ≡ landRecordIn t c rings (recordAt bs p) → readingIn t′ c (stopped k x) ≡ landRecordsIn bs n k t c rings p
   unfolding landRecordsIn
-  records-stop zero k t t′ c rings i x h e = absurd (not-suc-le-zero h)
-  records-stop (suc n) k t t′ c rings i x h e = rw (← steps-are e, landRecordsIn, ← tables-of e)
+  records-stop zero k t t′ c rings p x h e = absurd (not-suc-le-zero h)
+  records-stop (suc n) k t t′ c rings p x h e = rw (← steps-are e, landRecordsIn, ← tables-of e)
 
-  pub records-on : (n k : ℕ) (t t′ : Tables) (c c′ : Counts) (rings rings′ : Bool) (i i′ : ℕ) → 0 < n
-      → steppedIn t′ (wentOn c′ rings′ i′) ≡ landRecordIn t c rings (recordAt bs i)
-      → landRecordsIn bs n k t c rings i ≡ landRecordsIn bs (n - 1) (k + 1) t′ c′ rings′ i′
+  pub records-on : (n k : ℕ) (t t′ : Tables) (c c′ : Counts) (rings rings′ : Bool) (p p′ : Place) → 0 < n
+      → steppedIn t′ (wentOn c′ rings′ p′) ≡ landRecordIn t c rings (recordAt bs p)
+      → landRecordsIn bs n k t c rings p ≡ landRecordsIn bs (n - 1) (k + 1) t′ c′ rings′ p′
   unfolding landRecordsIn
-  records-on zero k t t′ c c′ rings rings′ i i′ h e = absurd (not-suc-le-zero h)
-  records-on (suc n) k t t′ c c′ rings rings′ i i′ h e = rw (← steps-are e, sub-one, landRecordsIn, ← tables-of e)
+  records-on zero k t t′ c c′ rings rings′ p p′ h e = absurd (not-suc-le-zero h)
+  records-on (suc n) k t t′ c c′ rings rings′ p p′ h e = rw (← steps-are e, sub-one, landRecordsIn, ← tables-of e)
 
 -- ---- the header
 
-pub list-records : (t : Tables) (c : Counts) (bs : List ℕ) (i : ℕ) (d : ReadingIn) → good i ≡ headerAt bs
-    → d ≡ landRecordsIn bs (length bs) 0 t c (ltb 0 (c .edges)) i → d ≡ landListIn t c bs
+pub list-records : (t : Tables) (c : Counts) (bs : List ℕ) (p : Place) (d : ReadingIn) → good p ≡ headerAt bs
+    → d ≡ landRecordsIn bs (length bs) 0 t c (ltb 0 (c .edges)) p → d ≡ landListIn t c bs
 unfolding landListIn
-list-records t c bs i d e f = rw (← e, landListIn) f
+list-records t c bs p d e f = rw (← e, landListIn) f
 
 pub list-bad : (t : Tables) (c : Counts) (bs : List ℕ) (x : ℕ) → badHeader x ≡ headerAt bs → readingIn t c (stopped 0 x) ≡ landListIn t c bs
 unfolding landListIn

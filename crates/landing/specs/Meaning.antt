@@ -2,6 +2,7 @@
 use Rattle.model.specs.Tables.{Tables}
 use Rattle.counters.specs.Refusals.{numberOf}
 use Rattle.counters.specs.Answers.{asCounts, asStop}
+use Rattle.list.specs.Reading.{asPlace}
 use Rattle.landing.specs.Records.{StepIn, ended, wentOn, stoppedIn, ReadingIn, readingIn}
 use Rattle.landing.specs.declared.records.Step.{Step}
 use Rattle.landing.specs.declared.records.Step.the-variants.{End, Landed, Refused}
@@ -9,7 +10,7 @@ use Rattle.landing.specs.declared.records.Reading.{Reading}
 
 abbrev pub asStep : Step → StepIn
 asStep End = ended
-asStep (Landed c rings at) = wentOn (asCounts c) rings (at .at)
+asStep (Landed c rings at) = wentOn (asCounts c) rings (asPlace at)
 asStep (Refused x) = stoppedIn (numberOf x)
 
 abbrev pub asReading : Tables → Reading → ReadingIn

@@ -17,7 +17,7 @@ ghost use Rattle.model.specs.Tables.{noCounts};
 ghost use Rattle.counters.specs.Answers.{counts, asCounts, asStop};
 ghost use Rattle.tables.specs.Meaning.{tables};
 ghost use Rattle.insertion.specs.Meaning.{asAnswer};
-ghost use Rattle.list.specs.Reading.{recordAt};
+ghost use Rattle.list.specs.Reading.{asPlace, recordAt};
 ghost use Rattle.landing.specs.Records.{stepOf, steppedIn, landRecordIn, readingIn, landRecordsIn, landListIn};
 ghost use Rattle.landing.specs.Meaning.{asStep, asReading};
 
@@ -36,7 +36,7 @@ pub struct Reading {
 
 // A landed record goes on at the next one, a refused one stops.
 fn step_of(inserted: Inserted, next: Cursor) -> Step
-    ensures { λ r. ⌜ asStep r ≡ stepOf (next .at) (asAnswer inserted) ⌝ }
+    ensures { λ r. ⌜ asStep r ≡ stepOf (asPlace next) (asAnswer inserted) ⌝ }
 {
     match inserted {
         Inserted::Done(counts, rings) => Step::Landed(counts, rings, next),
@@ -49,31 +49,34 @@ fn land_record(
     sides: &mut [u16],
     ends: &mut [u16],
     lengths: &mut [u32],
+    volumes: &mut [u32],
     labels: &mut [u32],
     counts: Counts,
     list: &[u8],
     at: Cursor,
     rings: bool,
 ) -> Step
-    ensures { λ r. ⌜ steppedIn (tables (now (degrees .exit)) (now (sides .exit)) (now (ends .exit)) (now (lengths .exit)) (now (labels .exit))) (asStep r)
-        ≡ landRecordIn (tables (now (degrees .entry)) (now (sides .entry)) (now (ends .entry)) (now (lengths .entry)) (now (labels .entry)))
-        (asCounts counts) rings (recordAt (now (list .entry)) (at .at)) ⌝ }
+    ensures { λ r. ⌜ steppedIn (tables (now (degrees .exit)) (now (sides .exit)) (now (ends .exit)) (now (lengths .exit)) (now (volumes .exit)) (now (labels .exit))) (asStep r)
+        ≡ landRecordIn (tables (now (degrees .entry)) (now (sides .entry)) (now (ends .entry)) (now (lengths .entry)) (now (volumes .entry)) (now (labels .entry)))
+        (asCounts counts) rings (recordAt (now (list .entry)) (asPlace at)) ⌝ }
 {
     let found = record_at(list, at);
     match found {
         Record::End => Step::End,
         Record::Vertex(next) => step_of(land_vertex(counts, rings), next),
-        Record::Edge(first, second, length, next) => {
+        Record::Edge(first, second, length, volume, next) => {
             let inserted = land_edge(
                 degrees,
                 sides,
                 ends,
                 lengths,
+                volumes,
                 labels,
                 counts,
                 first,
                 second,
                 length,
+                volume,
                 rings,
             );
             step_of(inserted, next)
@@ -94,16 +97,17 @@ fn land_records(
     sides: &mut [u16],
     ends: &mut [u16],
     lengths: &mut [u32],
+    volumes: &mut [u32],
     labels: &mut [u32],
     list: &[u8],
     from: Cursor,
 ) -> Stop
-    ensures { λ r. ⌜ readingIn (tables (now (degrees .exit)) (now (sides .exit)) (now (ends .exit)) (now (lengths .exit)) (now (labels .exit)))
+    ensures { λ r. ⌜ readingIn (tables (now (degrees .exit)) (now (sides .exit)) (now (ends .exit)) (now (lengths .exit)) (now (volumes .exit)) (now (labels .exit)))
         (counts (now (vertices .exit)) (now (edges .exit)) (now (blocks .exit)) (now (relabellings .exit))) (asStop r)
         ≡ landRecordsIn (now (list .entry)) (length (now (list .entry))) 0
-        (tables (now (degrees .entry)) (now (sides .entry)) (now (ends .entry)) (now (lengths .entry)) (now (labels .entry)))
+        (tables (now (degrees .entry)) (now (sides .entry)) (now (ends .entry)) (now (lengths .entry)) (now (volumes .entry)) (now (labels .entry)))
         (counts (now (vertices .entry)) (now (edges .entry)) (now (blocks .entry)) (now (relabellings .entry)))
-        (ltb 0 (now (edges .entry))) (from .at) ⌝ }
+        (ltb 0 (now (edges .entry))) (asPlace from) ⌝ }
 {
     let mut at = from;
     let mut rings = 0 < *edges;
@@ -116,7 +120,18 @@ fn land_records(
             blocks: *blocks,
             relabellings: *relabellings,
         };
-        let step = land_record(degrees, sides, ends, lengths, labels, head, list, at, rings);
+        let step = land_record(
+            degrees,
+            sides,
+            ends,
+            lengths,
+            volumes,
+            labels,
+            head,
+            list,
+            at,
+            rings,
+        );
         match step {
             Step::End => {
                 return Stop::Whole;
@@ -149,12 +164,13 @@ pub fn land_list(
     sides: &mut [u16],
     ends: &mut [u16],
     lengths: &mut [u32],
+    volumes: &mut [u32],
     labels: &mut [u32],
     list: &[u8],
 ) -> Stop
-    ensures { λ r. ⌜ readingIn (tables (now (degrees .exit)) (now (sides .exit)) (now (ends .exit)) (now (lengths .exit)) (now (labels .exit)))
+    ensures { λ r. ⌜ readingIn (tables (now (degrees .exit)) (now (sides .exit)) (now (ends .exit)) (now (lengths .exit)) (now (volumes .exit)) (now (labels .exit)))
         (counts (now (vertices .exit)) (now (edges .exit)) (now (blocks .exit)) (now (relabellings .exit))) (asStop r)
-        ≡ landListIn (tables (now (degrees .entry)) (now (sides .entry)) (now (ends .entry)) (now (lengths .entry)) (now (labels .entry)))
+        ≡ landListIn (tables (now (degrees .entry)) (now (sides .entry)) (now (ends .entry)) (now (lengths .entry)) (now (volumes .entry)) (now (labels .entry)))
         (counts (now (vertices .entry)) (now (edges .entry)) (now (blocks .entry)) (now (relabellings .entry))) (now (list .entry)) ⌝ }
 {
     let header = read_header(list);
@@ -168,6 +184,7 @@ pub fn land_list(
             sides,
             ends,
             lengths,
+            volumes,
             labels,
             list,
             from,
@@ -182,11 +199,12 @@ pub fn grow_list(
     sides: &mut [u16],
     ends: &mut [u16],
     lengths: &mut [u32],
+    volumes: &mut [u32],
     labels: &mut [u32],
     list: &[u8],
 ) -> Reading
-    ensures { λ r. ⌜ asReading (tables (now (degrees .exit)) (now (sides .exit)) (now (ends .exit)) (now (lengths .exit)) (now (labels .exit))) r
-        ≡ landListIn (tables (now (degrees .entry)) (now (sides .entry)) (now (ends .entry)) (now (lengths .entry)) (now (labels .entry)))
+    ensures { λ r. ⌜ asReading (tables (now (degrees .exit)) (now (sides .exit)) (now (ends .exit)) (now (lengths .exit)) (now (volumes .exit)) (now (labels .exit))) r
+        ≡ landListIn (tables (now (degrees .entry)) (now (sides .entry)) (now (ends .entry)) (now (lengths .entry)) (now (volumes .entry)) (now (labels .entry)))
         noCounts (now (list .entry)) ⌝ }
 {
     let mut vertices: u16 = 0;
@@ -202,6 +220,7 @@ pub fn grow_list(
         sides,
         ends,
         lengths,
+        volumes,
         labels,
         list,
     );

@@ -1,4 +1,4 @@
--- A thin function: it is lent the counts, by `&mut`, and ten tables, takes the counts apart and calls. Its MIR is walked once, for any last
+-- A thin function: it is lent the counts, by `&mut`, and twelve tables, takes the counts apart and calls. Its MIR is walked once, for any last
 -- parameter and any answer (Single.antt), and for any callee whose contract gives the function's own. `grow` and `land` are two of these.
 -- The counts are taken apart (TakenApart.antt): the callee is lent each of the four numbers where it lies in the caller's copy, for a
 -- lifetime that is made for the call, and they come back at what it says. It is passed the tables and the last parameter as they came.
@@ -42,13 +42,13 @@ use Rattle.lending.proofs.TakenApart.{fields, numbers, counts-of, Kept,
 use Rattle.counters.proofs.counts.Counts as T
 use Rattle.counters.proofs.counts.Counts.Laws as T′
 
--- where local i lies in the context, where s entries stand before the locals: 36 is the number of the last local (`rt mir`)
+-- where local i lies in the context, where s entries stand before the locals: 42 is the number of the last local (`rt mir`)
 abbrev at : ℕ → ℕ → ℕ
-at i s = 2 * (36 - i) + s
+at i s = 2 * (42 - i) + s
 
 -- the widths of the tables
 abbrev widths : List Width
-widths = w16 ∷ w16 ∷ w16 ∷ w32 ∷ w32 ∷ w16 ∷ w16 ∷ w16 ∷ w32 ∷ w32 ∷ []
+widths = w16 ∷ w16 ∷ w16 ∷ w32 ∷ w32 ∷ w32 ∷ w16 ∷ w16 ∷ w16 ∷ w32 ∷ w32 ∷ w32 ∷ []
 
 -- a local of type τ
 abbrev value : Ty → Local
@@ -73,16 +73,16 @@ abbrev again : List Width → List Local
 again [] = []
 again (w ∷ ws) = value (tyRef erased mut (tyInt w)) ∷ table erased w ∷ again ws
 
--- the counts' field j is lent at local 13 + j, and so on for the fields after it
+-- the counts' field j is lent at local 15 + j, and so on for the fields after it
 abbrev points : ℕ → List Width → Body → Body
 points j [] b = b
-points j (w ∷ ws) b = seq (assign (place (13 + j) []) (addrOf (place 1 (deref T′.mir ∷ field j ∷ [])))) (points (suc j) ws b)
+points j (w ∷ ws) b = seq (assign (place (15 + j) []) (addrOf (place 1 (deref T′.mir ∷ field j ∷ [])))) (points (suc j) ws b)
 
--- the table at local j is lent again at local 2 j + 14, and so on for the tables after it
+-- the table at local j is lent again at local 2 j + 16, and so on for the tables after it
 abbrev lends : ℕ → List Width → Body → Body
 lends j [] b = b
-lends j (w ∷ ws) b = seq (assign (place (2 * j + 13) []) (addrOf (place j (field 0 ∷ deref (tyInt w) ∷ []))))
-    (seq (assign (place (2 * j + 14) []) (aggregate (copy (place (2 * j + 13) []) ∷ copy (place j (field 1 ∷ [])) ∷ []))) (lends (suc j) ws b))
+lends j (w ∷ ws) b = seq (assign (place (2 * j + 15) []) (addrOf (place j (field 0 ∷ deref (tyInt w) ∷ []))))
+    (seq (assign (place (2 * j + 16) []) (aggregate (copy (place (2 * j + 15) []) ∷ copy (place j (field 1 ∷ [])) ∷ []))) (lends (suc j) ws b))
 
 -- what a contract ensures that requires nothing, and that contract's clauses
 module _ {M : Type 1} (𝓤 : URA M) (T : Ended) where
@@ -111,19 +111,19 @@ module _ {n : ℕ} (P : Single n) (Q : Single 0) where
 
   -- the function: the counts, the tables of the register and of the scratch, the last parameter
   abbrev pub thin : Ended
-  thin = ended (behind 11 n)
+  thin = ended (behind 13 n)
       (mutRef 0 tt (λ _. T.the-row)
-      ∷ lent-table 1 tt w16 ∷ lent-table 2 tt w16 ∷ lent-table 3 tt w16 ∷ lent-table 4 tt w32 ∷ lent-table 5 tt w32
-      ∷ lent-table 6 tt w16 ∷ lent-table 7 tt w16 ∷ lent-table 8 tt w16 ∷ lent-table 9 tt w32 ∷ lent-table 10 tt w32
-      ∷ slotAt P 11 ∷ []) (plain (λ _. answer))
+      ∷ lent-table 1 tt w16 ∷ lent-table 2 tt w16 ∷ lent-table 3 tt w16 ∷ lent-table 4 tt w32 ∷ lent-table 5 tt w32 ∷ lent-table 6 tt w32
+      ∷ lent-table 7 tt w16 ∷ lent-table 8 tt w16 ∷ lent-table 9 tt w16 ∷ lent-table 10 tt w32 ∷ lent-table 11 tt w32 ∷ lent-table 12 tt w32
+      ∷ slotAt P 13 ∷ []) (plain (λ _. answer))
 
   -- its callee: each of the counts, and the rest
   abbrev pub called : Ended
-  called = ended (behind 14 n)
+  called = ended (behind 16 n)
       (lent-number 0 tt w16 ∷ lent-number 1 tt w16 ∷ lent-number 2 tt w16 ∷ lent-number 3 tt w32
-      ∷ lent-table 4 tt w16 ∷ lent-table 5 tt w16 ∷ lent-table 6 tt w16 ∷ lent-table 7 tt w32 ∷ lent-table 8 tt w32
-      ∷ lent-table 9 tt w16 ∷ lent-table 10 tt w16 ∷ lent-table 11 tt w16 ∷ lent-table 12 tt w32 ∷ lent-table 13 tt w32
-      ∷ slotAt P 14 ∷ []) (plain (λ _. answer))
+      ∷ lent-table 4 tt w16 ∷ lent-table 5 tt w16 ∷ lent-table 6 tt w16 ∷ lent-table 7 tt w32 ∷ lent-table 8 tt w32 ∷ lent-table 9 tt w32
+      ∷ lent-table 10 tt w16 ∷ lent-table 11 tt w16 ∷ lent-table 12 tt w16 ∷ lent-table 13 tt w32 ∷ lent-table 14 tt w32 ∷ lent-table 15 tt w32
+      ∷ slotAt P 16 ∷ []) (plain (λ _. answer))
 
   -- what is had of the parameters at exit
   abbrev stayed : Stays (thin .signature .params) (thin .kept)
@@ -132,12 +132,12 @@ module _ {n : ℕ} (P : Single n) (Q : Single 0) where
   -- its MIR, f being what is called
   abbrev pub function : Name → Fn
   function f = record {
-    lifetimes = behind 11 n;
+    lifetimes = behind 13 n;
     outlives = [];
-    params = 12;
-    locals = value (Q .ty 0) ∷ value (tyRef (named 0) mut (T.the-row .written .ty)) ∷ tables-from 1 widths (value (P .ty 11) ∷ ones fields (again widths));
+    params = 14;
+    locals = value (Q .ty 0) ∷ value (tyRef (named 0) mut (T.the-row .written .ty)) ∷ tables-from 1 widths (value (P .ty 13) ∷ ones fields (again widths));
     body = points 0 fields (lends 2 widths
-        (seq (call f (map (λ i. copy (place i [])) (13 ∷ 14 ∷ 15 ∷ 16 ∷ 18 ∷ 20 ∷ 22 ∷ 24 ∷ 26 ∷ 28 ∷ 30 ∷ 32 ∷ 34 ∷ 36 ∷ 12 ∷ [])) (place 0 [])) return));
+        (seq (call f (map (λ i. copy (place i [])) (15 ∷ 16 ∷ 17 ∷ 18 ∷ 20 ∷ 22 ∷ 24 ∷ 26 ∷ 28 ∷ 30 ∷ 32 ∷ 34 ∷ 36 ∷ 38 ∷ 40 ∷ 42 ∷ 14 ∷ [])) (place 0 [])) return));
   }
 
   -- the contract that the walk cites
@@ -145,14 +145,14 @@ module _ {n : ℕ} (P : Single n) (Q : Single 0) where
   Callee 𝓤 H A D = tripleOf 𝓤 H A (called .signature) (closing 𝓤 H A called (clauses 𝓤 called D))
 
   -- the callee's lifetimes: one for each of the counts, and the rest's
-  abbrev lives : Lfts (behind 11 n) → Keys fields → Lfts (behind 14 n)
+  abbrev lives : Lfts (behind 13 n) → Keys fields → Lfts (behind 16 n)
   lives κs g = (g .0 .0 ∷ [], (g .1 .0 .0 ∷ [], (g .1 .1 .0 .0 ∷ [], (g .1 .1 .1 .0 .0 ∷ [], κs .1))))
 
   -- what the callee is passed: a reference to each of the counts, at its offset in the struct, and the rest as it came
-  abbrev given-args : (κs : Lfts (behind 11 n)) (a : Args (thin .signature) κs) (g : Keys fields) → Args (called .signature) (lives κs g)
+  abbrev given-args : (κs : Lfts (behind 13 n)) (a : Args (thin .signature) κs) (g : Keys fields) → Args (called .signature) (lives κs g)
   given-args κs a g = (lent-at (a .0 .ptr .0) (a .0 .ptr .1 + 0) (g .0 .1) ((numbers (a .0 .now)) .0), (lent-at (a .0 .ptr .0) (a .0 .ptr .1 + 2) (g .1 .0 .1) ((numbers (a .0 .now)) .1 .0), (lent-at (a .0 .ptr .0) (a .0 .ptr .1 + 4) (g .1 .1 .0 .1) ((numbers (a .0 .now)) .1 .1 .0), (lent-at (a .0 .ptr .0) (a .0 .ptr .1 + 8) (g .1 .1 .1 .0 .1) ((numbers (a .0 .now)) .1 .1 .1 .0), a .1))))
 
-  module _ (κs : Lfts (behind 11 n)) (a : Args (thin .signature) κs) (g : Keys fields) where
+  module _ (κs : Lfts (behind 13 n)) (a : Args (thin .signature) κs) (g : Keys fields) where
     -- the last values that the callee says
     abbrev pub Last : Type 0
     Last = Lasts called (lives κs g) (given-args κs a g)
@@ -167,10 +167,10 @@ module _ {n : ℕ} (P : Single n) (Q : Single 0) where
 
   -- the callee's contract gives the function's own, at the counts that it leaves and the answer that it returns
   abbrev pub Gives : {M : Type 1} (𝓤 : URA M) → Ensures 𝓤 called → Ensures 𝓤 thin → Type 1
-  Gives 𝓤 D E = (κs : Lfts (behind 11 n)) (a : Args (thin .signature) κs) (g : Keys fields) (r : Q .Denot) (zs : Last κs a g)
+  Gives 𝓤 D E = (κs : Lfts (behind 13 n)) (a : Args (thin .signature) κs) (g : Keys fields) (r : Q .Denot) (zs : Last κs a g)
       → ent 𝓤 (D (lives κs g) (given-args κs a g) r (atExit called (lives κs g) (given-args κs a g) zs)) (E κs a r (atExit thin κs a (leaves κs a g zs)))
 
-  module _ {M : Type 1} (𝓤 : URA M) (H : Heap 𝓤) (A : Atoms 𝓤) (W : Given 𝓤 H A) (told : Told P) (answers : Told Q) (D : Ensures 𝓤 called) (E : Ensures 𝓤 thin) (κs : Lfts (behind 11 n)) (qs : Shares (behind 11 n)) (bounds : AllOutlive (behind 11 n) (thin .signature .outlives) κs) (a : Args (thin .signature) κs) where
+  module _ {M : Type 1} (𝓤 : URA M) (H : Heap 𝓤) (A : Atoms 𝓤) (W : Given 𝓤 H A) (told : Told P) (answers : Told Q) (D : Ensures 𝓤 called) (E : Ensures 𝓤 thin) (κs : Lfts (behind 13 n)) (qs : Shares (behind 13 n)) (bounds : AllOutlive (behind 13 n) (thin .signature .outlives) κs) (a : Args (thin .signature) κs) where
     -- where the counts lie
     abbrev b : ℕ
     b = a .0 .ptr .0
@@ -180,7 +180,7 @@ module _ {n : ℕ} (P : Single n) (Q : Single 0) where
 
     -- the machine values
     abbrev vals : Vals (thin .signature) κs
-    vals = (vptr b o ∷ [], (slice-vals (a .1 .0), (slice-vals (a .1 .1 .0), (slice-vals (a .1 .1 .1 .0), (slice-vals (a .1 .1 .1 .1 .0), (slice-vals (a .1 .1 .1 .1 .1 .0), (slice-vals (a .1 .1 .1 .1 .1 .1 .0), (slice-vals (a .1 .1 .1 .1 .1 .1 .1 .0), (slice-vals (a .1 .1 .1 .1 .1 .1 .1 .1 .0), (slice-vals (a .1 .1 .1 .1 .1 .1 .1 .1 .1 .0), (slice-vals (a .1 .1 .1 .1 .1 .1 .1 .1 .1 .1 .0), (P .value (a .1 .1 .1 .1 .1 .1 .1 .1 .1 .1 .1 .0) ∷ [], tt))))))))))))
+    vals = (vptr b o ∷ [], (slice-vals (a .1 .0), (slice-vals (a .1 .1 .0), (slice-vals (a .1 .1 .1 .0), (slice-vals (a .1 .1 .1 .1 .0), (slice-vals (a .1 .1 .1 .1 .1 .0), (slice-vals (a .1 .1 .1 .1 .1 .1 .0), (slice-vals (a .1 .1 .1 .1 .1 .1 .1 .0), (slice-vals (a .1 .1 .1 .1 .1 .1 .1 .1 .0), (slice-vals (a .1 .1 .1 .1 .1 .1 .1 .1 .1 .0), (slice-vals (a .1 .1 .1 .1 .1 .1 .1 .1 .1 .1 .0), (slice-vals (a .1 .1 .1 .1 .1 .1 .1 .1 .1 .1 .1 .0), (slice-vals (a .1 .1 .1 .1 .1 .1 .1 .1 .1 .1 .1 .1 .0), (P .value (a .1 .1 .1 .1 .1 .1 .1 .1 .1 .1 .1 .1 .1 .0) ∷ [], tt))))))))))))))
 
     abbrev Post : Val → SProp 𝓤
     Post = walkOf 𝓤 H A thin stayed (clauses 𝓤 thin E) .post ((κs, qs, bounds, a, vals), tt)
@@ -190,7 +190,7 @@ module _ {n : ℕ} (P : Single n) (Q : Single 0) where
     Rest = owns (typesAt (tailOf (thin .signature .params)) κs) (a .1) (vals .1)
 
     abbrev Toks : SProp 𝓤
-    Toks = tokens 𝓤 A (behind 10 n) (κs .1) (qs .1)
+    Toks = tokens 𝓤 A (behind 12 n) (κs .1) (qs .1)
 
     -- the references to the counts, and what the rest owns
     abbrev Refs : Keys fields → Fml
@@ -231,7 +231,7 @@ module _ {n : ℕ} (P : Single n) (Q : Single 0) where
       walk : Are (typesAt (thin .signature .params) κs) (Ises (typesAt (thin .signature .params) κs)) a vals → ent 𝓤 (onEntry 𝓤 H A (thin .signature) κs qs a vals) (WpFn 𝓤 H C Λ (function f) (flat (typesAt (thin .signature .params) κs) vals) Post)
       walk are =
           qed W ((‵ (flft (κs .0) (qs .0)) ⊛ raw Toks) ∷ ‵ (owns (typesAt (thin .signature .params) κs) a vals) ∷ []) ∵ enter ! C Λ (function f) (flat (typesAt (thin .signature .params) κs) vals) _ $
-          alloc1 ! (λ l₀. alloc1 ! (λ l₁. alloc1 ! (λ l₂. alloc1 ! (λ l₃. alloc1 ! (λ l₄. alloc1 ! (λ l₅. alloc1 ! (λ l₆. alloc1 ! (λ l₇. alloc1 ! (λ l₈. alloc1 ! (λ l₉. alloc1 ! (λ l₁₀. alloc1 ! (λ l₁₁. alloc1 ! (λ l₁₂. alloc1 ! (λ l₁₃. alloc1 ! (λ l₁₄. alloc1 ! (λ l₁₅. alloc1 ! (λ l₁₆. alloc1 ! (λ l₁₇. alloc1 ! (λ l₁₈. alloc1 ! (λ l₁₉. alloc1 ! (λ l₂₀. alloc1 ! (λ l₂₁. alloc1 ! (λ l₂₂. alloc1 ! (λ l₂₃. alloc1 ! (λ l₂₄. alloc1 ! (λ l₂₅. alloc1 ! (λ l₂₆. alloc1 ! (λ l₂₇. alloc1 ! (λ l₂₈. alloc1 ! (λ l₂₉. alloc1 ! (λ l₃₀. alloc1 ! (λ l₃₁. alloc1 ! (λ l₃₂. alloc1 ! (λ l₃₃. alloc1 ! (λ l₃₄. alloc1 ! (λ l₃₅. alloc1 ! (λ l₃₆. alloc0 ! $ params1 ! $
+          alloc1 ! (λ l₀. alloc1 ! (λ l₁. alloc1 ! (λ l₂. alloc1 ! (λ l₃. alloc1 ! (λ l₄. alloc1 ! (λ l₅. alloc1 ! (λ l₆. alloc1 ! (λ l₇. alloc1 ! (λ l₈. alloc1 ! (λ l₉. alloc1 ! (λ l₁₀. alloc1 ! (λ l₁₁. alloc1 ! (λ l₁₂. alloc1 ! (λ l₁₃. alloc1 ! (λ l₁₄. alloc1 ! (λ l₁₅. alloc1 ! (λ l₁₆. alloc1 ! (λ l₁₇. alloc1 ! (λ l₁₈. alloc1 ! (λ l₁₉. alloc1 ! (λ l₂₀. alloc1 ! (λ l₂₁. alloc1 ! (λ l₂₂. alloc1 ! (λ l₂₃. alloc1 ! (λ l₂₄. alloc1 ! (λ l₂₅. alloc1 ! (λ l₂₆. alloc1 ! (λ l₂₇. alloc1 ! (λ l₂₈. alloc1 ! (λ l₂₉. alloc1 ! (λ l₃₀. alloc1 ! (λ l₃₁. alloc1 ! (λ l₃₂. alloc1 ! (λ l₃₃. alloc1 ! (λ l₃₄. alloc1 ! (λ l₃₅. alloc1 ! (λ l₃₆. alloc1 ! (λ l₃₇. alloc1 ! (λ l₃₈. alloc1 ! (λ l₃₉. alloc1 ! (λ l₄₀. alloc1 ! (λ l₄₁. alloc1 ! (λ l₄₂. alloc0 ! $ params1 ! $
           pass1 ! (init ! (at 1 0) refl (tt, tt)) $
           pass1 ! (init ! (at 2 0) refl (tt, (tt, (record { fits = are .1 .0 .0 .1 .0 }, tt)))) $
           pass1 ! (init ! (at 3 0) refl (tt, (tt, (record { fits = are .1 .1 .0 .0 .1 .0 }, tt)))) $
@@ -243,39 +243,45 @@ module _ {n : ℕ} (P : Single n) (Q : Single 0) where
           pass1 ! (init ! (at 9 0) refl (tt, (tt, (record { fits = are .1 .1 .1 .1 .1 .1 .1 .1 .0 .0 .1 .0 }, tt)))) $
           pass1 ! (init ! (at 10 0) refl (tt, (tt, (record { fits = are .1 .1 .1 .1 .1 .1 .1 .1 .1 .0 .0 .1 .0 }, tt)))) $
           pass1 ! (init ! (at 11 0) refl (tt, (tt, (record { fits = are .1 .1 .1 .1 .1 .1 .1 .1 .1 .1 .0 .0 .1 .0 }, tt)))) $
-          pass1 ! (init ! (at 12 0) refl (told .typed 11 (lastOf 11 n κs) (a .1 .1 .1 .1 .1 .1 .1 .1 .1 .1 .1 .0) _ (are .1 .1 .1 .1 .1 .1 .1 .1 .1 .1 .1 .0))) $
+          pass1 ! (init ! (at 12 0) refl (tt, (tt, (record { fits = are .1 .1 .1 .1 .1 .1 .1 .1 .1 .1 .1 .0 .0 .1 .0 }, tt)))) $
+          pass1 ! (init ! (at 13 0) refl (tt, (tt, (record { fits = are .1 .1 .1 .1 .1 .1 .1 .1 .1 .1 .1 .1 .0 .0 .1 .0 }, tt)))) $
+          pass1 ! (init ! (at 14 0) refl (told .typed 13 (lastOf 13 n κs) (a .1 .1 .1 .1 .1 .1 .1 .1 .1 .1 .1 .1 .1 .0) _ (are .1 .1 .1 .1 .1 .1 .1 .1 .1 .1 .1 .1 .1 .0))) $
           pass0 ! $
           move ! ((at 0 3) ∷ []) $ fsplit ! $ move ! ((at 0 4) ∷ []) $ split ! $ move ! (2 ∷ 0 ∷ 1 ∷ 3 ∷ []) $
           -- [what the reference to the counts owns; its token; the rest's tokens; what the rest owns; the locals from the last to _0, each with its …]
-          assigns ! (addr ! (from ! (hop ! (look ! (at 1 4) refl) (fld ! refl (stop !))))) (from ! (stop !)) (init ! (at 13 4) refl (tt, tt)) $
-          assigns ! (addr ! (from ! (hop ! (look ! (at 1 4) refl) (fld ! refl (stop !))))) (from ! (stop !)) (init ! (at 14 4) refl (tt, tt)) $
           assigns ! (addr ! (from ! (hop ! (look ! (at 1 4) refl) (fld ! refl (stop !))))) (from ! (stop !)) (init ! (at 15 4) refl (tt, tt)) $
           assigns ! (addr ! (from ! (hop ! (look ! (at 1 4) refl) (fld ! refl (stop !))))) (from ! (stop !)) (init ! (at 16 4) refl (tt, tt)) $
-          assigns ! (addr ! (from ! (fld ! refl (hop ! (look-in ! (at 2 4) (sub ! 0 refl (whole !))) (stop !))))) (from ! (stop !)) (init ! (at 17 4) refl (tt, tt)) $
-          assigns ! (agg ! (and-then ! (load ! (from ! (stop !)) (look ! (at 17 4) refl)) (and-then ! (load ! (from ! (fld ! refl (stop !))) (look-in ! (at 2 4) (sub ! 1 refl (whole !)))) (no-more !)))) (from ! (stop !)) (init ! (at 18 4) refl (tt, (tt, (record { fits = are .1 .0 .0 .1 .0 }, tt)))) $
-          assigns ! (addr ! (from ! (fld ! refl (hop ! (look-in ! (at 3 4) (sub ! 0 refl (whole !))) (stop !))))) (from ! (stop !)) (init ! (at 19 4) refl (tt, tt)) $
-          assigns ! (agg ! (and-then ! (load ! (from ! (stop !)) (look ! (at 19 4) refl)) (and-then ! (load ! (from ! (fld ! refl (stop !))) (look-in ! (at 3 4) (sub ! 1 refl (whole !)))) (no-more !)))) (from ! (stop !)) (init ! (at 20 4) refl (tt, (tt, (record { fits = are .1 .1 .0 .0 .1 .0 }, tt)))) $
-          assigns ! (addr ! (from ! (fld ! refl (hop ! (look-in ! (at 4 4) (sub ! 0 refl (whole !))) (stop !))))) (from ! (stop !)) (init ! (at 21 4) refl (tt, tt)) $
-          assigns ! (agg ! (and-then ! (load ! (from ! (stop !)) (look ! (at 21 4) refl)) (and-then ! (load ! (from ! (fld ! refl (stop !))) (look-in ! (at 4 4) (sub ! 1 refl (whole !)))) (no-more !)))) (from ! (stop !)) (init ! (at 22 4) refl (tt, (tt, (record { fits = are .1 .1 .1 .0 .0 .1 .0 }, tt)))) $
-          assigns ! (addr ! (from ! (fld ! refl (hop ! (look-in ! (at 5 4) (sub ! 0 refl (whole !))) (stop !))))) (from ! (stop !)) (init ! (at 23 4) refl (tt, tt)) $
-          assigns ! (agg ! (and-then ! (load ! (from ! (stop !)) (look ! (at 23 4) refl)) (and-then ! (load ! (from ! (fld ! refl (stop !))) (look-in ! (at 5 4) (sub ! 1 refl (whole !)))) (no-more !)))) (from ! (stop !)) (init ! (at 24 4) refl (tt, (tt, (record { fits = are .1 .1 .1 .1 .0 .0 .1 .0 }, tt)))) $
-          assigns ! (addr ! (from ! (fld ! refl (hop ! (look-in ! (at 6 4) (sub ! 0 refl (whole !))) (stop !))))) (from ! (stop !)) (init ! (at 25 4) refl (tt, tt)) $
-          assigns ! (agg ! (and-then ! (load ! (from ! (stop !)) (look ! (at 25 4) refl)) (and-then ! (load ! (from ! (fld ! refl (stop !))) (look-in ! (at 6 4) (sub ! 1 refl (whole !)))) (no-more !)))) (from ! (stop !)) (init ! (at 26 4) refl (tt, (tt, (record { fits = are .1 .1 .1 .1 .1 .0 .0 .1 .0 }, tt)))) $
-          assigns ! (addr ! (from ! (fld ! refl (hop ! (look-in ! (at 7 4) (sub ! 0 refl (whole !))) (stop !))))) (from ! (stop !)) (init ! (at 27 4) refl (tt, tt)) $
-          assigns ! (agg ! (and-then ! (load ! (from ! (stop !)) (look ! (at 27 4) refl)) (and-then ! (load ! (from ! (fld ! refl (stop !))) (look-in ! (at 7 4) (sub ! 1 refl (whole !)))) (no-more !)))) (from ! (stop !)) (init ! (at 28 4) refl (tt, (tt, (record { fits = are .1 .1 .1 .1 .1 .1 .0 .0 .1 .0 }, tt)))) $
-          assigns ! (addr ! (from ! (fld ! refl (hop ! (look-in ! (at 8 4) (sub ! 0 refl (whole !))) (stop !))))) (from ! (stop !)) (init ! (at 29 4) refl (tt, tt)) $
-          assigns ! (agg ! (and-then ! (load ! (from ! (stop !)) (look ! (at 29 4) refl)) (and-then ! (load ! (from ! (fld ! refl (stop !))) (look-in ! (at 8 4) (sub ! 1 refl (whole !)))) (no-more !)))) (from ! (stop !)) (init ! (at 30 4) refl (tt, (tt, (record { fits = are .1 .1 .1 .1 .1 .1 .1 .0 .0 .1 .0 }, tt)))) $
-          assigns ! (addr ! (from ! (fld ! refl (hop ! (look-in ! (at 9 4) (sub ! 0 refl (whole !))) (stop !))))) (from ! (stop !)) (init ! (at 31 4) refl (tt, tt)) $
-          assigns ! (agg ! (and-then ! (load ! (from ! (stop !)) (look ! (at 31 4) refl)) (and-then ! (load ! (from ! (fld ! refl (stop !))) (look-in ! (at 9 4) (sub ! 1 refl (whole !)))) (no-more !)))) (from ! (stop !)) (init ! (at 32 4) refl (tt, (tt, (record { fits = are .1 .1 .1 .1 .1 .1 .1 .1 .0 .0 .1 .0 }, tt)))) $
-          assigns ! (addr ! (from ! (fld ! refl (hop ! (look-in ! (at 10 4) (sub ! 0 refl (whole !))) (stop !))))) (from ! (stop !)) (init ! (at 33 4) refl (tt, tt)) $
-          assigns ! (agg ! (and-then ! (load ! (from ! (stop !)) (look ! (at 33 4) refl)) (and-then ! (load ! (from ! (fld ! refl (stop !))) (look-in ! (at 10 4) (sub ! 1 refl (whole !)))) (no-more !)))) (from ! (stop !)) (init ! (at 34 4) refl (tt, (tt, (record { fits = are .1 .1 .1 .1 .1 .1 .1 .1 .1 .0 .0 .1 .0 }, tt)))) $
-          assigns ! (addr ! (from ! (fld ! refl (hop ! (look-in ! (at 11 4) (sub ! 0 refl (whole !))) (stop !))))) (from ! (stop !)) (init ! (at 35 4) refl (tt, tt)) $
-          assigns ! (agg ! (and-then ! (load ! (from ! (stop !)) (look ! (at 35 4) refl)) (and-then ! (load ! (from ! (fld ! refl (stop !))) (look-in ! (at 11 4) (sub ! 1 refl (whole !)))) (no-more !)))) (from ! (stop !)) (init ! (at 36 4) refl (tt, (tt, (record { fits = are .1 .1 .1 .1 .1 .1 .1 .1 .1 .1 .0 .0 .1 .0 }, tt)))) $
+          assigns ! (addr ! (from ! (hop ! (look ! (at 1 4) refl) (fld ! refl (stop !))))) (from ! (stop !)) (init ! (at 17 4) refl (tt, tt)) $
+          assigns ! (addr ! (from ! (hop ! (look ! (at 1 4) refl) (fld ! refl (stop !))))) (from ! (stop !)) (init ! (at 18 4) refl (tt, tt)) $
+          assigns ! (addr ! (from ! (fld ! refl (hop ! (look-in ! (at 2 4) (sub ! 0 refl (whole !))) (stop !))))) (from ! (stop !)) (init ! (at 19 4) refl (tt, tt)) $
+          assigns ! (agg ! (and-then ! (load ! (from ! (stop !)) (look ! (at 19 4) refl)) (and-then ! (load ! (from ! (fld ! refl (stop !))) (look-in ! (at 2 4) (sub ! 1 refl (whole !)))) (no-more !)))) (from ! (stop !)) (init ! (at 20 4) refl (tt, (tt, (record { fits = are .1 .0 .0 .1 .0 }, tt)))) $
+          assigns ! (addr ! (from ! (fld ! refl (hop ! (look-in ! (at 3 4) (sub ! 0 refl (whole !))) (stop !))))) (from ! (stop !)) (init ! (at 21 4) refl (tt, tt)) $
+          assigns ! (agg ! (and-then ! (load ! (from ! (stop !)) (look ! (at 21 4) refl)) (and-then ! (load ! (from ! (fld ! refl (stop !))) (look-in ! (at 3 4) (sub ! 1 refl (whole !)))) (no-more !)))) (from ! (stop !)) (init ! (at 22 4) refl (tt, (tt, (record { fits = are .1 .1 .0 .0 .1 .0 }, tt)))) $
+          assigns ! (addr ! (from ! (fld ! refl (hop ! (look-in ! (at 4 4) (sub ! 0 refl (whole !))) (stop !))))) (from ! (stop !)) (init ! (at 23 4) refl (tt, tt)) $
+          assigns ! (agg ! (and-then ! (load ! (from ! (stop !)) (look ! (at 23 4) refl)) (and-then ! (load ! (from ! (fld ! refl (stop !))) (look-in ! (at 4 4) (sub ! 1 refl (whole !)))) (no-more !)))) (from ! (stop !)) (init ! (at 24 4) refl (tt, (tt, (record { fits = are .1 .1 .1 .0 .0 .1 .0 }, tt)))) $
+          assigns ! (addr ! (from ! (fld ! refl (hop ! (look-in ! (at 5 4) (sub ! 0 refl (whole !))) (stop !))))) (from ! (stop !)) (init ! (at 25 4) refl (tt, tt)) $
+          assigns ! (agg ! (and-then ! (load ! (from ! (stop !)) (look ! (at 25 4) refl)) (and-then ! (load ! (from ! (fld ! refl (stop !))) (look-in ! (at 5 4) (sub ! 1 refl (whole !)))) (no-more !)))) (from ! (stop !)) (init ! (at 26 4) refl (tt, (tt, (record { fits = are .1 .1 .1 .1 .0 .0 .1 .0 }, tt)))) $
+          assigns ! (addr ! (from ! (fld ! refl (hop ! (look-in ! (at 6 4) (sub ! 0 refl (whole !))) (stop !))))) (from ! (stop !)) (init ! (at 27 4) refl (tt, tt)) $
+          assigns ! (agg ! (and-then ! (load ! (from ! (stop !)) (look ! (at 27 4) refl)) (and-then ! (load ! (from ! (fld ! refl (stop !))) (look-in ! (at 6 4) (sub ! 1 refl (whole !)))) (no-more !)))) (from ! (stop !)) (init ! (at 28 4) refl (tt, (tt, (record { fits = are .1 .1 .1 .1 .1 .0 .0 .1 .0 }, tt)))) $
+          assigns ! (addr ! (from ! (fld ! refl (hop ! (look-in ! (at 7 4) (sub ! 0 refl (whole !))) (stop !))))) (from ! (stop !)) (init ! (at 29 4) refl (tt, tt)) $
+          assigns ! (agg ! (and-then ! (load ! (from ! (stop !)) (look ! (at 29 4) refl)) (and-then ! (load ! (from ! (fld ! refl (stop !))) (look-in ! (at 7 4) (sub ! 1 refl (whole !)))) (no-more !)))) (from ! (stop !)) (init ! (at 30 4) refl (tt, (tt, (record { fits = are .1 .1 .1 .1 .1 .1 .0 .0 .1 .0 }, tt)))) $
+          assigns ! (addr ! (from ! (fld ! refl (hop ! (look-in ! (at 8 4) (sub ! 0 refl (whole !))) (stop !))))) (from ! (stop !)) (init ! (at 31 4) refl (tt, tt)) $
+          assigns ! (agg ! (and-then ! (load ! (from ! (stop !)) (look ! (at 31 4) refl)) (and-then ! (load ! (from ! (fld ! refl (stop !))) (look-in ! (at 8 4) (sub ! 1 refl (whole !)))) (no-more !)))) (from ! (stop !)) (init ! (at 32 4) refl (tt, (tt, (record { fits = are .1 .1 .1 .1 .1 .1 .1 .0 .0 .1 .0 }, tt)))) $
+          assigns ! (addr ! (from ! (fld ! refl (hop ! (look-in ! (at 9 4) (sub ! 0 refl (whole !))) (stop !))))) (from ! (stop !)) (init ! (at 33 4) refl (tt, tt)) $
+          assigns ! (agg ! (and-then ! (load ! (from ! (stop !)) (look ! (at 33 4) refl)) (and-then ! (load ! (from ! (fld ! refl (stop !))) (look-in ! (at 9 4) (sub ! 1 refl (whole !)))) (no-more !)))) (from ! (stop !)) (init ! (at 34 4) refl (tt, (tt, (record { fits = are .1 .1 .1 .1 .1 .1 .1 .1 .0 .0 .1 .0 }, tt)))) $
+          assigns ! (addr ! (from ! (fld ! refl (hop ! (look-in ! (at 10 4) (sub ! 0 refl (whole !))) (stop !))))) (from ! (stop !)) (init ! (at 35 4) refl (tt, tt)) $
+          assigns ! (agg ! (and-then ! (load ! (from ! (stop !)) (look ! (at 35 4) refl)) (and-then ! (load ! (from ! (fld ! refl (stop !))) (look-in ! (at 10 4) (sub ! 1 refl (whole !)))) (no-more !)))) (from ! (stop !)) (init ! (at 36 4) refl (tt, (tt, (record { fits = are .1 .1 .1 .1 .1 .1 .1 .1 .1 .0 .0 .1 .0 }, tt)))) $
+          assigns ! (addr ! (from ! (fld ! refl (hop ! (look-in ! (at 11 4) (sub ! 0 refl (whole !))) (stop !))))) (from ! (stop !)) (init ! (at 37 4) refl (tt, tt)) $
+          assigns ! (agg ! (and-then ! (load ! (from ! (stop !)) (look ! (at 37 4) refl)) (and-then ! (load ! (from ! (fld ! refl (stop !))) (look-in ! (at 11 4) (sub ! 1 refl (whole !)))) (no-more !)))) (from ! (stop !)) (init ! (at 38 4) refl (tt, (tt, (record { fits = are .1 .1 .1 .1 .1 .1 .1 .1 .1 .1 .0 .0 .1 .0 }, tt)))) $
+          assigns ! (addr ! (from ! (fld ! refl (hop ! (look-in ! (at 12 4) (sub ! 0 refl (whole !))) (stop !))))) (from ! (stop !)) (init ! (at 39 4) refl (tt, tt)) $
+          assigns ! (agg ! (and-then ! (load ! (from ! (stop !)) (look ! (at 39 4) refl)) (and-then ! (load ! (from ! (fld ! refl (stop !))) (look-in ! (at 12 4) (sub ! 1 refl (whole !)))) (no-more !)))) (from ! (stop !)) (init ! (at 40 4) refl (tt, (tt, (record { fits = are .1 .1 .1 .1 .1 .1 .1 .1 .1 .1 .1 .0 .0 .1 .0 }, tt)))) $
+          assigns ! (addr ! (from ! (fld ! refl (hop ! (look-in ! (at 13 4) (sub ! 0 refl (whole !))) (stop !))))) (from ! (stop !)) (init ! (at 41 4) refl (tt, tt)) $
+          assigns ! (agg ! (and-then ! (load ! (from ! (stop !)) (look ! (at 41 4) refl)) (and-then ! (load ! (from ! (fld ! refl (stop !))) (look-in ! (at 13 4) (sub ! 1 refl (whole !)))) (no-more !)))) (from ! (stop !)) (init ! (at 42 4) refl (tt, (tt, (record { fits = are .1 .1 .1 .1 .1 .1 .1 .1 .1 .1 .1 .1 .0 .0 .1 .0 }, tt)))) $
           -- the counts are taken apart
           group ! 4 $ use1 W (later (some (λ (g : Keys fields). (raw (toks 𝓤 H A fields g Toks) ⊛ ‵ (Refs g)) ⊛ raw (Kept 𝓤 H A (a .0) (κs .0) (qs .0) g)))) (taken-apart 𝓤 H A W (a .0) (κs .0) (qs .0) Toks Rest) $ await ! tt $ pick ! (λ g. split ! $
           -- the call
           use1 W (raw (Callee 𝓤 H A D .pre (to g))) (goes g) $
-          calls-at ! fm (Callee 𝓤 H A D) known (to g) (and-then ! (load ! (from ! (stop !)) (look ! (at 13 2) refl)) (and-then ! (load ! (from ! (stop !)) (look ! (at 14 2) refl)) (and-then ! (load ! (from ! (stop !)) (look ! (at 15 2) refl)) (and-then ! (load ! (from ! (stop !)) (look ! (at 16 2) refl)) (and-then ! (load ! (from ! (stop !)) (look ! (at 18 2) refl)) (and-then ! (load ! (from ! (stop !)) (look ! (at 20 2) refl)) (and-then ! (load ! (from ! (stop !)) (look ! (at 22 2) refl)) (and-then ! (load ! (from ! (stop !)) (look ! (at 24 2) refl)) (and-then ! (load ! (from ! (stop !)) (look ! (at 26 2) refl)) (and-then ! (load ! (from ! (stop !)) (look ! (at 28 2) refl)) (and-then ! (load ! (from ! (stop !)) (look ! (at 30 2) refl)) (and-then ! (load ! (from ! (stop !)) (look ! (at 32 2) refl)) (and-then ! (load ! (from ! (stop !)) (look ! (at 34 2) refl)) (and-then ! (load ! (from ! (stop !)) (look ! (at 36 2) refl)) (and-then ! (load ! (from ! (stop !)) (look ! (at 12 2) refl)) (no-more !)))))))))))))))) (λ w.
+          calls-at ! fm (Callee 𝓤 H A D) known (to g) (and-then ! (load ! (from ! (stop !)) (look ! (at 15 2) refl)) (and-then ! (load ! (from ! (stop !)) (look ! (at 16 2) refl)) (and-then ! (load ! (from ! (stop !)) (look ! (at 17 2) refl)) (and-then ! (load ! (from ! (stop !)) (look ! (at 18 2) refl)) (and-then ! (load ! (from ! (stop !)) (look ! (at 20 2) refl)) (and-then ! (load ! (from ! (stop !)) (look ! (at 22 2) refl)) (and-then ! (load ! (from ! (stop !)) (look ! (at 24 2) refl)) (and-then ! (load ! (from ! (stop !)) (look ! (at 26 2) refl)) (and-then ! (load ! (from ! (stop !)) (look ! (at 28 2) refl)) (and-then ! (load ! (from ! (stop !)) (look ! (at 30 2) refl)) (and-then ! (load ! (from ! (stop !)) (look ! (at 32 2) refl)) (and-then ! (load ! (from ! (stop !)) (look ! (at 34 2) refl)) (and-then ! (load ! (from ! (stop !)) (look ! (at 36 2) refl)) (and-then ! (load ! (from ! (stop !)) (look ! (at 38 2) refl)) (and-then ! (load ! (from ! (stop !)) (look ! (at 40 2) refl)) (and-then ! (load ! (from ! (stop !)) (look ! (at 42 2) refl)) (and-then ! (load ! (from ! (stop !)) (look ! (at 14 2) refl)) (no-more !)))))))))))))))))) (λ w.
           use1 W (later (some (λ (r : Q .Denot). (raw (toks 𝓤 H A fields g Toks) ⊛ ‵ (answer .own r (w ∷ []))) ⊛ raw (ensured 𝓤 H A called (clauses 𝓤 called D) (lives κs g) (given-args κs a g) tt r)))) (id⊢ 𝓤 _) $ await ! tt $ pick ! (λ r.
           split ! $ move ! (1 ∷ []) $ use1 W (some (λ (zs : Last κs a g). ‵ (lasts called (lives κs g) (given-args κs a g) zs) ⊛ raw (Clause g r zs))) (id⊢ 𝓤 _) $ pick ! (λ zs.
           split ! $ move ! (1 ∷ []) $ use1 W (raw (Given-by g r zs)) (gives κs a g r zs) $ move ! (2 ∷ []) $ split ! $ move ! (1 ∷ []) $ peeks ! answer (Is answer) (shows 𝓤 H A answer) r (w ∷ []) (λ is.
@@ -291,19 +297,20 @@ module _ {n : ℕ} (P : Single n) (Q : Single 0) where
           gone ! (at 18 6) refl refl $ gone ! (at 19 6) refl refl $ gone ! (at 20 6) refl refl $ gone ! (at 21 6) refl refl $ gone ! (at 22 6) refl refl $ gone ! (at 23 6) refl refl $
           gone ! (at 24 6) refl refl $ gone ! (at 25 6) refl refl $ gone ! (at 26 6) refl refl $ gone ! (at 27 6) refl refl $ gone ! (at 28 6) refl refl $ gone ! (at 29 6) refl refl $
           gone ! (at 30 6) refl refl $ gone ! (at 31 6) refl refl $ gone ! (at 32 6) refl refl $ gone ! (at 33 6) refl refl $ gone ! (at 34 6) refl refl $ gone ! (at 35 6) refl refl $
-          gone ! (at 36 6) refl refl $
+          gone ! (at 36 6) refl refl $ gone ! (at 37 6) refl refl $ gone ! (at 38 6) refl refl $ gone ! (at 39 6) refl refl $ gone ! (at 40 6) refl refl $ gone ! (at 41 6) refl refl $
+          gone ! (at 42 6) refl refl $
           free0 ! $ suffices ! _ (ending _ g r zs) $ move ! (5 ∷ []) $ frame ! $
-          move ! (3 ∷ 0 ∷ []) $ join ! $ frame ! $ move ! (1 ∷ 0 ∷ []) $ fjoin ! $ frame ! $ done !))))))))))))))))))))))))))))))))))))))))))
+          move ! (3 ∷ 0 ∷ []) $ join ! $ frame ! $ move ! (1 ∷ 0 ∷ []) $ fjoin ! $ frame ! $ done !))))))))))))))))))))))))))))))))))))))))))))))))
 
   module _ {M : Type 1} (𝓤 : URA M) (H : Heap 𝓤) (A : Atoms 𝓤) (W : Given 𝓤 H A) (told : Told P) (answers : Told Q) (f : Name) (D : Ensures 𝓤 called) (E : Ensures 𝓤 thin) (gives : Gives 𝓤 D E) where
     lent-walks : (C : Calls 𝓤 H) (Λ : Loops 𝓤 H) → FmC 𝓤 H (W .laws) C → Triple 𝓤 (C f) (Callee 𝓤 H A D) → Walks 𝓤 H A thin stayed (WpFn 𝓤 H C Λ (function f)) (clauses 𝓤 thin E)
     lent-walks C Λ fm known = walked 𝓤 H A thin stayed (clauses 𝓤 thin E) (WpFn 𝓤 H C Λ (function f))
-        (λ κs. (ptr-vals, (slice-vals, (slice-vals, (slice-vals, (slice-vals, (slice-vals, (slice-vals, (slice-vals, (slice-vals, (slice-vals, (slice-vals, ((λ x. P .value x ∷ []), tt)))))))))))))
-        (λ κs. (mut-tells (named 0) (κs .0) T.the-row, (mut-slice-tells (named 1) (κs .1 .0) u16, (mut-slice-tells (named 2) (κs .1 .1 .0) u16, (mut-slice-tells (named 3) (κs .1 .1 .1 .0) u16, (mut-slice-tells (named 4) (κs .1 .1 .1 .1 .0) u32, (mut-slice-tells (named 5) (κs .1 .1 .1 .1 .1 .0) u32, (mut-slice-tells (named 6) (κs .1 .1 .1 .1 .1 .1 .0) u16, (mut-slice-tells (named 7) (κs .1 .1 .1 .1 .1 .1 .1 .0) u16, (mut-slice-tells (named 8) (κs .1 .1 .1 .1 .1 .1 .1 .1 .0) u16, (mut-slice-tells (named 9) (κs .1 .1 .1 .1 .1 .1 .1 .1 .1 .0) u32, (mut-slice-tells (named 10) (κs .1 .1 .1 .1 .1 .1 .1 .1 .1 .1 .0) u32, (told .tells 11 (lastOf 11 n κs), tt)))))))))))))
+        (λ κs. (ptr-vals, (slice-vals, (slice-vals, (slice-vals, (slice-vals, (slice-vals, (slice-vals, (slice-vals, (slice-vals, (slice-vals, (slice-vals, (slice-vals, (slice-vals, ((λ x. P .value x ∷ []), tt)))))))))))))))
+        (λ κs. (mut-tells (named 0) (κs .0) T.the-row, (mut-slice-tells (named 1) (κs .1 .0) u16, (mut-slice-tells (named 2) (κs .1 .1 .0) u16, (mut-slice-tells (named 3) (κs .1 .1 .1 .0) u16, (mut-slice-tells (named 4) (κs .1 .1 .1 .1 .0) u32, (mut-slice-tells (named 5) (κs .1 .1 .1 .1 .1 .0) u32, (mut-slice-tells (named 6) (κs .1 .1 .1 .1 .1 .1 .0) u32, (mut-slice-tells (named 7) (κs .1 .1 .1 .1 .1 .1 .1 .0) u16, (mut-slice-tells (named 8) (κs .1 .1 .1 .1 .1 .1 .1 .1 .0) u16, (mut-slice-tells (named 9) (κs .1 .1 .1 .1 .1 .1 .1 .1 .1 .0) u16, (mut-slice-tells (named 10) (κs .1 .1 .1 .1 .1 .1 .1 .1 .1 .1 .0) u32, (mut-slice-tells (named 11) (κs .1 .1 .1 .1 .1 .1 .1 .1 .1 .1 .1 .0) u32, (mut-slice-tells (named 12) (κs .1 .1 .1 .1 .1 .1 .1 .1 .1 .1 .1 .1 .0) u32, (told .tells 13 (lastOf 13 n κs), tt)))))))))))))))
         (λ κs qs bounds a g are. via 𝓤 _ (fst∗ 𝓤 _ (emp 𝓤)) (walk 𝓤 H A W told answers D E κs qs bounds a f C Λ fm gives known are))
 
   pub lent-meets : {M : Type 1} (𝓤 : URA M) (H : Heap 𝓤) (A : Atoms 𝓤) → Given 𝓤 H A → Told P → Told Q → (f : Name) (D : Ensures 𝓤 called) (E : Ensures 𝓤 thin) → Gives 𝓤 D E → (𝓣 : Tables 𝓤 H) → Triple 𝓤 (𝓣 .C f) (Callee 𝓤 H A D)
       → Meets 𝓤 H A (thin .signature) (WpFn 𝓤 H (𝓣 .C) (𝓣 .Λ) (function f)) (closing 𝓤 H A thin (clauses 𝓤 thin E))
   lent-meets 𝓤 H A W told answers f D E gives 𝓣 known =
-      walk-meets 𝓤 H A thin stayed W (goes-ref 𝓤 H A W (behind 11 n) 0 tt (plain (λ _. T.the-row)), all-passed-go 𝓤 H A W (behind 11 n) (tailOf (thin .signature .params)) (thin .kept .1)) (clauses 𝓤 thin E)
+      walk-meets 𝓤 H A thin stayed W (goes-ref 𝓤 H A W (behind 13 n) 0 tt (plain (λ _. T.the-row)), all-passed-go 𝓤 H A W (behind 13 n) (tailOf (thin .signature .params)) (thin .kept .1)) (clauses 𝓤 thin E)
       (WpFn 𝓤 H (𝓣 .C) (𝓣 .Λ) (function f)) (WpFn-mono 𝓤 H (W .laws) 𝓣 (function f)) (lent-walks 𝓤 H A W told answers f D E gives (𝓣 .C) (𝓣 .Λ) (fmOf 𝓤 H (W .laws) 𝓣) known)

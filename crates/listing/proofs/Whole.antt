@@ -10,7 +10,7 @@ use Rattle.model.specs.Basics.{maxEdges}
 use Rattle.model.specs.Register.{Register}
 use Rattle.model.specs.Format.{Read, Stop, growList}
 use Rattle.model.specs.Tables.{Counts, tablesOf, countsOf, cleared, noCounts}
-use Rattle.model.specs.Printing.{ascii, line, lines, listing, printed, stopLine}
+use Rattle.model.specs.Printing.{ascii, line, listing, printed, rowLines, stopLine}
 use Rattle.model.specs.Notions.{Reachable}
 use Rattle.model.proofs.Series.Landings.{reachable-grown}
 use Rattle.agreement.proofs.Registers.{room}
@@ -25,7 +25,7 @@ use Rattle.listing.specs.Listing.{listingIn, headBytes, rowBytes, stopBy
 
 -- the four numbers, the sheet and the stop, one after the other
 pub listing-parts : (c : Counts) (rows : List (List ℕ)) (a : Stop) (k : ℕ) (p q r s : Page) → k ≡ length rows
-    → q ≡ write (line (c .vertices ∷ c .edges ∷ k ∷ c .relabellings ∷ [])) p → r ≡ write (lines rows) q → s ≡ write (stopLine a) r
+    → q ≡ write (line (c .vertices ∷ c .edges ∷ k ∷ c .relabellings ∷ [])) p → r ≡ write (rowLines rows) q → s ≡ write (stopLine a) r
     → s ≡ write (listingIn c rows a) p
 unfolding listingIn
 listing-parts c rows a k p q r s n e f g =

@@ -13,14 +13,14 @@ use counters::sizes::VERTICES;
 use landing::records::grow_list;
 use streams::reading::MAX_LIST;
 use text::lines::put_line4;
-use text::lines::put_line5;
+use text::lines::put_row_line;
 use text::lines::put_stopped;
 use text::writing::put_text;
 ghost use mathlib.Core.Path.{_≡_};
 ghost use Prim.Native.Nat.{_+_, _*_, _≤_};
 ghost use lib.ListN.{length, replicate, take};
 ghost use Rattle.model.specs.Basics.{maxEdges};
-ghost use Rattle.model.specs.Printing.{line, lines, printed, stopLine};
+ghost use Rattle.model.specs.Printing.{printed, rowLine, rowLines, stopLine};
 ghost use Rattle.counters.specs.Answers.{asCounts, asStop};
 ghost use Rattle.chains.specs.Answers.{rowOf};
 ghost use Rattle.chains.specs.Chains.{sheetIn};
@@ -29,18 +29,19 @@ ghost use Rattle.text.specs.Pages.{page, write};
 ghost use Rattle.listing.specs.Listing.{listingIn, headBytes, rowBytes, stopBytes, roomBytes};
 
 // Room for any listing.
-pub const ROOM: usize = 262144;
+pub const ROOM: usize = 294912;
 
-// The line of a row.
-fn put_row_line(out: &mut [u8], at: usize, row: Row) -> usize
-    ensures { λ r. ⌜ (page (now (out .exit)) r ≡ write (line (rowOf row)) (page (now (out .entry)) at)) × (r ≤ at + rowBytes) ⌝ }
+// The line of a chain's row.
+fn put_chain_line(out: &mut [u8], at: usize, row: Row) -> usize
+    ensures { λ r. ⌜ (page (now (out .exit)) r ≡ write (rowLine (rowOf row)) (page (now (out .entry)) at)) × (r ≤ at + rowBytes) ⌝ }
 {
     let name = row.name.0;
     let lower = row.lower.0;
     let other = row.other.0;
     let inner = row.inner;
     let length = row.length.0;
-    put_line5(
+    let volume = row.volume.0;
+    put_row_line(
         out,
         at,
         name as u64,
@@ -48,6 +49,7 @@ fn put_row_line(out: &mut [u8], at: usize, row: Row) -> usize
         other as u64,
         inner as u64,
         length as u64,
+        volume as u64,
     )
 }
 
@@ -59,18 +61,28 @@ fn put_sheet_lines(
     sides: &[u16],
     ends: &[u16],
     lengths: &[u32],
+    volumes: &[u32],
     marks: &mut [u16],
     edges: u16,
 ) -> usize
     ensures { λ r. ⌜ (page (now (out .exit)) r
-        ≡ write (lines (sheetIn (now (degrees .entry)) (now (sides .entry)) (now (ends .entry)) (now (lengths .entry)) edges (now (marks .entry))))
+        ≡ write (rowLines (sheetIn (now (degrees .entry)) (now (sides .entry)) (now (ends .entry)) (now (lengths .entry)) (now (volumes .entry)) edges (now (marks .entry))))
         (page (now (out .entry)) at)) × (r ≤ at + rowBytes * edges) ⌝ }
 {
     let mut next = at;
     let mut edge = next_unmarked(marks, 0, edges);
     while edge < edges {
-        let row = take_row(degrees, sides, ends, lengths, marks, Edge(edge), edges);
-        next = put_row_line(out, next, row);
+        let row = take_row(
+            degrees,
+            sides,
+            ends,
+            lengths,
+            volumes,
+            marks,
+            Edge(edge),
+            edges,
+        );
+        next = put_chain_line(out, next, row);
         edge = next_unmarked(marks, edge + 1, edges);
     }
     next
@@ -96,12 +108,13 @@ fn put_listing(
     sides: &[u16],
     ends: &[u16],
     lengths: &[u32],
+    volumes: &[u32],
     counts: Counts,
     stop: Stop,
 ) -> usize
     ensures { λ r. ⌜ (page (now (out .exit)) r
         ≡ write (listingIn (asCounts counts)
-        (sheetIn (now (degrees .entry)) (now (sides .entry)) (now (ends .entry)) (now (lengths .entry)) (counts .edges) (replicate maxEdges 0))
+        (sheetIn (now (degrees .entry)) (now (sides .entry)) (now (ends .entry)) (now (lengths .entry)) (now (volumes .entry)) (counts .edges) (replicate maxEdges 0))
         (asStop stop)) (page (now (out .entry)) 0)) × (r ≤ headBytes + rowBytes * counts .edges + stopBytes) ⌝ }
 {
     let mut counting = [0u16; EDGES];
@@ -118,7 +131,17 @@ fn put_listing(
         chains as u64,
         relabellings as u64,
     );
-    let next = put_sheet_lines(out, sheet, degrees, sides, ends, lengths, &mut marks, edges);
+    let next = put_sheet_lines(
+        out,
+        sheet,
+        degrees,
+        sides,
+        ends,
+        lengths,
+        volumes,
+        &mut marks,
+        edges,
+    );
     put_stop(out, next, stop)
 }
 
@@ -134,16 +157,27 @@ pub fn print_list(list: &[u8], out: &mut [u8]) -> usize
     let mut sides = [0u16; SIDES];
     let mut ends = [0u16; ENDS];
     let mut lengths = [0u32; EDGES];
+    let mut volumes = [0u32; EDGES];
     let mut labels = [0u32; VERTICES];
     let reading = grow_list(
         &mut degrees,
         &mut sides,
         &mut ends,
         &mut lengths,
+        &mut volumes,
         &mut labels,
         list,
     );
     let counts = reading.counts;
     let stop = reading.stop;
-    put_listing(out, &degrees, &sides, &ends, &lengths, counts, stop)
+    put_listing(
+        out,
+        &degrees,
+        &sides,
+        &ends,
+        &lengths,
+        &volumes,
+        counts,
+        stop,
+    )
 }

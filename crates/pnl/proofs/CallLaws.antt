@@ -56,28 +56,28 @@ module _ (bs : List ℕ) (t : Tables) (c : Counts) (s : Stop) (e : readingIn t c
 
 -- ---- the four queries
 
-module _ (d s e l lb : List ℕ) (c : Counts) (r : Register) (h : HeldOf (stored (tables d s e l lb) c) r) (slice : List ℕ) (z : Returned) where
-  pub sheet-question : z ≡ returnsNumbers slice (concat (sheetOver (tables d s e l lb) (c .edges) maxEdges)) → z ≡ returnsReply r slice (listed (length (sheet r)))
+module _ (d s e l u lb : List ℕ) (c : Counts) (r : Register) (h : HeldOf (stored (tables d s e l u lb) c) r) (slice : List ℕ) (z : Returned) where
+  pub sheet-question : z ≡ returnsNumbers slice (concat (sheetOver (tables d s e l u lb) (c .edges) maxEdges)) → z ≡ returnsReply r slice (listed (length (sheet r)))
   unfolding returnsReply sheetNumbers
   sheet-question p =
-      let k : sheetOver (tables d s e l lb) (c .edges) maxEdges ≡ sheet r = rw (held-tables h, held-counts h) at (sheet-agrees r (h .reachable) maxEdges (omega arith)) in
+      let k : sheetOver (tables d s e l u lb) (c .edges) maxEdges ≡ sheet r = rw (held-tables h, held-counts h) at (sheet-agrees r (h .reachable) maxEdges (omega arith)) in
       p ∙ ap (λ (rows : List (List ℕ)). returnsNumbers slice (concat rows)) k
 
-  pub find-question : (label : ℕ) (a : Reply) → a ≡ findIn (tables d s e l lb) c (replicate (2 * maxVertices) 0) label → z ≡ returnsReply r slice a
+  pub find-question : (label : ℕ) (a : Reply) → a ≡ findIn (tables d s e l u lb) c (replicate (2 * maxVertices) 0) label → z ≡ returnsReply r slice a
       → z ≡ returnsReply r slice (find r label)
   unfolding effect answer answers
   find-question label a p q =
       let room : 2 * maxVertices ≤ length (replicate {A = ℕ} (2 * maxVertices) 0) = rw length-replicate (omega arith) in
-      let k = find-answers (tables d s e l lb) c (replicate (2 * maxVertices) 0) label a room p r h in
+      let k = find-answers (tables d s e l u lb) c (replicate (2 * maxVertices) 0) label a room p r h in
       q ∙ ap (returnsReply r slice) (ap (λ (x : Effect). x .reply) (sym k))
 
-  pub reach-question : (v : ℕ) (a : Reply) → a ≡ reachIn (tables d s e l lb) c v → z ≡ returnsReply r slice a → z ≡ returnsReply r slice (reach r v)
+  pub reach-question : (v : ℕ) (a : Reply) → a ≡ reachIn (tables d s e l u lb) c v → z ≡ returnsReply r slice a → z ≡ returnsReply r slice (reach r v)
   reach-question v a p q =
-      let k : reachIn (tables d s e l lb) c v ≡ reach r v = rw (held-tables h, held-counts h) at (reach-agrees r (h .reachable) v) in
+      let k : reachIn (tables d s e l u lb) c v ≡ reach r v = rw (held-tables h, held-counts h) at (reach-agrees r (h .reachable) v) in
       q ∙ ap (returnsReply r slice) (p ∙ k)
 
-  pub distance-question : (v w : ℕ) (a : Reply) → a ≡ measureIn (tables d s e l lb) c v w → z ≡ returnsReply r slice a
+  pub distance-question : (v w : ℕ) (a : Reply) → a ≡ measureIn (tables d s e l u lb) c v w → z ≡ returnsReply r slice a
       → z ≡ returnsReply r slice (measure r v w)
   distance-question v w a p q =
-      let k : measureIn (tables d s e l lb) c v w ≡ measure r v w = rw (held-tables h, held-counts h) at (measure-agrees r v w) in
+      let k : measureIn (tables d s e l u lb) c v w ≡ measure r v w = rw (held-tables h, held-counts h) at (measure-agrees r v w) in
       q ∙ ap (returnsReply r slice) (p ∙ k)

@@ -11,10 +11,10 @@ use mir.Facts.{toZ-pos, toZ-ofZ}
 use Rattle.model.specs.FromC.{Returned}
 use Rattle.counters.specs.Refusals.{numberOf}
 use Rattle.counters.specs.declared.refusals.Refusal.{Refusal}
-use Rattle.counters.specs.declared.refusals.Refusal.the-variants.{NoMark, Version, Cut, UnknownKind, NotLanded, SameVertex, Length, NotRegular, ShortSlice, NotGrown, TooManyVertices, TooManyEdges, WrongSize}
+use Rattle.counters.specs.declared.refusals.Refusal.the-variants.{NoMark, Version, Cut, UnknownKind, NotLanded, SameVertex, Length, NotRegular, ShortSlice, NotGrown, TooManyVertices, TooManyEdges, WrongSize, Volume}
 use Rattle.pnl.specs.FromC.{returned}
 
-number-few : (x : Refusal) → numberOf x ≤ 25
+number-few : (x : Refusal) → numberOf x ≤ 31
 number-few NoMark = omega arith
 number-few Version = omega arith
 number-few Cut = omega arith
@@ -28,17 +28,18 @@ number-few NotGrown = omega arith
 number-few TooManyVertices = omega arith
 number-few TooManyEdges = omega arith
 number-few WrongSize = omega arith
+number-few Volume = omega arith
 
-negated : (n : ℕ) → n ≤ 25 → toZ w32 0 -ℤ toZ w32 n ≡ negℤ (pos n)
+negated : (n : ℕ) → n ≤ 31 → toZ w32 0 -ℤ toZ w32 n ≡ negℤ (pos n)
 negated n h = rw (toZ-pos w32 {n = n} (omega arith)) (+ℤ-idl (negℤ (pos n)))
 
-negative-fits : (n : ℕ) → n ≤ 25 → SFits w32 (negℤ (pos n))
+negative-fits : (n : ℕ) → n ≤ 31 → SFits w32 (negℤ (pos n))
 negative-fits zero h = record { sfits = omega arith }
 negative-fits (suc n) h = record { sfits = omega arith }
 
 -- a refusal's number: it fits, its negative fits, and that is what is read back
 module _ (x : Refusal) (n : ℕ) (e : n ≡ numberOf x) where
-  few : n ≤ 25
+  few : n ≤ 31
   few = rw e (number-few x)
 
   pub number-fits : SFits w32 (pos n)
@@ -57,5 +58,5 @@ value-kept h = toZ-ofZ (record { sfits = h })
 pub handed : {s : List ℕ} {v : ℤ} {z : Returned} → mag v < 2147483648 → returned s v ≡ z → returned s (toZ w32 (ofZ w32 v)) ≡ z
 handed {s} h e = ap (returned s) (value-kept h) ∙ e
 
-pub count-is : (n : ℕ) → n ≤ 1310700 → toZ w32 n ≡ pos n
+pub count-is : (n : ℕ) → n ≤ 1572840 → toZ w32 n ≡ pos n
 count-is n h = toZ-pos w32 {n = n} (omega arith)

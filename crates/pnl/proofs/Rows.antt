@@ -25,26 +25,26 @@ row-bytes = record { none = refl; first = λ row rows. bytesOf-append row (conca
 abbrev rowBytes : ℕ
 rowBytes = 4 * rowSize
 
-module _ (ds ss es ls : List ℕ) (n : ℕ) (ms slice : List ℕ) (fits : Bool) (room : fits ≡ leb (length (namesIn ds ss es n ms)) (length slice / rowBytes)) where
+module _ (ds ss es ls vs : List ℕ) (n : ℕ) (ms slice : List ℕ) (fits : Bool) (room : fits ≡ leb (length (namesIn ds ss es n ms)) (length slice / rowBytes)) where
   chains : ℕ
   chains = length (namesIn ds ss es n ms)
 
   -- the bytes of all rows
-  size : rowBytes * chains ≡ 4 * length (concat (sheetIn ds ss es ls n ms))
+  size : rowBytes * chains ≡ 4 * length (concat (sheetIn ds ss es ls vs n ms))
   unfolding chains
-  size = omega (arith, sheet-size ds ss es ls n ms)
+  size = omega (arith, sheet-size ds ss es ls vs n ms)
 
-  pub sheet-short : (v : ℤ) → fits ≡ false → v ≡ negℤ (pos 9) → returned slice v ≡ returnsNumbers slice (concat (sheetIn ds ss es ls n ms))
+  pub sheet-short : (v : ℤ) → fits ≡ false → v ≡ negℤ (pos 9) → returned slice v ≡ returnsNumbers slice (concat (sheetIn ds ss es ls vs n ms))
   unfolding chains
   sheet-short v h e =
       let l : length slice < rowBytes * chains = omega (arith, leb-false chains (length slice / rowBytes) (sym room ∙ h)) in
       numbers-short slice _ (rowBytes * chains) size v l e
 
   pub sheet-whole : (k : ℕ) (after : List ℕ) (v : ℤ) → fits ≡ true → k ≡ length (namesIn ds ss es n ms)
-      → after ≡ (write (bytesOf (concat (sheetIn ds ss es ls n ms))) (page slice 0)) .slice → v ≡ pos (rowBytes * k)
-      → returned after v ≡ returnsNumbers slice (concat (sheetIn ds ss es ls n ms))
+      → after ≡ (write (bytesOf (concat (sheetIn ds ss es ls vs n ms))) (page slice 0)) .slice → v ≡ pos (rowBytes * k)
+      → returned after v ≡ returnsNumbers slice (concat (sheetIn ds ss es ls vs n ms))
   unfolding chains
   sheet-whole k after v h c e f =
       let l : rowBytes * chains ≤ length slice = omega (arith, leb-true chains (length slice / rowBytes) (sym room ∙ h)) in
-      let at : ℕ = (write (bytesOf (concat (sheetIn ds ss es ls n ms))) (page slice 0)) .at in
+      let at : ℕ = (write (bytesOf (concat (sheetIn ds ss es ls vs n ms))) (page slice 0)) .at in
       numbers-fit slice _ (rowBytes * chains) size after at v l (ap (λ (xs : List ℕ). page xs at) e) (f ∙ ap (λ (i : ℕ). pos (rowBytes * i)) c)

@@ -25,9 +25,9 @@ pub fn refused(refusal: Refusal) -> i32
     -(number as i32)
 }
 
-// A count of bytes. A sheet's rows are counted by a u16: at most 65,535, of 20 bytes each, and no answer has more.
+// A count of bytes. A sheet's rows are counted by a u16: at most 65,535, of 24 bytes each, and no answer has more.
 pub fn byte_count(n: usize) -> i32
-    requires { ⌜ n ≤ 20 * 65535 ⌝ }
+    requires { ⌜ n ≤ 24 * 65535 ⌝ }
     ensures { λ r. ⌜ r ≡ pos n ⌝ }
 {
     n as i32

@@ -31,8 +31,8 @@ pub fn find_checked(
     counts: Counts,
     label: u32,
 ) -> FoundChain
-    ensures { λ r. ⌜ ((lengths : List ℕ) → foundReply r
-        ≡ findIn (tables (now (degrees .entry)) (now (sides .entry)) (now (ends .entry)) lengths (now (labels .entry)))
+    ensures { λ r. ⌜ ((lengths volumes : List ℕ) → foundReply r
+        ≡ findIn (tables (now (degrees .entry)) (now (sides .entry)) (now (ends .entry)) lengths volumes (now (labels .entry)))
         (asCounts counts) (replicate (2 * maxVertices) 0) label) ⌝ }
 {
     let checked = Label::new(label as u64);
@@ -51,8 +51,8 @@ pub fn reach_checked(
     vertex: u32,
 ) -> Reached
     requires { ⌜ counts .vertices ≤ maxVertices ⌝ }
-    ensures { λ r. ⌜ ((labels : List ℕ) → reachedReply r
-        ≡ reachIn (tables (now (degrees .entry)) (now (sides .entry)) (now (ends .entry)) (now (lengths .entry)) labels) (asCounts counts) vertex) ⌝ }
+    ensures { λ r. ⌜ ((volumes labels : List ℕ) → reachedReply r
+        ≡ reachIn (tables (now (degrees .entry)) (now (sides .entry)) (now (ends .entry)) (now (lengths .entry)) volumes labels) (asCounts counts) vertex) ⌝ }
 {
     let checked = Vertex::new(vertex);
     match checked {
@@ -64,8 +64,8 @@ pub fn reach_checked(
 // The first is checked.
 fn measure_to(ends: &[u16], lengths: &[u32], counts: Counts, from: Vertex, to: u32) -> Measured
     requires { ⌜ Measurable (now ends) (now lengths) (asCounts counts) ⌝ }
-    ensures { λ r. ⌜ ((degrees sides labels : List ℕ) → measuredReply r
-        ≡ measureIn (tables degrees sides (now (ends .entry)) (now (lengths .entry)) labels) (asCounts counts) (from .0) to) ⌝ }
+    ensures { λ r. ⌜ ((degrees sides volumes labels : List ℕ) → measuredReply r
+        ≡ measureIn (tables degrees sides (now (ends .entry)) (now (lengths .entry)) volumes labels) (asCounts counts) (from .0) to) ⌝ }
 {
     let checked = Vertex::new(to);
     match checked {
@@ -82,8 +82,8 @@ pub fn measure_checked(
     to: u32,
 ) -> Measured
     requires { ⌜ Measurable (now ends) (now lengths) (asCounts counts) ⌝ }
-    ensures { λ r. ⌜ ((degrees sides labels : List ℕ) → measuredReply r
-        ≡ measureIn (tables degrees sides (now (ends .entry)) (now (lengths .entry)) labels) (asCounts counts) from to) ⌝ }
+    ensures { λ r. ⌜ ((degrees sides volumes labels : List ℕ) → measuredReply r
+        ≡ measureIn (tables degrees sides (now (ends .entry)) (now (lengths .entry)) volumes labels) (asCounts counts) from to) ⌝ }
 {
     let checked = Vertex::new(from);
     match checked {

@@ -23,8 +23,8 @@ pub fn find_from(
     counts: Counts,
     label: Label,
 ) -> FoundChain
-    ensures { λ r. ⌜ ((lengths : List ℕ) → foundReply r
-        ≡ findIn (tables (now (degrees .entry)) (now (sides .entry)) (now (ends .entry)) lengths (now (labels .entry)))
+    ensures { λ r. ⌜ ((lengths volumes : List ℕ) → foundReply r
+        ≡ findIn (tables (now (degrees .entry)) (now (sides .entry)) (now (ends .entry)) lengths volumes (now (labels .entry)))
         (asCounts counts) (replicate (2 * maxVertices) 0) (label .0)) ⌝ }
 {
     let mut tree = [0u16; SIDES];

@@ -39,17 +39,26 @@ fn answer_question(
     sides: &[u16],
     ends: &[u16],
     lengths: &[u32],
+    volumes: &[u32],
     labels: &[u32],
     counts: Counts,
     question: Question,
 ) -> i32
     requires { ⌜ Measurable (now ends) (now lengths) (asCounts counts) ⌝ }
     ensures { λ r. ⌜ ((register : Register)
-        → HeldOf (stored (tables (now (degrees .entry)) (now (sides .entry)) (now (ends .entry)) (now (lengths .entry)) (now (labels .entry))) (asCounts counts)) register
+        → HeldOf (stored (tables (now (degrees .entry)) (now (sides .entry)) (now (ends .entry)) (now (lengths .entry)) (now (volumes .entry)) (now (labels .entry))) (asCounts counts)) register
         → returned (now (answer .exit)) r ≡ returnsReply register (now (answer .entry)) (asQuestion question register)) ⌝ }
 {
     match question {
-        Question::Sheet => answer_sheet(answer, degrees, sides, ends, lengths, counts.edges),
+        Question::Sheet => answer_sheet(
+            answer,
+            degrees,
+            sides,
+            ends,
+            lengths,
+            volumes,
+            counts.edges,
+        ),
         Question::Find(label) => {
             let found = find_checked(degrees, sides, ends, labels, counts, label);
             answer_found(answer, found)
@@ -73,12 +82,14 @@ pub fn answer_call(list: &[u8], question: Question, answer: &mut [u8]) -> i32
     let mut sides = [0u16; SIDES];
     let mut ends = [0u16; ENDS];
     let mut lengths = [0u32; EDGES];
+    let mut volumes = [0u32; EDGES];
     let mut labels = [0u32; VERTICES];
     let reading = grow_list(
         &mut degrees,
         &mut sides,
         &mut ends,
         &mut lengths,
+        &mut volumes,
         &mut labels,
         list,
     );
@@ -91,6 +102,7 @@ pub fn answer_call(list: &[u8], question: Question, answer: &mut [u8]) -> i32
             &sides,
             &ends,
             &lengths,
+            &volumes,
             &labels,
             counts,
             question,

@@ -14,7 +14,7 @@ ghost use mathlib.Core.Path.{_≡_};
 ghost use Rattle.model.specs.FromC.{cSheet, cFind, cReach, cDistance};
 ghost use Rattle.pnl.specs.FromC.{returned};
 
-// Sheet: the runs and rings by rising name, five numbers each.
+// Sheet: the runs and rings by rising name, six numbers each.
 #[no_mangle]
 pub extern "C" fn pnl_sheet(list: &[u8], answer: &mut [u8]) -> i32
     ensures { λ r. ⌜ returned (now (answer .exit)) r ≡ cSheet (now (list .entry)) (now (answer .entry)) ⌝ }

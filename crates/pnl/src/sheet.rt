@@ -1,4 +1,4 @@
-// The sheet as a call's answer: five numbers a chain, by rising name.
+// The sheet as a call's answer: six numbers a chain, by rising name.
 use crate::answers::byte_count;
 use crate::answers::put_words;
 use crate::answers::refused;
@@ -30,7 +30,7 @@ fn put_row_bytes(out: &mut [u8], at: usize, row: Row) -> usize
     let name = wide(row.name.0);
     let lower = wide(row.lower.0);
     let other = wide(row.other.0);
-    let numbers = [name, lower, other, row.inner, row.length.0];
+    let numbers = [name, lower, other, row.inner, row.length.0, row.volume.0];
     put_words(out, at, &numbers)
 }
 
@@ -41,19 +41,29 @@ fn put_sheet_bytes(
     sides: &[u16],
     ends: &[u16],
     lengths: &[u32],
+    volumes: &[u32],
     marks: &mut [u16],
     edges: u16,
 ) -> u16
     ensures { λ r. ⌜ (r ≡ length (namesIn (now (degrees .entry)) (now (sides .entry)) (now (ends .entry)) edges (now (marks .entry))))
         × (now (out .exit)
-        ≡ (write (bytesOf (concat (sheetIn (now (degrees .entry)) (now (sides .entry)) (now (ends .entry)) (now (lengths .entry)) edges (now (marks .entry)))))
+        ≡ (write (bytesOf (concat (sheetIn (now (degrees .entry)) (now (sides .entry)) (now (ends .entry)) (now (lengths .entry)) (now (volumes .entry)) edges (now (marks .entry)))))
         (page (now (out .entry)) 0)) .slice) ⌝ }
 {
     let mut next: usize = 0;
     let mut count: u16 = 0;
     let mut edge = next_unmarked(marks, 0, edges);
     while edge < edges {
-        let row = take_row(degrees, sides, ends, lengths, marks, Edge(edge), edges);
+        let row = take_row(
+            degrees,
+            sides,
+            ends,
+            lengths,
+            volumes,
+            marks,
+            Edge(edge),
+            edges,
+        );
         next = put_row_bytes(out, next, row);
         count += 1;
         edge = next_unmarked(marks, edge + 1, edges);
@@ -68,11 +78,12 @@ pub fn answer_sheet(
     sides: &[u16],
     ends: &[u16],
     lengths: &[u32],
+    volumes: &[u32],
     edges: u16,
 ) -> i32
     ensures { λ r. ⌜ returned (now (answer .exit)) r
         ≡ returnsNumbers (now (answer .entry))
-        (concat (sheetIn (now (degrees .entry)) (now (sides .entry)) (now (ends .entry)) (now (lengths .entry)) edges (replicate maxEdges 0))) ⌝ }
+        (concat (sheetIn (now (degrees .entry)) (now (sides .entry)) (now (ends .entry)) (now (lengths .entry)) (now (volumes .entry)) edges (replicate maxEdges 0))) ⌝ }
 {
     let mut counting = [0u16; EDGES];
     let mut marks = [0u16; EDGES];
@@ -80,6 +91,15 @@ pub fn answer_sheet(
     if !has_room(degrees, sides, ends, &mut counting, edges, rows) {
         return refused(Refusal::ShortSlice);
     }
-    let count = put_sheet_bytes(answer, degrees, sides, ends, lengths, &mut marks, edges);
+    let count = put_sheet_bytes(
+        answer,
+        degrees,
+        sides,
+        ends,
+        lengths,
+        volumes,
+        &mut marks,
+        edges,
+    );
     byte_count(ROW_BYTES * (count as usize))
 }

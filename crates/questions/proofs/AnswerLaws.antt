@@ -46,7 +46,7 @@ pub sheet-answers : (t : Tables) (c : Counts) (m n : ℕ) (counting marks xs ys 
 unfolding effect answer fills sheetedIn
 sheet-answers t c m n counting marks xs ys a l o p q h r k = go (ltb (length xs) (rowSize * length (sheet r))) refl
   where
-    rows-are : sheetIn (t .degrees) (t .sides) (t .ends) (t .lengths) (c .edges) marks ≡ sheet r
+    rows-are : sheetIn (t .degrees) (t .sides) (t .ends) (t .lengths) (t .volumes) (c .edges) marks ≡ sheet r
     rows-are = rw (← q, held-tables k, held-counts k) at (sheet-agrees r (k .reachable) n o)
 
     count : length (namesIn (t .degrees) (t .sides) (t .ends) (c .edges) counting) ≡ length (sheet r)

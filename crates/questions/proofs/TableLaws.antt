@@ -78,9 +78,9 @@ module _ (t : Tables) (c : Counts) where
         rw (lt-ltb (length xs) (rowSize * chains) l)
 
     pub sheet-whole : (k : ℕ) (ys : List ℕ) → fits ≡ true → k ≡ length (namesIn (t .degrees) (t .sides) (t .ends) (c .edges) marks)
-        → ys ≡ (write (concat (sheetIn (t .degrees) (t .sides) (t .ends) (t .lengths) (c .edges) marks)) (page xs 0)) .slice
+        → ys ≡ (write (concat (sheetIn (t .degrees) (t .sides) (t .ends) (t .lengths) (t .volumes) (c .edges) marks)) (page xs 0)) .slice
         → answered ys (listed k) ≡ sheetedIn t c counting marks xs
     unfolding sheetedIn chains
     sheet-whole k ys h e f =
         let l : rowSize * chains ≤ length xs = omega (arith, leb-true chains (length xs / rowSize) (sym room ∙ h)) in
-        rw (le-ltb (length xs) (rowSize * chains) l, f, e, sheet-count (t .degrees) (t .sides) (t .ends) (t .lengths) (c .edges) marks)
+        rw (le-ltb (length xs) (rowSize * chains) l, f, e, sheet-count (t .degrees) (t .sides) (t .ends) (t .lengths) (t .volumes) (c .edges) marks)

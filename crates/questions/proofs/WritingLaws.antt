@@ -18,28 +18,28 @@ use Rattle.list.proofs.WritingLaws.{list-bytes, list-written}
 use Rattle.questions.specs.Answering.{answered, writtenIn}
 use Rattle.questions.proofs.Answers.{Answers}
 
-module _ (ends lengths : List ℕ) (c : Counts) (xs : List ℕ) (k : ℕ) (size : k ≡ 5 + c .vertices + 9 * c .edges) where
-  long : length (listIn ends lengths c) ≡ 5 + c .vertices + 9 * c .edges
-  long = list-bytes ends lengths c
+module _ (ends lengths volumes : List ℕ) (c : Counts) (xs : List ℕ) (k : ℕ) (size : k ≡ 5 + c .vertices + 13 * c .edges) where
+  long : length (listIn ends lengths volumes c) ≡ 5 + c .vertices + 13 * c .edges
+  long = list-bytes ends lengths volumes c
 
-  pub write-short : length xs < k → answered xs (refuses 9) ≡ writtenIn ends lengths c xs
+  pub write-short : length xs < k → answered xs (refuses 9) ≡ writtenIn ends lengths volumes c xs
   unfolding writtenIn fills
   write-short h =
-      let l : length xs < length (listIn ends lengths c) = omega (arith, long) in
-      rw (lt-ltb (length xs) (length (listIn ends lengths c)) l)
+      let l : length xs < length (listIn ends lengths volumes c) = omega (arith, long) in
+      rw (lt-ltb (length xs) (length (listIn ends lengths volumes c)) l)
 
-  pub write-whole : (ys : List ℕ) (at : ℕ) → k ≤ length xs → page ys at ≡ write (listIn ends lengths c) (page xs 0)
-      → answered ys (wrote k) ≡ writtenIn ends lengths c xs
+  pub write-whole : (ys : List ℕ) (at : ℕ) → k ≤ length xs → page ys at ≡ write (listIn ends lengths volumes c) (page xs 0)
+      → answered ys (wrote k) ≡ writtenIn ends lengths volumes c xs
   unfolding writtenIn fills
   write-whole ys at h e =
-      let bs = listIn ends lengths c in
+      let bs = listIn ends lengths volumes c in
       let l : length bs ≤ length xs = omega (arith, long) in
       rw (le-ltb (length xs) (length bs) l, long, ← size, write-front bs xs ys at l e)
 
-pub write-answers : (d s e l labels : List ℕ) (c : Counts) (xs ys : List ℕ) (a : Reply) → answered ys a ≡ writtenIn e l c xs
-    → Answers (writes xs) (tables d s e l labels) c ys a
+pub write-answers : (d s e l v labels : List ℕ) (c : Counts) (xs ys : List ℕ) (a : Reply) → answered ys a ≡ writtenIn e l v c xs
+    → Answers (writes xs) (tables d s e l v labels) c ys a
 unfolding effect answer writtenIn
-write-answers d s e l labels c xs ys a h r k =
-    let bs : listIn e l c ≡ written r = list-written r (tables d s e l labels) c (sym (held-tables k)) (sym (held-counts k)) in
+write-answers d s e l v labels c xs ys a h r k =
+    let bs : listIn e l v c ≡ written r = list-written r (tables d s e l v labels) c (sym (held-tables k)) (sym (held-counts k)) in
     let q : answered ys a ≡ fills xs (written r) (wrote (length (written r))) = rw bs at h in
     λ i. record { leaves = r; slice = (sym q i) .slice; reply = (sym q i) .reply }

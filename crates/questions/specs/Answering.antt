@@ -15,14 +15,14 @@ use Rattle.text.specs.Pages.{page, write}
 abbrev pub answered : List ℕ → Reply → Answer
 answered xs a = record { slice = xs; reply = a }
 
--- 9 where the slice is too short for five numbers a chain. Marks are lent for counting the chains, and others for their rows.
+-- 9 where the slice is too short for six numbers a chain. Marks are lent for counting the chains, and others for their rows.
 unfoldable pub sheetedIn : Tables → Counts → List ℕ → List ℕ → List ℕ → Answer
 sheetedIn t c counting marks xs =
     let counted = length (namesIn (t .degrees) (t .sides) (t .ends) (c .edges) counting) in
-    let rows = sheetIn (t .degrees) (t .sides) (t .ends) (t .lengths) (c .edges) marks in
+    let rows = sheetIn (t .degrees) (t .sides) (t .ends) (t .lengths) (t .volumes) (c .edges) marks in
     if ltb (length xs) (rowSize * counted) then answered xs (refuses 9)
     else answered ((write (concat rows) (page xs 0)) .slice) (listed (length rows))
 
 -- 9 where the slice is too short for the list
-unfoldable pub writtenIn : List ℕ → List ℕ → Counts → List ℕ → Answer
-writtenIn ends lengths c xs = let bs = listIn ends lengths c in fills xs bs (wrote (length bs))
+unfoldable pub writtenIn : List ℕ → List ℕ → List ℕ → Counts → List ℕ → Answer
+writtenIn ends lengths volumes c xs = let bs = listIn ends lengths volumes c in fills xs bs (wrote (length bs))

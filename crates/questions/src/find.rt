@@ -33,8 +33,8 @@ pub fn find_in(
     tree: &mut [u16],
     label: Label,
 ) -> FoundChain
-    ensures { λ r. ⌜ ((lengths : List ℕ) → foundReply r
-        ≡ findIn (tables (now (degrees .entry)) (now (sides .entry)) (now (ends .entry)) lengths (now (labels .entry)))
+    ensures { λ r. ⌜ ((lengths volumes : List ℕ) → foundReply r
+        ≡ findIn (tables (now (degrees .entry)) (now (sides .entry)) (now (ends .entry)) lengths volumes (now (labels .entry)))
         (asCounts counts) (now (tree .entry)) (label .0)) ⌝ }
 {
     let searched = search_label(
@@ -68,8 +68,8 @@ pub fn find_cleared(
     tree: &mut [u16],
     label: Label,
 ) -> FoundChain
-    ensures { λ r. ⌜ ((lengths : List ℕ) → foundReply r
-        ≡ findIn (tables (now (degrees .entry)) (now (sides .entry)) (now (ends .entry)) lengths (now (labels .entry)))
+    ensures { λ r. ⌜ ((lengths volumes : List ℕ) → foundReply r
+        ≡ findIn (tables (now (degrees .entry)) (now (sides .entry)) (now (ends .entry)) lengths volumes (now (labels .entry)))
         (asCounts counts) (now (tree .entry)) (label .0))
         × (now (tree .exit) ≡ replicate (length (now (tree .entry))) 0) ⌝ }
 {

@@ -23,7 +23,7 @@ pub enum Measured {
 }
 
 // What the scratch holds at the end is of no use to the caller.
-fn measure_in(
+pub fn measure_in(
     ends: &[u16],
     lengths: &[u32],
     counts: Counts,
@@ -36,8 +36,8 @@ fn measure_in(
     to: Vertex,
 ) -> Measured
     requires { ⌜ Measurable (now ends) (now lengths) (asCounts counts) × (maxVertices ≤ length (now distances)) ⌝ }
-    ensures { λ r. ⌜ ((degrees sides labels : List ℕ) → measuredReply r
-        ≡ measureIn (tables degrees sides (now (ends .entry)) (now (lengths .entry)) labels) (asCounts counts) (from .0) (to .0)) ⌝ }
+    ensures { λ r. ⌜ ((degrees sides volumes labels : List ℕ) → measuredReply r
+        ≡ measureIn (tables degrees sides (now (ends .entry)) (now (lengths .entry)) volumes labels) (asCounts counts) (from .0) (to .0)) ⌝ }
 {
     let v = from.0;
     let w = to.0;
@@ -63,8 +63,8 @@ fn measure_in(
     Measured::Distance(distance)
 }
 
-// The tables are those of a register: a replay has shown it, or the call grew them. The scratch tables serve the search as heads, heap,
-// next, distances and keys.
+// The tables are those of a register: a replay has shown it, or the call grew them. Five scratch tables serve the search as heads,
+// heap, next, distances and keys; all six are cleared.
 pub fn measure(
     ends: &[u16],
     lengths: &[u32],
@@ -73,15 +73,16 @@ pub fn measure(
     ssides: &mut [u16],
     sends: &mut [u16],
     slengths: &mut [u32],
+    svolumes: &mut [u32],
     slabels: &mut [u32],
     from: Vertex,
     to: Vertex,
 ) -> Measured
     requires { ⌜ Measurable (now ends) (now lengths) (asCounts counts) × (maxVertices ≤ length (now slengths)) ⌝ }
-    ensures { λ r. ⌜ (tables (now (sdegrees .exit)) (now (ssides .exit)) (now (sends .exit)) (now (slengths .exit)) (now (slabels .exit))
-        ≡ zeroed (tables (now (sdegrees .entry)) (now (ssides .entry)) (now (sends .entry)) (now (slengths .entry)) (now (slabels .entry))))
-        × ((degrees sides labels : List ℕ) → measuredReply r
-        ≡ measureIn (tables degrees sides (now (ends .entry)) (now (lengths .entry)) labels) (asCounts counts) (from .0) (to .0)) ⌝ }
+    ensures { λ r. ⌜ (tables (now (sdegrees .exit)) (now (ssides .exit)) (now (sends .exit)) (now (slengths .exit)) (now (svolumes .exit)) (now (slabels .exit))
+        ≡ zeroed (tables (now (sdegrees .entry)) (now (ssides .entry)) (now (sends .entry)) (now (slengths .entry)) (now (svolumes .entry)) (now (slabels .entry))))
+        × ((degrees sides volumes labels : List ℕ) → measuredReply r
+        ≡ measureIn (tables degrees sides (now (ends .entry)) (now (lengths .entry)) volumes labels) (asCounts counts) (from .0) (to .0)) ⌝ }
 {
     let answer = measure_in(
         ends,
@@ -95,6 +96,6 @@ pub fn measure(
         from,
         to,
     );
-    clear_tables(sdegrees, ssides, sends, slengths, slabels);
+    clear_tables(sdegrees, ssides, sends, slengths, svolumes, slabels);
     answer
 }

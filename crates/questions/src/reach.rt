@@ -66,8 +66,8 @@ pub fn reach_in(
     counts: Counts,
     vertex: Vertex,
 ) -> Reached
-    ensures { λ r. ⌜ ((labels : List ℕ) → reachedReply r
-        ≡ reachIn (tables (now (degrees .entry)) (now (sides .entry)) (now (ends .entry)) (now (lengths .entry)) labels)
+    ensures { λ r. ⌜ ((volumes labels : List ℕ) → reachedReply r
+        ≡ reachIn (tables (now (degrees .entry)) (now (sides .entry)) (now (ends .entry)) (now (lengths .entry)) volumes labels)
         (asCounts counts) (vertex .0)) ⌝ }
 {
     if counts.vertices <= vertex.0 {

@@ -1,4 +1,4 @@
-// Sheet: five numbers a chain (document 01: run) to the front of a lent slice, or 9.
+// Sheet: six numbers a chain (document 01: run) to the front of a lent slice, or 9.
 use chains::marks::next_unmarked;
 use chains::names::has_room;
 use chains::numbers::wide;
@@ -29,7 +29,7 @@ pub enum Listed {
     Refused(Refusal),
 }
 
-// The five numbers of a row, one after the other.
+// The six numbers of a row, one after the other.
 fn put_row(out: &mut [u32], at: usize, row: Row) -> usize
     ensures { λ r. ⌜ page (now (out .exit)) r ≡ write (rowOf row) (page (now (out .entry)) at) ⌝ }
 {
@@ -37,29 +37,40 @@ fn put_row(out: &mut [u32], at: usize, row: Row) -> usize
     let third = put_u32(out, second, wide(row.lower.0));
     let fourth = put_u32(out, third, wide(row.other.0));
     let fifth = put_u32(out, fourth, row.inner);
-    put_u32(out, fifth, row.length.0)
+    let sixth = put_u32(out, fifth, row.length.0);
+    put_u32(out, sixth, row.volume.0)
 }
 
-// The rows of all chains by rising name, five numbers each, from the front of the slice on; the answer is how many there are.
+// The rows of all chains by rising name, six numbers each, from the front of the slice on; the answer is how many there are.
 fn put_rows(
     out: &mut [u32],
     degrees: &[u16],
     sides: &[u16],
     ends: &[u16],
     lengths: &[u32],
+    volumes: &[u32],
     marks: &mut [u16],
     edges: u16,
 ) -> u16
     ensures { λ r. ⌜ (r ≡ length (namesIn (now (degrees .entry)) (now (sides .entry)) (now (ends .entry)) edges (now (marks .entry))))
         × (now (out .exit)
-        ≡ (write (concat (sheetIn (now (degrees .entry)) (now (sides .entry)) (now (ends .entry)) (now (lengths .entry)) edges (now (marks .entry))))
+        ≡ (write (concat (sheetIn (now (degrees .entry)) (now (sides .entry)) (now (ends .entry)) (now (lengths .entry)) (now (volumes .entry)) edges (now (marks .entry))))
         (page (now (out .entry)) 0)) .slice) ⌝ }
 {
     let mut next: usize = 0;
     let mut count: u16 = 0;
     let mut edge = next_unmarked(marks, 0, edges);
     while edge < edges {
-        let row = take_row(degrees, sides, ends, lengths, marks, Edge(edge), edges);
+        let row = take_row(
+            degrees,
+            sides,
+            ends,
+            lengths,
+            volumes,
+            marks,
+            Edge(edge),
+            edges,
+        );
         next = put_row(out, next, row);
         count += 1;
         edge = next_unmarked(marks, edge + 1, edges);
@@ -73,6 +84,7 @@ fn sheet_in(
     sides: &[u16],
     ends: &[u16],
     lengths: &[u32],
+    volumes: &[u32],
     counts: Counts,
     counting: &mut [u16],
     marks: &mut [u16],
@@ -80,14 +92,14 @@ fn sheet_in(
 ) -> Listed
     ensures { λ r. ⌜ ((labels : List ℕ) → answered
         (now (out .exit)) (listedReply r)
-        ≡ sheetedIn (tables (now (degrees .entry)) (now (sides .entry)) (now (ends .entry)) (now (lengths .entry)) labels)
+        ≡ sheetedIn (tables (now (degrees .entry)) (now (sides .entry)) (now (ends .entry)) (now (lengths .entry)) (now (volumes .entry)) labels)
         (asCounts counts) (now (counting .entry)) (now (marks .entry)) (now (out .entry))) ⌝ }
 {
     let edges = counts.edges;
     if !has_room(degrees, sides, ends, counting, edges, out.len() / ROW) {
         return Listed::Refused(Refusal::ShortSlice);
     }
-    let count = put_rows(out, degrees, sides, ends, lengths, marks, edges);
+    let count = put_rows(out, degrees, sides, ends, lengths, volumes, marks, edges);
     Listed::Chains(count)
 }
 
@@ -97,6 +109,7 @@ pub fn sheet_cleared(
     sides: &[u16],
     ends: &[u16],
     lengths: &[u32],
+    volumes: &[u32],
     counts: Counts,
     counting: &mut [u16],
     marks: &mut [u16],
@@ -104,11 +117,21 @@ pub fn sheet_cleared(
 ) -> Listed
     ensures { λ r. ⌜ ((labels : List ℕ) → answered
         (now (out .exit)) (listedReply r)
-        ≡ sheetedIn (tables (now (degrees .entry)) (now (sides .entry)) (now (ends .entry)) (now (lengths .entry)) labels)
+        ≡ sheetedIn (tables (now (degrees .entry)) (now (sides .entry)) (now (ends .entry)) (now (lengths .entry)) (now (volumes .entry)) labels)
         (asCounts counts) (now (counting .entry)) (now (marks .entry)) (now (out .entry)))
         × ((now (counting .exit) ≡ replicate (length (now (counting .entry))) 0) × (now (marks .exit) ≡ replicate (length (now (marks .entry))) 0)) ⌝ }
 {
-    let listed = sheet_in(degrees, sides, ends, lengths, counts, counting, marks, out);
+    let listed = sheet_in(
+        degrees,
+        sides,
+        ends,
+        lengths,
+        volumes,
+        counts,
+        counting,
+        marks,
+        out,
+    );
     clear16(counting);
     clear16(marks);
     listed

@@ -14,22 +14,28 @@ pub enum Written {
     Refused(Refusal),
 }
 
-// A header of 5 bytes, a byte a vertex, 9 bytes an edge.
+// A header of 5 bytes, a byte a vertex, 13 bytes an edge.
 fn list_bytes(counts: Counts) -> u32
-    ensures { λ r. ⌜ r ≡ 5 + asCounts counts .vertices + 9 * asCounts counts .edges ⌝ }
+    ensures { λ r. ⌜ r ≡ 5 + asCounts counts .vertices + 13 * asCounts counts .edges ⌝ }
 {
-    5 + (counts.vertices as u32) + 9 * (counts.edges as u32)
+    5 + (counts.vertices as u32) + 13 * (counts.edges as u32)
 }
 
 // The bytes are counted first: nothing is written to a slice that is too short.
-pub fn write_in(ends: &[u16], lengths: &[u32], counts: Counts, out: &mut [u8]) -> Written
+pub fn write_in(
+    ends: &[u16],
+    lengths: &[u32],
+    volumes: &[u32],
+    counts: Counts,
+    out: &mut [u8],
+) -> Written
     ensures { λ r. ⌜ answered (now (out .exit)) (writtenReply r)
-        ≡ writtenIn (now (ends .entry)) (now (lengths .entry)) (asCounts counts) (now (out .entry)) ⌝ }
+        ≡ writtenIn (now (ends .entry)) (now (lengths .entry)) (now (volumes .entry)) (asCounts counts) (now (out .entry)) ⌝ }
 {
     let size = list_bytes(counts);
     if out.len() < (size as usize) {
         return Written::Refused(Refusal::ShortSlice);
     }
-    put_list(out, ends, lengths, counts);
+    put_list(out, ends, lengths, volumes, counts);
     Written::Bytes(size)
 }

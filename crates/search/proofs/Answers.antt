@@ -4,7 +4,7 @@ use mathlib.Core.Logic.{_≢_}
 use Prim.Native.Nat.{ℕ, _+_, _≤_, _<_}
 use native.Mathlib.Decide.{ℕ-discrete, decLt}
 use native.Mathlib.Omega.{arith}
-use mathlib.Core.List.{List}
+use mathlib.Core.List.{List, []}
 use lib.ListN.{length, getD, set, length-set}
 use lib.Seq.{getD-set-same, getD-set-other}
 use borrow.Author.Count.{below-more}
@@ -17,7 +17,7 @@ use Rattle.tables.specs.Steps.{edgesOf}
 use Rattle.search.specs.Meaning.{asDistance}
 use Rattle.search.specs.Search.{unreached, Searchable, Reason, is-goal, Grounded, Started, Settled}
 use Rattle.search.specs.declared.shortest.Distance.{Distance}
-use Rattle.search.proofs.Edges.{edges-only}
+use Rattle.search.proofs.Edges.{distance-only}
 use Rattle.search.proofs.Settled.{settled-joined, settled-none}
 
 -- a table filled with one number, but for the goal
@@ -57,13 +57,13 @@ module _ (ends lengths : List ℕ) (m goal : ℕ) where
   -- settled distances are the model's
   pub answers : (from : ℕ) (distances distances′ : List ℕ) (d : ℕ) (r : Distance) → from < maxVertices → goal < maxVertices → Grounded ends lengths m goal distances
       → Settled ends lengths m from distances distances′ → d ≡ getD distances′ from 0 → (d < unreached → asDistance r ≡ joined d) × (unreached ≤ d → asDistance r ≡ notJoined)
-      → (degrees sides labels : List ℕ) → asDistance r ≡ distance (storedEdges (tables degrees sides ends lengths labels) m) from goal
-  answers from distances distances′ d r l l′ g s q c degrees sides labels =
-      rw (edges-only degrees sides ends lengths labels m) (only-distance (edgesOf ends lengths m) from goal (asDistance r) (go (decLt d unreached)))
+      → (degrees sides volumes labels : List ℕ) → asDistance r ≡ distance (storedEdges (tables degrees sides ends lengths volumes labels) m) from goal
+  answers from distances distances′ d r l l′ g s q c degrees sides volumes labels =
+      rw (distance-only degrees sides ends lengths volumes labels m from goal) (only-distance (edgesOf ends lengths [] m) from goal (asDistance r) (go (decLt d unreached)))
     where
       g′ : Grounded ends lengths m goal distances′
       g′ = s .keeps .grounded goal g
 
-      go : Dec (d < unreached) → IsDistance (λ (k : ℕ). Way (edgesOf ends lengths m) from goal k) (asDistance r)
+      go : Dec (d < unreached) → IsDistance (λ (k : ℕ). Way (edgesOf ends lengths [] m) from goal k) (asDistance r)
       go (yes b) = rw (c .0 b, q) (settled-joined ends lengths m goal from distances′ g′ (s .still) l (omega arith))
       go (no b) = rw (c .1 (omega arith)) (settled-none ends lengths m goal from distances′ g′ (s .still) l′ (omega arith))

@@ -3,7 +3,7 @@ use mathlib.Core.Path.{_≡_, refl, ap}
 use Prim.Native.Nat.{ℕ, _+_, _*_, _-_, _/_, _≤_, _<_, min, max}
 use native.Mathlib.Decide.{ℕ-discrete}
 use native.Mathlib.Omega.{arith}
-use mathlib.Core.List.{List}
+use mathlib.Core.List.{List, []}
 use lib.ListN.{length, getD, set, length-set}
 use lib.Seq.{getD-set-same, getD-set-other}
 use Rattle.model.specs.Basics.{maxVertices}
@@ -25,7 +25,7 @@ still-of ends lengths distances best e a b len da db s p q r t u w x =
     record { first = rw (← p, ← q, ← r, ← t, ← u) y; second = rw (← p, ← q, ← r, ← t, ← u) z }
 
 -- end v gets a lesser distance from the other end
-pub lowered : (ends lengths distances distances′ : List ℕ) (best e v u dv du len s : ℕ) → Joins (edgeOf ends lengths e) v u → dv ≡ getD distances v 0
+pub lowered : (ends lengths distances distances′ : List ℕ) (best e v u dv du len s : ℕ) → Joins (edgeOf ends lengths [] e) v u → dv ≡ getD distances v 0
     → du ≡ getD distances u 0 → len ≡ getD lengths e 0 → s ≡ du + len → s < dv → distances′ ≡ set distances v s
     → Relaxed ends lengths distances distances′ best e v
 lowered ends lengths distances distances′ best e v u dv du len s j p q r t l o =
@@ -58,11 +58,11 @@ pub end-room : {ends lengths : List ℕ} {m : ℕ} {distances : List ℕ} → Bo
 end-room b k x l e = omega (arith, end-vertex (b .searchable) k l, b .room)
 
 joins-far : (ends lengths : List ℕ) (j half : ℕ) → half ≡ j / 2 → 1 ≤ half
-    → Joins (edgeOf ends lengths (half - 1)) (getD ends (4 * half - 1 - j) 0) (getD ends (j - 2) 0)
+    → Joins (edgeOf ends lengths [] (half - 1)) (getD ends (4 * half - 1 - j) 0) (getD ends (j - 2) 0)
 unfolding storedEdge
 joins-far ends lengths j half p a = go (ℕ-discrete j (2 * half))
   where
-    go : Dec (j ≡ 2 * half) → Joins (edgeOf ends lengths (half - 1)) (getD ends (4 * half - 1 - j) 0) (getD ends (j - 2) 0)
+    go : Dec (j ≡ 2 * half) → Joins (edgeOf ends lengths [] (half - 1)) (getD ends (4 * half - 1 - j) 0) (getD ends (j - 2) 0)
     go (yes q) =
         let near : 2 * (half - 1) ≡ j - 2 = omega arith in
         let far : 2 * (half - 1) + 1 ≡ 4 * half - 1 - j = omega arith in
@@ -86,7 +86,7 @@ module _ (ends lengths : List ℕ) (m : ℕ) (distances : List ℕ) (b : Bounded
       }
 
   -- a lesser distance keeps the distances grounded
-  keeps-set : (e v u s : ℕ) → e < m → Joins (edgeOf ends lengths e) v u → s ≡ getD lengths e 0 + getD distances u 0 → s < getD distances v 0
+  keeps-set : (e v u s : ℕ) → e < m → Joins (edgeOf ends lengths [] e) v u → s ≡ getD lengths e 0 + getD distances u 0 → s < getD distances v 0
       → Keeps ends lengths m distances (set distances v s)
   keeps-set e v u s l j p c = record { bounded = bounded′; grounded = grounded′ }
     where
@@ -122,5 +122,5 @@ module _ (ends lengths : List ℕ) (m : ℕ) (distances : List ℕ) (b : Bounded
       → far ≡ getD ends (4 * half - 1 - j) 0 → dn ≡ getD distances near 0 → df ≡ getD distances far 0 → len ≡ getD lengths (half - 1) 0 → s ≡ dn + len → s < df
       → distances′ ≡ set distances far s → Keeps ends lengths m distances distances′
   far-keeps distances′ j half near far dn df len s p a c x y t u r w q o =
-      let i : Joins (edgeOf ends lengths (half - 1)) far near = rw (x, y) (joins-far ends lengths j half p a) in
+      let i : Joins (edgeOf ends lengths [] (half - 1)) far near = rw (x, y) (joins-far ends lengths j half p a) in
       relaxed-keeps distances′ 0 (half - 1) far (omega arith) (lowered _ _ _ _ _ _ _ _ df dn len s i u t r w q o)

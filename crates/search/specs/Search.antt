@@ -1,8 +1,9 @@
 -- What the contracts of the search say. `distances` are the tentative distances to the goal, one for each vertex; m is the number of edges.
+-- Volumes have no part in a way: `edgeOf ends lengths []`.
 use mathlib.Core.Path.{_≡_}
 use mathlib.Core.Logic.{_≢_}
 use Prim.Native.Nat.{ℕ, _+_, _*_, _≤_, _<_, min}
-use mathlib.Core.List.{List}
+use mathlib.Core.List.{List, []}
 use lib.ListN.{length, getD, set}
 use Rattle.model.specs.Basics.{sum, maxVertices, maxEdges, maxLength}
 use Rattle.model.specs.Distance.{Joins}
@@ -31,7 +32,7 @@ pub record Bounded (ends lengths : List ℕ) (m : ℕ) (distances : List ℕ) : 
 -- why vertex v may have its distance: it is the goal, or an edge leads on to a vertex whose distance is less by at least the edge's length
 pub data Reason (ends lengths : List ℕ) (m goal : ℕ) (distances : List ℕ) (v : ℕ) : Type 0 where
   is-goal : v ≡ goal → Reason ends lengths m goal distances v
-  over : (e u : ℕ) → e < m → Joins (edgeOf ends lengths e) v u → getD lengths e 0 + getD distances u 0 ≤ getD distances v 0
+  over : (e u : ℕ) → e < m → Joins (edgeOf ends lengths [] e) v u → getD lengths e 0 + getD distances u 0 ≤ getD distances v 0
       → Reason ends lengths m goal distances v
 
 -- what holds of the distances at all times, in whatever order the edges are tried
@@ -71,7 +72,7 @@ pub record Within (ends lengths distances : List ℕ) (e : ℕ) : Type 0 where
 -- What trying edge e does: nothing, and it lowers nothing below best; or vertex r gets a lesser distance from the other end.
 pub data Relaxed (ends lengths distances distances′ : List ℕ) (best e r : ℕ) : Type 0 where
   rests : r ≡ noVertex → distances′ ≡ distances → Still ends lengths distances best e → Relaxed ends lengths distances distances′ best e r
-  lowers : (u : ℕ) → Joins (edgeOf ends lengths e) r u → getD lengths e 0 + getD distances u 0 < getD distances r 0
+  lowers : (u : ℕ) → Joins (edgeOf ends lengths [] e) r u → getD lengths e 0 + getD distances u 0 < getD distances r 0
       → distances′ ≡ set distances r (getD lengths e 0 + getD distances u 0) → Relaxed ends lengths distances distances′ best e r
 
 -- the number of changes after a step whose answer was r

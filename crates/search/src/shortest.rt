@@ -62,8 +62,8 @@ pub fn search(
     keys: &mut [u32],
 ) -> Distance
     requires { ⌜ Searchable (now ends) (now lengths) edges × ((from < maxVertices) × ((goal < maxVertices) × (maxVertices ≤ length (now distances)))) ⌝ }
-    ensures { λ r. ⌜ ((degrees sides labels : List ℕ) → asDistance r
-        ≡ distance (storedEdges (tables degrees sides (now (ends .entry)) (now (lengths .entry)) labels) edges) from goal) ⌝ }
+    ensures { λ r. ⌜ ((degrees sides volumes labels : List ℕ) → asDistance r
+        ≡ distance (storedEdges (tables degrees sides (now (ends .entry)) (now (lengths .entry)) volumes labels) edges) from goal) ⌝ }
 {
     start(distances, goal);
     dijkstra(

@@ -1,5 +1,5 @@
-// Reads and writes by kind: a table of labels gives and takes labels, one of lengths lengths, the ends vertices, the sides edges. The
-// lent tables are slices of numbers; here and in steps a number that is read from one gets its kind.
+// Reads and writes by kind: a table of labels gives and takes labels, one of lengths lengths, one of volumes volumes, the ends vertices,
+// the sides edges. The lent tables are slices of numbers; here and in steps a number that is read from one gets its kind.
 use crate::access::at16;
 use crate::access::of16;
 use crate::access::of32;
@@ -7,6 +7,7 @@ use crate::access::put16;
 use crate::access::put32;
 use counters::numbers::Edge;
 use counters::numbers::Label;
+use counters::numbers::Millilitres;
 use counters::numbers::Millimetres;
 use counters::numbers::Vertex;
 ghost use mathlib.Core.Path.{_≡_};
@@ -43,6 +44,19 @@ pub fn put_length(lengths: &mut [u32], e: Edge, length: Millimetres)
     ensures { λ _. ⌜ now (lengths .exit) ≡ set (now (lengths .entry)) (e .0) (length .0) ⌝ }
 {
     put32(lengths, e.0 as usize, length.0);
+}
+
+// `Millilitres::UNKNOWN` where that of e is.
+pub fn volume_of(volumes: &[u32], e: Edge) -> Millilitres
+    ensures { λ r. ⌜ r .0 ≡ getD (now (volumes .entry)) (e .0) 0 ⌝ }
+{
+    Millilitres(of32(volumes, e.0))
+}
+
+pub fn put_volume(volumes: &mut [u32], e: Edge, volume: Millilitres)
+    ensures { λ _. ⌜ now (volumes .exit) ≡ set (now (volumes .entry)) (e .0) (volume .0) ⌝ }
+{
+    put32(volumes, e.0 as usize, volume.0);
 }
 
 // The two ends of an edge.

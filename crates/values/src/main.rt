@@ -45,11 +45,13 @@ fn put_result(out: &mut [u8], at: usize, bytes: &[u8], n: usize) -> usize {
     let mut sides = [0u16; SIDES];
     let mut ends = [0u16; ENDS];
     let mut lengths = [0u32; EDGES];
+    let mut volumes = [0u32; EDGES];
     let mut labels = [0u32; VERTICES];
     let mut sdegrees = [0u16; VERTICES];
     let mut ssides = [0u16; SIDES];
     let mut sends = [0u16; ENDS];
     let mut slengths = [0u32; EDGES];
+    let mut svolumes = [0u32; EDGES];
     let mut slabels = [0u32; VERTICES];
     let answered = grow_from(
         Counts::none(),
@@ -57,11 +59,13 @@ fn put_result(out: &mut [u8], at: usize, bytes: &[u8], n: usize) -> usize {
         &mut sides,
         &mut ends,
         &mut lengths,
+        &mut volumes,
         &mut labels,
         &mut sdegrees,
         &mut ssides,
         &mut sends,
         &mut slengths,
+        &mut svolumes,
         &mut slabels,
         &bytes[..n],
     );
@@ -97,16 +101,16 @@ fn main() {
 
     // 4,096 pipes land: a line over most fittings, and four pipes between the last three.
     let line = put_edges(&mut list, full, 4093);
-    let first = put_edge(&mut list, line, 4093, 4094, 1);
-    let second = put_edge(&mut list, first, 4094, 4095, 1);
-    let third = put_edge(&mut list, second, 4093, 4094, 1);
-    let edges = put_edge(&mut list, third, 4094, 4095, 1);
+    let first = put_edge(&mut list, line, 4093, 4094, 1, 0);
+    let second = put_edge(&mut list, first, 4094, 4095, 1, 0);
+    let third = put_edge(&mut list, second, 4093, 4094, 1, 0);
+    let edges = put_edge(&mut list, third, 4094, 4095, 1, 0);
     at = put_result(&mut out, at, &list, edges);
 
     // Full and ring together: 23. One more pipe of any kind: 23.
-    let ring = put_edge(&mut list, edges, 0, 4092, 1);
+    let ring = put_edge(&mut list, edges, 0, 4092, 1, 0);
     at = put_result(&mut out, at, &list, ring);
-    let more = put_edge(&mut list, edges, 0, 4094, 1);
+    let more = put_edge(&mut list, edges, 0, 4094, 1, 0);
     at = put_result(&mut out, at, &list, more);
 
     // A last record of the one byte 0x00: 4.

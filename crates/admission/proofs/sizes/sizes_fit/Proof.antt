@@ -22,7 +22,11 @@ returns-4 c = list-differs _ _ _ _ (c .if4 .taken) ∙ list-on _ _ _ _ (c .befor
 
 returns-5 : tie.Need-returns-5
 unfolding fits sizes rightSizes
-returns-5 c = list-last _ _ ∙ list-on _ _ _ _ (c .if4 .left) ∙ list-on _ _ _ _ (c .before .if3 .left) ∙ list-on _ _ _ _ (c .before .before .if2 .left) ∙ list-on _ _ _ _ (c .before .before .before .if1 .left)
+returns-5 c = list-differs _ _ _ _ (c .if5 .taken) ∙ list-on _ _ _ _ (c .before .if4 .left) ∙ list-on _ _ _ _ (c .before .before .if3 .left) ∙ list-on _ _ _ _ (c .before .before .before .if2 .left) ∙ list-on _ _ _ _ (c .before .before .before .before .if1 .left)
+
+returns-6 : tie.Need-returns-6
+unfolding fits sizes rightSizes
+returns-6 c = list-last _ _ ∙ list-on _ _ _ _ (c .if5 .left) ∙ list-on _ _ _ _ (c .before .if4 .left) ∙ list-on _ _ _ _ (c .before .before .if3 .left) ∙ list-on _ _ _ _ (c .before .before .before .if2 .left) ∙ list-on _ _ _ _ (c .before .before .before .before .if1 .left)
 
 pub sizes-fit-spec : {M : Type 1} → statement M
-sizes-fit-spec = tie.close (tie.spec returns returns-2 returns-3 returns-4 returns-5)
+sizes-fit-spec = tie.close (tie.spec returns returns-2 returns-3 returns-4 returns-5 returns-6)

@@ -1,29 +1,29 @@
-use Rattle.calls.proofs.MeasureLaws.{open-measurable, open-answers}
-use Rattle.calls.proofs.QueryLaws.{query-refused}
-use Rattle.admission.specs.Gate.{gateRefusal}
-use Rattle.model.specs.Calls.{measures, registerFor, lentSlice, lentTo}
 use mathlib.Core.Path.{refl, sym, ap, _∙_}
+use Rattle.model.specs.Calls.{measures, registerFor, lentSlice, lentTo}
+use Rattle.admission.specs.Gate.{gateRefusal}
+use Rattle.calls.proofs.QueryLaws.{query-refused}
+use Rattle.calls.proofs.MeasureLaws.{open-measurable, open-answers}
 use borrow.Author.Needs.{needs}
 use Rattle.calls.proofs.distance.distance.Statement.{statement}
 use Rattle.calls.proofs.distance.distance.Tie as tie
 
 measure-requires : tie.Need-measure-requires
 measure-requires c κs =
-    let at-enum-told = c .before .before .before .before .before in
-    let at-pass-gate = at-enum-told .before .before .before .before .before .before .before .before .before .before .before .before in
+    let at-enum-told = c .before .before .before .before .before .before in
+    let at-pass-gate = at-enum-told .before .before .before .before .before .before .before .before .before .before .before .before .before .before in
     open-measurable _ _ _ _ (ap gateRefusal (sym (at-enum-told .enum-told .given .1)) ∙ at-pass-gate .pass-gate .ensures .0) (at-pass-gate .pass-gate .ensures .1)
 
 returns : tie.Need-returns
 returns c =
-    let at-measure = c .before .before .before .before .before .before .before .before .before .before in
-    let at-enum-told = at-measure .before .before .before .before .before .before in
-    let at-pass-gate = at-enum-told .before .before .before .before .before .before .before .before .before .before .before .before in
-    open-answers _ _ _ _ (ap gateRefusal (sym (at-enum-told .enum-told .given .1)) ∙ at-pass-gate .pass-gate .ensures .0) (at-pass-gate .pass-gate .ensures .1) _ _ _ _ (at-measure .measure .ensures .0) (at-measure .measure .ensures .1 _ _ _)
+    let at-measure = c .before .before .before .before .before .before .before .before .before .before .before .before in
+    let at-enum-told = at-measure .before .before .before .before .before .before .before in
+    let at-pass-gate = at-enum-told .before .before .before .before .before .before .before .before .before .before .before .before .before .before in
+    open-answers _ _ _ _ (ap gateRefusal (sym (at-enum-told .enum-told .given .1)) ∙ at-pass-gate .pass-gate .ensures .0) (at-pass-gate .pass-gate .ensures .1) _ _ _ _ (at-measure .measure .ensures .0) (at-measure .measure .ensures .1 _ _ _ _)
 
 returns-2 : tie.Need-returns-2
 unfolding registerFor lentSlice lentTo
 returns-2 c =
-    let at-pass-gate = c .before .before .before .before .before .before .before .before .before .before .before .before .before in
+    let at-pass-gate = c .before .before .before .before .before .before .before .before .before .before .before .before .before .before .before in
     query-refused (measures _ _) _ refl _ _ (ap gateRefusal (sym (c .before .passed .given .1)) ∙ at-pass-gate .pass-gate .ensures .0) (at-pass-gate .pass-gate .ensures .1)
 
 -- the needs in the order of the code
@@ -40,7 +40,9 @@ distance-spec =
     (λ c. search needs)
     (λ c. search needs)
     (λ c. search needs)
+    (λ c. search needs)
     returns
+    (λ c. search needs)
     (λ c. search needs)
     (λ c. search needs)
     (λ c. search needs)

@@ -1,25 +1,24 @@
-use mathlib.Core.Path.{refl, sym, ap, _∙_}
-use Rattle.model.specs.Calls.{finds, registerFor, lentSlice, lentTo}
-use Rattle.admission.specs.Gate.{gateRefusal}
-use Rattle.questions.proofs.AnswerLaws.{find-answers}
-use Rattle.calls.proofs.QueryLaws.{query-refused}
 use Rattle.calls.proofs.ScratchLaws.{find-answered}
+use Rattle.calls.proofs.QueryLaws.{query-refused}
+use Rattle.questions.proofs.AnswerLaws.{find-answers}
+use Rattle.admission.specs.Gate.{gateRefusal}
+use Rattle.model.specs.Calls.{finds, registerFor, lentSlice, lentTo}
+use mathlib.Core.Path.{refl, sym, ap, _∙_}
 use borrow.Author.Needs.{needs}
 use Rattle.calls.proofs.find.find.Statement.{statement}
 use Rattle.calls.proofs.find.find.Tie as tie
 
 returns : tie.Need-returns
 returns c =
-    let at-find-cleared = c .before .before in
-    let at-enum-told = at-find-cleared .before .before in
-    let at-pass-gate = at-enum-told .before .before .before .before .before .before .before .before .before .before .before .before in
+    let at-enum-told = c .before .before .before .before in
+    let at-pass-gate = at-enum-told .before .before .before .before .before .before .before .before .before .before .before .before .before .before in
     find-answered _ _ _ _ (ap gateRefusal (sym (at-enum-told .enum-told .given .1)) ∙ at-pass-gate .pass-gate .ensures .0) (at-pass-gate .pass-gate .ensures .1) _ _ _
-    (λ l. find-answers _ _ _ _ _ l (at-find-cleared .find-cleared .ensures .0 _)) (at-find-cleared .find-cleared .ensures .1)
+    (λ l. find-answers _ _ _ _ _ l (c .before .before .find-cleared .ensures .0 _ _)) (c .before .before .find-cleared .ensures .1)
 
 returns-2 : tie.Need-returns-2
 unfolding registerFor lentSlice lentTo
 returns-2 c =
-    let at-pass-gate = c .before .before .before .before .before .before .before .before .before .before .before .before .before in
+    let at-pass-gate = c .before .before .before .before .before .before .before .before .before .before .before .before .before .before .before in
     query-refused (finds _) _ refl _ _ (ap gateRefusal (sym (c .before .passed .given .1)) ∙ at-pass-gate .pass-gate .ensures .0) (at-pass-gate .pass-gate .ensures .1)
 
 -- the needs in the order of the code
@@ -36,7 +35,9 @@ find-spec =
     (λ c. search needs)
     (λ c. search needs)
     (λ c. search needs)
+    (λ c. search needs)
     returns
+    (λ c. search needs)
     (λ c. search needs)
     (λ c. search needs)
     (λ c. search needs)

@@ -66,20 +66,20 @@ use Rattle.calls.proofs.grow.grow_from.Code as code
 abbrev stayed : Stays (own.ended .signature .params) (own.ended .kept)
 stayed = all-passed (own.ended .signature .params) (own.ended .kept)
 
--- where local i lies in the context, where s entries stand before the locals: 36 is the number of the last local (`rt mir`)
+-- where local i lies in the context, where s entries stand before the locals: 42 is the number of the last local (`rt mir`)
 abbrev at : ℕ → ℕ → ℕ
-at i s = 2 * (36 - i) + s
+at i s = 2 * (42 - i) + s
 
 -- the contract that the proof cites
 abbrev Callee : {M : Type 1} (𝓤 : URA M) (H : Heap 𝓤) (A : Atoms 𝓤) (mem : Memory → SProp 𝓤) (run : Routine → Fun 𝓤) → Contract 𝓤
 Callee 𝓤 H A mem run = tripleOf 𝓤 H A callee.signature (callee.spec 𝓤 H A mem run)
 
-module _ {M : Type 1} (𝓤 : URA M) (H : Heap 𝓤) (A : Atoms 𝓤) (W : Given 𝓤 H A) (at-mem : Memory → SProp 𝓤) (run : Routine → Fun 𝓤) (κs : Lfts 11) (qs : Shares 11) (bounds : AllOutlive 11 (own.signature .outlives) κs) (a : Args own.signature κs) where
+module _ {M : Type 1} (𝓤 : URA M) (H : Heap 𝓤) (A : Atoms 𝓤) (W : Given 𝓤 H A) (at-mem : Memory → SProp 𝓤) (run : Routine → Fun 𝓤) (κs : Lfts 13) (qs : Shares 13) (bounds : AllOutlive 13 (own.signature .outlives) κs) (a : Args own.signature κs) where
   abbrev mach : Counts → Val
   mach c = LL.val T.the-type T′.the-laws c
 
   abbrev vals : Vals own.signature κs
-  vals = (mach (a .0) ∷ [], (slice-vals (a .1 .0), (slice-vals (a .1 .1 .0), (slice-vals (a .1 .1 .1 .0), (slice-vals (a .1 .1 .1 .1 .0), (slice-vals (a .1 .1 .1 .1 .1 .0), (slice-vals (a .1 .1 .1 .1 .1 .1 .0), (slice-vals (a .1 .1 .1 .1 .1 .1 .1 .0), (slice-vals (a .1 .1 .1 .1 .1 .1 .1 .1 .0), (slice-vals (a .1 .1 .1 .1 .1 .1 .1 .1 .1 .0), (slice-vals (a .1 .1 .1 .1 .1 .1 .1 .1 .1 .1 .0), (slice-vals (a .1 .1 .1 .1 .1 .1 .1 .1 .1 .1 .1 .0), tt))))))))))))
+  vals = (mach (a .0) ∷ [], (slice-vals (a .1 .0), (slice-vals (a .1 .1 .0), (slice-vals (a .1 .1 .1 .0), (slice-vals (a .1 .1 .1 .1 .0), (slice-vals (a .1 .1 .1 .1 .1 .0), (slice-vals (a .1 .1 .1 .1 .1 .1 .0), (slice-vals (a .1 .1 .1 .1 .1 .1 .1 .0), (slice-vals (a .1 .1 .1 .1 .1 .1 .1 .1 .0), (slice-vals (a .1 .1 .1 .1 .1 .1 .1 .1 .1 .0), (slice-vals (a .1 .1 .1 .1 .1 .1 .1 .1 .1 .1 .0), (slice-vals (a .1 .1 .1 .1 .1 .1 .1 .1 .1 .1 .1 .0), (slice-vals (a .1 .1 .1 .1 .1 .1 .1 .1 .1 .1 .1 .1 .0), (slice-vals (a .1 .1 .1 .1 .1 .1 .1 .1 .1 .1 .1 .1 .1 .0), tt))))))))))))))
 
   abbrev Post : Val → SProp 𝓤
   Post = walkOf 𝓤 H A own.ended stayed (own.clauses 𝓤 H A at-mem run) .post ((κs, qs, bounds, a, vals), tt)
@@ -124,7 +124,7 @@ module _ {M : Type 1} (𝓤 : URA M) (H : Heap 𝓤) (A : Atoms 𝓤) (W : Given
     walk : Are (typesAt (own.signature .params) κs) (Ises (typesAt (own.signature .params) κs)) a vals → ent 𝓤 (onEntry 𝓤 H A own.signature κs qs a vals) (WpFn 𝓤 H C Λ code.function (flat (typesAt (own.signature .params) κs) vals) Post)
     walk are =
         qed W (raw Toks ∷ ‵ (owns (typesAt (own.signature .params) κs) a vals) ∷ []) ∵ enter ! C Λ code.function (flat (typesAt (own.signature .params) κs) vals) _ $
-        alloc1 ! (λ l₀. alloc1 ! (λ l₁. alloc1 ! (λ l₂. alloc1 ! (λ l₃. alloc1 ! (λ l₄. alloc1 ! (λ l₅. alloc1 ! (λ l₆. alloc1 ! (λ l₇. alloc1 ! (λ l₈. alloc1 ! (λ l₉. alloc1 ! (λ l₁₀. alloc1 ! (λ l₁₁. alloc1 ! (λ l₁₂. alloc1 ! (λ l₁₃. alloc1 ! (λ l₁₄. alloc1 ! (λ l₁₅. alloc1 ! (λ l₁₆. alloc1 ! (λ l₁₇. alloc1 ! (λ l₁₈. alloc1 ! (λ l₁₉. alloc1 ! (λ l₂₀. alloc1 ! (λ l₂₁. alloc1 ! (λ l₂₂. alloc1 ! (λ l₂₃. alloc1 ! (λ l₂₄. alloc1 ! (λ l₂₅. alloc1 ! (λ l₂₆. alloc1 ! (λ l₂₇. alloc1 ! (λ l₂₈. alloc1 ! (λ l₂₉. alloc1 ! (λ l₃₀. alloc1 ! (λ l₃₁. alloc1 ! (λ l₃₂. alloc1 ! (λ l₃₃. alloc1 ! (λ l₃₄. alloc1 ! (λ l₃₅. alloc1 ! (λ l₃₆. alloc0 ! $ params1 ! $
+        alloc1 ! (λ l₀. alloc1 ! (λ l₁. alloc1 ! (λ l₂. alloc1 ! (λ l₃. alloc1 ! (λ l₄. alloc1 ! (λ l₅. alloc1 ! (λ l₆. alloc1 ! (λ l₇. alloc1 ! (λ l₈. alloc1 ! (λ l₉. alloc1 ! (λ l₁₀. alloc1 ! (λ l₁₁. alloc1 ! (λ l₁₂. alloc1 ! (λ l₁₃. alloc1 ! (λ l₁₄. alloc1 ! (λ l₁₅. alloc1 ! (λ l₁₆. alloc1 ! (λ l₁₇. alloc1 ! (λ l₁₈. alloc1 ! (λ l₁₉. alloc1 ! (λ l₂₀. alloc1 ! (λ l₂₁. alloc1 ! (λ l₂₂. alloc1 ! (λ l₂₃. alloc1 ! (λ l₂₄. alloc1 ! (λ l₂₅. alloc1 ! (λ l₂₆. alloc1 ! (λ l₂₇. alloc1 ! (λ l₂₈. alloc1 ! (λ l₂₉. alloc1 ! (λ l₃₀. alloc1 ! (λ l₃₁. alloc1 ! (λ l₃₂. alloc1 ! (λ l₃₃. alloc1 ! (λ l₃₄. alloc1 ! (λ l₃₅. alloc1 ! (λ l₃₆. alloc1 ! (λ l₃₇. alloc1 ! (λ l₃₈. alloc1 ! (λ l₃₉. alloc1 ! (λ l₄₀. alloc1 ! (λ l₄₁. alloc1 ! (λ l₄₂. alloc0 ! $ params1 ! $
         pass1 ! (init ! (at 1 0) refl (LL.lawful T.the-type T′.the-laws 𝓤 H A W .typed (a .0) _ (are .0) .0)) $
         pass1 ! (init ! (at 2 0) refl (tt, (tt, (record { fits = are .1 .0 .0 .1 .0 }, tt)))) $
         pass1 ! (init ! (at 3 0) refl (tt, (tt, (record { fits = are .1 .1 .0 .0 .1 .0 }, tt)))) $
@@ -137,77 +137,84 @@ module _ {M : Type 1} (𝓤 : URA M) (H : Heap 𝓤) (A : Atoms 𝓤) (W : Given
         pass1 ! (init ! (at 10 0) refl (tt, (tt, (record { fits = are .1 .1 .1 .1 .1 .1 .1 .1 .1 .0 .0 .1 .0 }, tt)))) $
         pass1 ! (init ! (at 11 0) refl (tt, (tt, (record { fits = are .1 .1 .1 .1 .1 .1 .1 .1 .1 .1 .0 .0 .1 .0 }, tt)))) $
         pass1 ! (init ! (at 12 0) refl (tt, (tt, (record { fits = are .1 .1 .1 .1 .1 .1 .1 .1 .1 .1 .1 .0 .0 .1 .0 }, tt)))) $
+        pass1 ! (init ! (at 13 0) refl (tt, (tt, (record { fits = are .1 .1 .1 .1 .1 .1 .1 .1 .1 .1 .1 .1 .0 .0 .1 .0 }, tt)))) $
+        pass1 ! (init ! (at 14 0) refl (tt, (tt, (record { fits = are .1 .1 .1 .1 .1 .1 .1 .1 .1 .1 .1 .1 .1 .0 .0 .1 .0 }, tt)))) $
         pass0 ! $
         move ! ((at 0 3) ∷ []) $ fsplit ! $ move ! (0 ∷ 1 ∷ (at 0 4) ∷ []) $
         -- [what the counts own; what the slices own; their tokens; the locals from the last to _0, each with its …]
-        assigns ! (of-opd ! (load ! (from ! (stop !)) (look ! (at 1 3) refl))) (from ! (stop !)) (init ! (at 13 3) refl (LL.lawful T.the-type T′.the-laws 𝓤 H A W .typed (a .0) _ (are .0) .0)) $
-        assigns ! (addr ! (from ! (stop !))) (from ! (stop !)) (init ! (at 15 3) refl (tt, tt)) $
-        assigns ! (addr ! (from ! (fld ! refl (hop ! (look-in ! (at 2 3) (sub ! 0 refl (whole !))) (stop !))))) (from ! (stop !)) (init ! (at 16 3) refl (tt, tt)) $
-        assigns ! (agg ! (and-then ! (load ! (from ! (stop !)) (look ! (at 16 3) refl)) (and-then ! (load ! (from ! (fld ! refl (stop !))) (look-in ! (at 2 3) (sub ! 1 refl (whole !)))) (no-more !)))) (from ! (stop !)) (init ! (at 17 3) refl (tt, (tt, (record { fits = are .1 .0 .0 .1 .0 }, tt)))) $
-        assigns ! (addr ! (from ! (fld ! refl (hop ! (look-in ! (at 3 3) (sub ! 0 refl (whole !))) (stop !))))) (from ! (stop !)) (init ! (at 18 3) refl (tt, tt)) $
-        assigns ! (agg ! (and-then ! (load ! (from ! (stop !)) (look ! (at 18 3) refl)) (and-then ! (load ! (from ! (fld ! refl (stop !))) (look-in ! (at 3 3) (sub ! 1 refl (whole !)))) (no-more !)))) (from ! (stop !)) (init ! (at 19 3) refl (tt, (tt, (record { fits = are .1 .1 .0 .0 .1 .0 }, tt)))) $
-        assigns ! (addr ! (from ! (fld ! refl (hop ! (look-in ! (at 4 3) (sub ! 0 refl (whole !))) (stop !))))) (from ! (stop !)) (init ! (at 20 3) refl (tt, tt)) $
-        assigns ! (agg ! (and-then ! (load ! (from ! (stop !)) (look ! (at 20 3) refl)) (and-then ! (load ! (from ! (fld ! refl (stop !))) (look-in ! (at 4 3) (sub ! 1 refl (whole !)))) (no-more !)))) (from ! (stop !)) (init ! (at 21 3) refl (tt, (tt, (record { fits = are .1 .1 .1 .0 .0 .1 .0 }, tt)))) $
-        assigns ! (addr ! (from ! (fld ! refl (hop ! (look-in ! (at 5 3) (sub ! 0 refl (whole !))) (stop !))))) (from ! (stop !)) (init ! (at 22 3) refl (tt, tt)) $
-        assigns ! (agg ! (and-then ! (load ! (from ! (stop !)) (look ! (at 22 3) refl)) (and-then ! (load ! (from ! (fld ! refl (stop !))) (look-in ! (at 5 3) (sub ! 1 refl (whole !)))) (no-more !)))) (from ! (stop !)) (init ! (at 23 3) refl (tt, (tt, (record { fits = are .1 .1 .1 .1 .0 .0 .1 .0 }, tt)))) $
-        assigns ! (addr ! (from ! (fld ! refl (hop ! (look-in ! (at 6 3) (sub ! 0 refl (whole !))) (stop !))))) (from ! (stop !)) (init ! (at 24 3) refl (tt, tt)) $
-        assigns ! (agg ! (and-then ! (load ! (from ! (stop !)) (look ! (at 24 3) refl)) (and-then ! (load ! (from ! (fld ! refl (stop !))) (look-in ! (at 6 3) (sub ! 1 refl (whole !)))) (no-more !)))) (from ! (stop !)) (init ! (at 25 3) refl (tt, (tt, (record { fits = are .1 .1 .1 .1 .1 .0 .0 .1 .0 }, tt)))) $
-        assigns ! (addr ! (from ! (fld ! refl (hop ! (look-in ! (at 7 3) (sub ! 0 refl (whole !))) (stop !))))) (from ! (stop !)) (init ! (at 26 3) refl (tt, tt)) $
-        assigns ! (agg ! (and-then ! (load ! (from ! (stop !)) (look ! (at 26 3) refl)) (and-then ! (load ! (from ! (fld ! refl (stop !))) (look-in ! (at 7 3) (sub ! 1 refl (whole !)))) (no-more !)))) (from ! (stop !)) (init ! (at 27 3) refl (tt, (tt, (record { fits = are .1 .1 .1 .1 .1 .1 .0 .0 .1 .0 }, tt)))) $
-        assigns ! (addr ! (from ! (fld ! refl (hop ! (look-in ! (at 8 3) (sub ! 0 refl (whole !))) (stop !))))) (from ! (stop !)) (init ! (at 28 3) refl (tt, tt)) $
-        assigns ! (agg ! (and-then ! (load ! (from ! (stop !)) (look ! (at 28 3) refl)) (and-then ! (load ! (from ! (fld ! refl (stop !))) (look-in ! (at 8 3) (sub ! 1 refl (whole !)))) (no-more !)))) (from ! (stop !)) (init ! (at 29 3) refl (tt, (tt, (record { fits = are .1 .1 .1 .1 .1 .1 .1 .0 .0 .1 .0 }, tt)))) $
-        assigns ! (addr ! (from ! (fld ! refl (hop ! (look-in ! (at 9 3) (sub ! 0 refl (whole !))) (stop !))))) (from ! (stop !)) (init ! (at 30 3) refl (tt, tt)) $
-        assigns ! (agg ! (and-then ! (load ! (from ! (stop !)) (look ! (at 30 3) refl)) (and-then ! (load ! (from ! (fld ! refl (stop !))) (look-in ! (at 9 3) (sub ! 1 refl (whole !)))) (no-more !)))) (from ! (stop !)) (init ! (at 31 3) refl (tt, (tt, (record { fits = are .1 .1 .1 .1 .1 .1 .1 .1 .0 .0 .1 .0 }, tt)))) $
-        assigns ! (addr ! (from ! (fld ! refl (hop ! (look-in ! (at 10 3) (sub ! 0 refl (whole !))) (stop !))))) (from ! (stop !)) (init ! (at 32 3) refl (tt, tt)) $
-        assigns ! (agg ! (and-then ! (load ! (from ! (stop !)) (look ! (at 32 3) refl)) (and-then ! (load ! (from ! (fld ! refl (stop !))) (look-in ! (at 10 3) (sub ! 1 refl (whole !)))) (no-more !)))) (from ! (stop !)) (init ! (at 33 3) refl (tt, (tt, (record { fits = are .1 .1 .1 .1 .1 .1 .1 .1 .1 .0 .0 .1 .0 }, tt)))) $
-        assigns ! (addr ! (from ! (fld ! refl (hop ! (look-in ! (at 11 3) (sub ! 0 refl (whole !))) (stop !))))) (from ! (stop !)) (init ! (at 34 3) refl (tt, tt)) $
-        assigns ! (agg ! (and-then ! (load ! (from ! (stop !)) (look ! (at 34 3) refl)) (and-then ! (load ! (from ! (fld ! refl (stop !))) (look-in ! (at 11 3) (sub ! 1 refl (whole !)))) (no-more !)))) (from ! (stop !)) (init ! (at 35 3) refl (tt, (tt, (record { fits = are .1 .1 .1 .1 .1 .1 .1 .1 .1 .1 .0 .0 .1 .0 }, tt)))) $
+        assigns ! (of-opd ! (load ! (from ! (stop !)) (look ! (at 1 3) refl))) (from ! (stop !)) (init ! (at 15 3) refl (LL.lawful T.the-type T′.the-laws 𝓤 H A W .typed (a .0) _ (are .0) .0)) $
+        assigns ! (addr ! (from ! (stop !))) (from ! (stop !)) (init ! (at 17 3) refl (tt, tt)) $
+        assigns ! (addr ! (from ! (fld ! refl (hop ! (look-in ! (at 2 3) (sub ! 0 refl (whole !))) (stop !))))) (from ! (stop !)) (init ! (at 18 3) refl (tt, tt)) $
+        assigns ! (agg ! (and-then ! (load ! (from ! (stop !)) (look ! (at 18 3) refl)) (and-then ! (load ! (from ! (fld ! refl (stop !))) (look-in ! (at 2 3) (sub ! 1 refl (whole !)))) (no-more !)))) (from ! (stop !)) (init ! (at 19 3) refl (tt, (tt, (record { fits = are .1 .0 .0 .1 .0 }, tt)))) $
+        assigns ! (addr ! (from ! (fld ! refl (hop ! (look-in ! (at 3 3) (sub ! 0 refl (whole !))) (stop !))))) (from ! (stop !)) (init ! (at 20 3) refl (tt, tt)) $
+        assigns ! (agg ! (and-then ! (load ! (from ! (stop !)) (look ! (at 20 3) refl)) (and-then ! (load ! (from ! (fld ! refl (stop !))) (look-in ! (at 3 3) (sub ! 1 refl (whole !)))) (no-more !)))) (from ! (stop !)) (init ! (at 21 3) refl (tt, (tt, (record { fits = are .1 .1 .0 .0 .1 .0 }, tt)))) $
+        assigns ! (addr ! (from ! (fld ! refl (hop ! (look-in ! (at 4 3) (sub ! 0 refl (whole !))) (stop !))))) (from ! (stop !)) (init ! (at 22 3) refl (tt, tt)) $
+        assigns ! (agg ! (and-then ! (load ! (from ! (stop !)) (look ! (at 22 3) refl)) (and-then ! (load ! (from ! (fld ! refl (stop !))) (look-in ! (at 4 3) (sub ! 1 refl (whole !)))) (no-more !)))) (from ! (stop !)) (init ! (at 23 3) refl (tt, (tt, (record { fits = are .1 .1 .1 .0 .0 .1 .0 }, tt)))) $
+        assigns ! (addr ! (from ! (fld ! refl (hop ! (look-in ! (at 5 3) (sub ! 0 refl (whole !))) (stop !))))) (from ! (stop !)) (init ! (at 24 3) refl (tt, tt)) $
+        assigns ! (agg ! (and-then ! (load ! (from ! (stop !)) (look ! (at 24 3) refl)) (and-then ! (load ! (from ! (fld ! refl (stop !))) (look-in ! (at 5 3) (sub ! 1 refl (whole !)))) (no-more !)))) (from ! (stop !)) (init ! (at 25 3) refl (tt, (tt, (record { fits = are .1 .1 .1 .1 .0 .0 .1 .0 }, tt)))) $
+        assigns ! (addr ! (from ! (fld ! refl (hop ! (look-in ! (at 6 3) (sub ! 0 refl (whole !))) (stop !))))) (from ! (stop !)) (init ! (at 26 3) refl (tt, tt)) $
+        assigns ! (agg ! (and-then ! (load ! (from ! (stop !)) (look ! (at 26 3) refl)) (and-then ! (load ! (from ! (fld ! refl (stop !))) (look-in ! (at 6 3) (sub ! 1 refl (whole !)))) (no-more !)))) (from ! (stop !)) (init ! (at 27 3) refl (tt, (tt, (record { fits = are .1 .1 .1 .1 .1 .0 .0 .1 .0 }, tt)))) $
+        assigns ! (addr ! (from ! (fld ! refl (hop ! (look-in ! (at 7 3) (sub ! 0 refl (whole !))) (stop !))))) (from ! (stop !)) (init ! (at 28 3) refl (tt, tt)) $
+        assigns ! (agg ! (and-then ! (load ! (from ! (stop !)) (look ! (at 28 3) refl)) (and-then ! (load ! (from ! (fld ! refl (stop !))) (look-in ! (at 7 3) (sub ! 1 refl (whole !)))) (no-more !)))) (from ! (stop !)) (init ! (at 29 3) refl (tt, (tt, (record { fits = are .1 .1 .1 .1 .1 .1 .0 .0 .1 .0 }, tt)))) $
+        assigns ! (addr ! (from ! (fld ! refl (hop ! (look-in ! (at 8 3) (sub ! 0 refl (whole !))) (stop !))))) (from ! (stop !)) (init ! (at 30 3) refl (tt, tt)) $
+        assigns ! (agg ! (and-then ! (load ! (from ! (stop !)) (look ! (at 30 3) refl)) (and-then ! (load ! (from ! (fld ! refl (stop !))) (look-in ! (at 8 3) (sub ! 1 refl (whole !)))) (no-more !)))) (from ! (stop !)) (init ! (at 31 3) refl (tt, (tt, (record { fits = are .1 .1 .1 .1 .1 .1 .1 .0 .0 .1 .0 }, tt)))) $
+        assigns ! (addr ! (from ! (fld ! refl (hop ! (look-in ! (at 9 3) (sub ! 0 refl (whole !))) (stop !))))) (from ! (stop !)) (init ! (at 32 3) refl (tt, tt)) $
+        assigns ! (agg ! (and-then ! (load ! (from ! (stop !)) (look ! (at 32 3) refl)) (and-then ! (load ! (from ! (fld ! refl (stop !))) (look-in ! (at 9 3) (sub ! 1 refl (whole !)))) (no-more !)))) (from ! (stop !)) (init ! (at 33 3) refl (tt, (tt, (record { fits = are .1 .1 .1 .1 .1 .1 .1 .1 .0 .0 .1 .0 }, tt)))) $
+        assigns ! (addr ! (from ! (fld ! refl (hop ! (look-in ! (at 10 3) (sub ! 0 refl (whole !))) (stop !))))) (from ! (stop !)) (init ! (at 34 3) refl (tt, tt)) $
+        assigns ! (agg ! (and-then ! (load ! (from ! (stop !)) (look ! (at 34 3) refl)) (and-then ! (load ! (from ! (fld ! refl (stop !))) (look-in ! (at 10 3) (sub ! 1 refl (whole !)))) (no-more !)))) (from ! (stop !)) (init ! (at 35 3) refl (tt, (tt, (record { fits = are .1 .1 .1 .1 .1 .1 .1 .1 .1 .0 .0 .1 .0 }, tt)))) $
+        assigns ! (addr ! (from ! (fld ! refl (hop ! (look-in ! (at 11 3) (sub ! 0 refl (whole !))) (stop !))))) (from ! (stop !)) (init ! (at 36 3) refl (tt, tt)) $
+        assigns ! (agg ! (and-then ! (load ! (from ! (stop !)) (look ! (at 36 3) refl)) (and-then ! (load ! (from ! (fld ! refl (stop !))) (look-in ! (at 11 3) (sub ! 1 refl (whole !)))) (no-more !)))) (from ! (stop !)) (init ! (at 37 3) refl (tt, (tt, (record { fits = are .1 .1 .1 .1 .1 .1 .1 .1 .1 .1 .0 .0 .1 .0 }, tt)))) $
+        assigns ! (addr ! (from ! (fld ! refl (hop ! (look-in ! (at 12 3) (sub ! 0 refl (whole !))) (stop !))))) (from ! (stop !)) (init ! (at 38 3) refl (tt, tt)) $
+        assigns ! (agg ! (and-then ! (load ! (from ! (stop !)) (look ! (at 38 3) refl)) (and-then ! (load ! (from ! (fld ! refl (stop !))) (look-in ! (at 12 3) (sub ! 1 refl (whole !)))) (no-more !)))) (from ! (stop !)) (init ! (at 39 3) refl (tt, (tt, (record { fits = are .1 .1 .1 .1 .1 .1 .1 .1 .1 .1 .1 .0 .0 .1 .0 }, tt)))) $
+        assigns ! (addr ! (from ! (fld ! refl (hop ! (look-in ! (at 13 3) (sub ! 0 refl (whole !))) (stop !))))) (from ! (stop !)) (init ! (at 40 3) refl (tt, tt)) $
+        assigns ! (agg ! (and-then ! (load ! (from ! (stop !)) (look ! (at 40 3) refl)) (and-then ! (load ! (from ! (fld ! refl (stop !))) (look-in ! (at 13 3) (sub ! 1 refl (whole !)))) (no-more !)))) (from ! (stop !)) (init ! (at 41 3) refl (tt, (tt, (record { fits = are .1 .1 .1 .1 .1 .1 .1 .1 .1 .1 .1 .1 .0 .0 .1 .0 }, tt)))) $
         -- the local is lent for a lifetime ν that is made for the call
-        move ! ((at 13 3) ∷ 0 ∷ []) $ use1 W (‵ (cellAt fullShare (T.the-row .mir) (mach (a .0) ∷ []) l₁₃ 0)) (W .laws .at-raw fullShare T′.mir l₁₃ 0 (mach (a .0))) $ use2 W (‵ (mem T.the-row .lies (a .0) l₁₃ 0)) (lies-in 𝓤 H A W T.the-row (a .0) (mach (a .0) ∷ []) l₁₃ 0) $
-        lft-new ! tt (λ ν. move ! (1 ∷ []) $ use1 W (later (some (λ (γ : GName). ‵ (MutRef (named 0) (ν ∷ []) T.the-row .own (lent l₁₃ γ) (vptr l₁₃ 0 ∷ [])) ⊛ ‵ (flent (ν ∷ []) (Body (mem T.the-row) l₁₃ 0 γ))))) (lends-ref 𝓤 H A W T.the-row (named 0) (ν ∷ []) (a .0) l₁₃ 0) $ await ! tt $ pick ! (λ γ. split ! $
+        move ! ((at 15 3) ∷ 0 ∷ []) $ use1 W (‵ (cellAt fullShare (T.the-row .mir) (mach (a .0) ∷ []) l₁₅ 0)) (W .laws .at-raw fullShare T′.mir l₁₅ 0 (mach (a .0))) $ use2 W (‵ (mem T.the-row .lies (a .0) l₁₅ 0)) (lies-in 𝓤 H A W T.the-row (a .0) (mach (a .0) ∷ []) l₁₅ 0) $
+        lft-new ! tt (λ ν. move ! (1 ∷ []) $ use1 W (later (some (λ (γ : GName). ‵ (MutRef (named 0) (ν ∷ []) T.the-row .own (lent l₁₅ γ) (vptr l₁₅ 0 ∷ [])) ⊛ ‵ (flent (ν ∷ []) (Body (mem T.the-row) l₁₅ 0 γ))))) (lends-ref 𝓤 H A W T.the-row (named 0) (ν ∷ []) (a .0) l₁₅ 0) $ await ! tt $ pick ! (λ γ. split ! $
         -- [the new borrow; the lender's part; ν's token; what the slices own; their tokens; the locals, less the counts' cell]
-        move ! (2 ∷ 4 ∷ 0 ∷ 3 ∷ []) $ join ! $ move ! (1 ∷ 2 ∷ []) $ fjoin ! $ use2 W (raw (Callee 𝓤 H A at-mem run .pre (to l₁₃ ν γ))) (goes l₁₃ ν γ) $
-        calls-at ! fm (Callee 𝓤 H A at-mem run) known (to l₁₃ ν γ) (and-then ! (load ! (from ! (stop !)) (look ! (at 15 2) refl)) (and-then ! (load ! (from ! (stop !)) (look ! (at 17 2) refl)) (and-then ! (load ! (from ! (stop !)) (look ! (at 19 2) refl)) (and-then ! (load ! (from ! (stop !)) (look ! (at 21 2) refl)) (and-then ! (load ! (from ! (stop !)) (look ! (at 23 2) refl)) (and-then ! (load ! (from ! (stop !)) (look ! (at 25 2) refl)) (and-then ! (load ! (from ! (stop !)) (look ! (at 27 2) refl)) (and-then ! (load ! (from ! (stop !)) (look ! (at 29 2) refl)) (and-then ! (load ! (from ! (stop !)) (look ! (at 31 2) refl)) (and-then ! (load ! (from ! (stop !)) (look ! (at 33 2) refl)) (and-then ! (load ! (from ! (stop !)) (look ! (at 35 2) refl)) (and-then ! (load ! (from ! (stop !)) (look ! (at 12 1) refl)) (no-more !))))))))))))) (λ w.
-        use1 W (later (some (λ (x : ListAnswer). ((‵ (flft (ν ∷ []) fullShare) ⊛ raw Toks) ⊛ ‵ (O.the-row .own x (w ∷ []))) ⊛ raw (ensured 𝓤 H A callee.ended (callee.clauses 𝓤 H A at-mem run) (ν ∷ [], κs) (given-args l₁₃ γ) tt x)))) (id⊢ 𝓤 _) $ await ! tt $ pick ! (λ x.
-        split ! $ move ! (1 ∷ []) $ use1 W (some (λ (zs : Lasts callee.ended (ν ∷ [], κs) (given-args l₁₃ γ)). ‵ (lasts callee.ended (ν ∷ [], κs) (given-args l₁₃ γ) zs) ⊛ raw (Clause l₁₃ ν γ x zs))) (id⊢ 𝓤 _) $ pick ! (λ zs.
+        move ! (2 ∷ 4 ∷ 0 ∷ 3 ∷ []) $ join ! $ move ! (1 ∷ 2 ∷ []) $ fjoin ! $ use2 W (raw (Callee 𝓤 H A at-mem run .pre (to l₁₅ ν γ))) (goes l₁₅ ν γ) $
+        calls-at ! fm (Callee 𝓤 H A at-mem run) known (to l₁₅ ν γ) (and-then ! (load ! (from ! (stop !)) (look ! (at 17 2) refl)) (and-then ! (load ! (from ! (stop !)) (look ! (at 19 2) refl)) (and-then ! (load ! (from ! (stop !)) (look ! (at 21 2) refl)) (and-then ! (load ! (from ! (stop !)) (look ! (at 23 2) refl)) (and-then ! (load ! (from ! (stop !)) (look ! (at 25 2) refl)) (and-then ! (load ! (from ! (stop !)) (look ! (at 27 2) refl)) (and-then ! (load ! (from ! (stop !)) (look ! (at 29 2) refl)) (and-then ! (load ! (from ! (stop !)) (look ! (at 31 2) refl)) (and-then ! (load ! (from ! (stop !)) (look ! (at 33 2) refl)) (and-then ! (load ! (from ! (stop !)) (look ! (at 35 2) refl)) (and-then ! (load ! (from ! (stop !)) (look ! (at 37 2) refl)) (and-then ! (load ! (from ! (stop !)) (look ! (at 39 2) refl)) (and-then ! (load ! (from ! (stop !)) (look ! (at 41 2) refl)) (and-then ! (load ! (from ! (stop !)) (look ! (at 14 1) refl)) (no-more !))))))))))))))) (λ w.
+        use1 W (later (some (λ (x : ListAnswer). ((‵ (flft (ν ∷ []) fullShare) ⊛ raw Toks) ⊛ ‵ (O.the-row .own x (w ∷ []))) ⊛ raw (ensured 𝓤 H A callee.ended (callee.clauses 𝓤 H A at-mem run) (ν ∷ [], κs) (given-args l₁₅ γ) tt x)))) (id⊢ 𝓤 _) $ await ! tt $ pick ! (λ x.
+        split ! $ move ! (1 ∷ []) $ use1 W (some (λ (zs : Lasts callee.ended (ν ∷ [], κs) (given-args l₁₅ γ)). ‵ (lasts callee.ended (ν ∷ [], κs) (given-args l₁₅ γ) zs) ⊛ raw (Clause l₁₅ ν γ x zs))) (id⊢ 𝓤 _) $ pick ! (λ zs.
         split ! $ move ! (1 ∷ []) $ heard ! _ (λ e. fsplit ! $ move ! (2 ∷ []) $ split ! $ move ! (1 ∷ []) $ peeks ! O.the-row (Is O.the-row) (shows 𝓤 H A O.the-row) x (w ∷ []) (λ is.
-        lands-in ! (from ! (stop !)) (init ! (at 14 5) refl (EL.lawful O.the-type O′.the-laws 𝓤 H A W tt .typed x _ is .0)) $
-        rewrite ! (at 14 5) (λ (u : Val). ‵ (fat fullShare O′.mir l₁₄ 0 u)) (ap only (EL.tells O.the-type O′.the-laws x _ is)) refl $ rewrite ! 0 (λ (vs : List Val). ‵ (O.the-row .own x vs)) (EL.tells O.the-type O′.the-laws x _ is) refl $
+        lands-in ! (from ! (stop !)) (init ! (at 16 5) refl (EL.lawful O.the-type O′.the-laws 𝓤 H A W tt .typed x _ is .0)) $
+        rewrite ! (at 16 5) (λ (u : Val). ‵ (fat fullShare O′.mir l₁₆ 0 u)) (ap only (EL.tells O.the-type O′.the-laws x _ is)) refl $ rewrite ! 0 (λ (vs : List Val). ‵ (O.the-row .own x vs)) (EL.tells O.the-type O′.the-laws x _ is) refl $
         -- [what the outcome owns; the tokens; what says the last counts; what says the last lists; the lender's part; the locals]: ν is ended, and the local comes back
-        move ! (1 ∷ []) $ split ! $ lft-end ! tt $ move ! (0 ∷ 5 ∷ 3 ∷ []) $ use3 W (later (‵ (mem T.the-row .lies (zs .0) l₁₃ 0))) (ref-back 𝓤 H A W T.the-row (ν ∷ []) γ (zs .0) l₁₃ 0) $ await ! tt $
-        use1 W (some (λ (vs : List Val). ‵ (cellAt fullShare (T.the-row .mir) vs l₁₃ 0) ⊛ ‵ (T.the-row .own (zs .0) vs))) (lies-out 𝓤 H A W T.the-row (zs .0) l₁₃ 0) $ pick ! (λ vs. split ! $
-        spelt ! T.the-row (Is T.the-row) (shows 𝓤 H A T.the-row) (LL.vals T.the-type T′.the-laws) (LL.tells T.the-type T′.the-laws) fullShare (zs .0) vs l₁₃ 0 $ use1 W (‵ (fat fullShare T′.mir l₁₃ 0 (mach (zs .0)))) (W .laws .raw-at fullShare T′.mir l₁₃ 0 (mach (zs .0))) $
+        move ! (1 ∷ []) $ split ! $ lft-end ! tt $ move ! (0 ∷ 5 ∷ 3 ∷ []) $ use3 W (later (‵ (mem T.the-row .lies (zs .0) l₁₅ 0))) (ref-back 𝓤 H A W T.the-row (ν ∷ []) γ (zs .0) l₁₅ 0) $ await ! tt $
+        use1 W (some (λ (vs : List Val). ‵ (cellAt fullShare (T.the-row .mir) vs l₁₅ 0) ⊛ ‵ (T.the-row .own (zs .0) vs))) (lies-out 𝓤 H A W T.the-row (zs .0) l₁₅ 0) $ pick ! (λ vs. split ! $
+        spelt ! T.the-row (Is T.the-row) (shows 𝓤 H A T.the-row) (LL.vals T.the-type T′.the-laws) (LL.tells T.the-type T′.the-laws) fullShare (zs .0) vs l₁₅ 0 $ use1 W (‵ (fat fullShare T′.mir l₁₅ 0 (mach (zs .0)))) (W .laws .raw-at fullShare T′.mir l₁₅ 0 (mach (zs .0))) $
         move ! (1 ∷ []) $ peeks ! T.the-row (Is T.the-row) (shows 𝓤 H A T.the-row) (zs .0) (mach (zs .0) ∷ []) (λ was.
         -- [what the last counts own; their cell; the slices' tokens; what the outcome owns; what says the last lists; the locals]
-        assigns ! (of-opd ! (load ! (from ! (stop !)) (look ! 1 refl))) (from ! (stop !)) (init ! (at 36 5) refl (LL.lawful T.the-type T′.the-laws 𝓤 H A W .typed (zs .0) _ was .0)) $
-        assigns ! (agg ! (and-then ! (load ! (from ! (stop !)) (look ! (at 36 5) refl)) (and-then ! (load ! (from ! (stop !)) (look ! (at 14 5) refl)) (no-more !)))) (from ! (stop !)) (init ! (at 0 4) refl (LL.lawful L.the-type L′.the-laws 𝓤 H A W .typed (made x (zs .0)) _ (LL.owes L.the-type L′.the-laws (made x (zs .0)) (was, (sub-is x w is, tt))) .0)) $
+        assigns ! (of-opd ! (load ! (from ! (stop !)) (look ! 1 refl))) (from ! (stop !)) (init ! (at 42 5) refl (LL.lawful T.the-type T′.the-laws 𝓤 H A W .typed (zs .0) _ was .0)) $
+        assigns ! (agg ! (and-then ! (load ! (from ! (stop !)) (look ! (at 42 5) refl)) (and-then ! (load ! (from ! (stop !)) (look ! (at 16 5) refl)) (no-more !)))) (from ! (stop !)) (init ! (at 0 4) refl (LL.lawful L.the-type L′.the-laws 𝓤 H A W .typed (made x (zs .0)) _ (LL.owes L.the-type L′.the-laws (made x (zs .0)) (was, (sub-is x w is, tt))) .0)) $
         move ! (0 ∷ 3 ∷ []) $ use2 W (‵ (L.the-row .own (made x (zs .0)) (LL.vals L.the-type L′.the-laws (made x (zs .0))))) (puts x (zs .0)) $
         -- [what the result owns; the counts' cell; the slices' tokens; what says the last lists; the locals]
         returns ! (look ! (at 0 3) refl) $
         gone ! (at 0 3) refl refl $ gone ! (at 1 3) refl refl $ gone ! (at 2 3) refl refl $ gone ! (at 3 3) refl refl $ gone ! (at 4 3) refl refl $ gone ! (at 5 3) refl refl $
         gone ! (at 6 3) refl refl $ gone ! (at 7 3) refl refl $ gone ! (at 8 3) refl refl $ gone ! (at 9 3) refl refl $ gone ! (at 10 3) refl refl $ gone ! (at 11 3) refl refl $
-        gone ! (at 12 3) refl refl $
-        forget ! 1 refl $ move ! (1 ∷ (at 13 4) ∷ []) $ free1 ! $
-        gone ! (at 14 3) refl refl $ gone ! (at 15 3) refl refl $ gone ! (at 16 3) refl refl $ gone ! (at 17 3) refl refl $ gone ! (at 18 3) refl refl $ gone ! (at 19 3) refl refl $
-        gone ! (at 20 3) refl refl $ gone ! (at 21 3) refl refl $ gone ! (at 22 3) refl refl $ gone ! (at 23 3) refl refl $ gone ! (at 24 3) refl refl $ gone ! (at 25 3) refl refl $
-        gone ! (at 26 3) refl refl $ gone ! (at 27 3) refl refl $ gone ! (at 28 3) refl refl $ gone ! (at 29 3) refl refl $ gone ! (at 30 3) refl refl $ gone ! (at 31 3) refl refl $
-        gone ! (at 32 3) refl refl $ gone ! (at 33 3) refl refl $ gone ! (at 34 3) refl refl $ gone ! (at 35 3) refl refl $ gone ! (at 36 3) refl refl $
+        gone ! (at 12 3) refl refl $ gone ! (at 13 3) refl refl $ gone ! (at 14 3) refl refl $
+        forget ! 1 refl $ move ! (1 ∷ (at 15 4) ∷ []) $ free1 ! $
+        gone ! (at 16 3) refl refl $ gone ! (at 17 3) refl refl $ gone ! (at 18 3) refl refl $ gone ! (at 19 3) refl refl $ gone ! (at 20 3) refl refl $ gone ! (at 21 3) refl refl $
+        gone ! (at 22 3) refl refl $ gone ! (at 23 3) refl refl $ gone ! (at 24 3) refl refl $ gone ! (at 25 3) refl refl $ gone ! (at 26 3) refl refl $ gone ! (at 27 3) refl refl $
+        gone ! (at 28 3) refl refl $ gone ! (at 29 3) refl refl $ gone ! (at 30 3) refl refl $ gone ! (at 31 3) refl refl $ gone ! (at 32 3) refl refl $ gone ! (at 33 3) refl refl $
+        gone ! (at 34 3) refl refl $ gone ! (at 35 3) refl refl $ gone ! (at 36 3) refl refl $ gone ! (at 37 3) refl refl $ gone ! (at 38 3) refl refl $ gone ! (at 39 3) refl refl $
+        gone ! (at 40 3) refl refl $ gone ! (at 41 3) refl refl $ gone ! (at 42 3) refl refl $
         free0 ! $
         suffices ! _ (ends-at 𝓤 H A own.ended stayed (own.clauses 𝓤 H A at-mem run) W ((κs, qs, bounds, a, vals), tt) _ (made x (zs .0)) (tt, zs .1) (tt, all-fit κs (tailOf (own.signature .params)) (own.ended .kept .1) (a .1) (zs .1))) $
         says ! e $
-        move ! (1 ∷ []) $ frame ! $ nothing ! $ move ! (0 ∷ 2 ∷ []) $ fjoin ! $ frame ! $ done !))))))))))))))))))))))))))))))))))))))))))))))
+        move ! (1 ∷ []) $ frame ! $ nothing ! $ move ! (0 ∷ 2 ∷ []) $ fjoin ! $ frame ! $ done !))))))))))))))))))))))))))))))))))))))))))))))))))))
 
 module _ {M : Type 1} (𝓤 : URA M) (H : Heap 𝓤) (A : Atoms 𝓤) (W : Given 𝓤 H A) (mem : Memory → SProp 𝓤) (run : Routine → Fun 𝓤) where
   grow-from-walks : (C : Calls 𝓤 H) (Λ : Loops 𝓤 H) → FmC 𝓤 H (W .laws) C → Triple 𝓤 (C #callee) (Callee 𝓤 H A mem run) → Walks 𝓤 H A own.ended stayed (WpFn 𝓤 H C Λ code.function) (own.clauses 𝓤 H A mem run)
   grow-from-walks C Λ fm known = walked 𝓤 H A own.ended stayed (own.clauses 𝓤 H A mem run) (WpFn 𝓤 H C Λ code.function)
-      (λ κs. (LL.vals T.the-type T′.the-laws, (slice-vals, (slice-vals, (slice-vals, (slice-vals, (slice-vals, (slice-vals, (slice-vals, (slice-vals, (slice-vals, (slice-vals, (slice-vals, tt)))))))))))))
-      (λ κs. (LL.tells T.the-type T′.the-laws, (mut-slice-tells (named 0) (κs .0) u16, (mut-slice-tells (named 1) (κs .1 .0) u16, (mut-slice-tells (named 2) (κs .1 .1 .0) u16, (mut-slice-tells (named 3) (κs .1 .1 .1 .0) u32, (mut-slice-tells (named 4) (κs .1 .1 .1 .1 .0) u32, (mut-slice-tells (named 5) (κs .1 .1 .1 .1 .1 .0) u16, (mut-slice-tells (named 6) (κs .1 .1 .1 .1 .1 .1 .0) u16, (mut-slice-tells (named 7) (κs .1 .1 .1 .1 .1 .1 .1 .0) u16, (mut-slice-tells (named 8) (κs .1 .1 .1 .1 .1 .1 .1 .1 .0) u32, (mut-slice-tells (named 9) (κs .1 .1 .1 .1 .1 .1 .1 .1 .1 .0) u32, (shr-slice-tells (named 10) (κs .1 .1 .1 .1 .1 .1 .1 .1 .1 .1 .0) u8, tt)))))))))))))
+      (λ κs. (LL.vals T.the-type T′.the-laws, (slice-vals, (slice-vals, (slice-vals, (slice-vals, (slice-vals, (slice-vals, (slice-vals, (slice-vals, (slice-vals, (slice-vals, (slice-vals, (slice-vals, (slice-vals, tt)))))))))))))))
+      (λ κs. (LL.tells T.the-type T′.the-laws, (mut-slice-tells (named 0) (κs .0) u16, (mut-slice-tells (named 1) (κs .1 .0) u16, (mut-slice-tells (named 2) (κs .1 .1 .0) u16, (mut-slice-tells (named 3) (κs .1 .1 .1 .0) u32, (mut-slice-tells (named 4) (κs .1 .1 .1 .1 .0) u32, (mut-slice-tells (named 5) (κs .1 .1 .1 .1 .1 .0) u32, (mut-slice-tells (named 6) (κs .1 .1 .1 .1 .1 .1 .0) u16, (mut-slice-tells (named 7) (κs .1 .1 .1 .1 .1 .1 .1 .0) u16, (mut-slice-tells (named 8) (κs .1 .1 .1 .1 .1 .1 .1 .1 .0) u16, (mut-slice-tells (named 9) (κs .1 .1 .1 .1 .1 .1 .1 .1 .1 .0) u32, (mut-slice-tells (named 10) (κs .1 .1 .1 .1 .1 .1 .1 .1 .1 .1 .0) u32, (mut-slice-tells (named 11) (κs .1 .1 .1 .1 .1 .1 .1 .1 .1 .1 .1 .0) u32, (shr-slice-tells (named 12) (κs .1 .1 .1 .1 .1 .1 .1 .1 .1 .1 .1 .1 .0) u8, tt)))))))))))))))
       (λ κs qs bounds a g are. via 𝓤 _ (fst∗ 𝓤 _ (emp 𝓤)) (walk 𝓤 H A W mem run κs qs bounds a C Λ fm known are))
 
 grow-from-meets : {M : Type 1} (𝓤 : URA M) (H : Heap 𝓤) (A : Atoms 𝓤) → Given 𝓤 H A → (mem : Memory → SProp 𝓤) (run : Routine → Fun 𝓤) (𝓣 : Tables 𝓤 H) → Triple 𝓤 (𝓣 .C #callee) (Callee 𝓤 H A mem run)
     → Meets 𝓤 H A own.signature (WpFn 𝓤 H (𝓣 .C) (𝓣 .Λ) code.function) (own.spec 𝓤 H A mem run)
 grow-from-meets 𝓤 H A W mem run 𝓣 known =
-    walk-meets 𝓤 H A own.ended stayed W (all-passed-go 𝓤 H A W 11 (own.signature .params) (own.ended .kept)) (own.clauses 𝓤 H A mem run)
+    walk-meets 𝓤 H A own.ended stayed W (all-passed-go 𝓤 H A W 13 (own.signature .params) (own.ended .kept)) (own.clauses 𝓤 H A mem run)
     (WpFn 𝓤 H (𝓣 .C) (𝓣 .Λ) code.function) (WpFn-mono 𝓤 H (W .laws) 𝓣 code.function) (grow-from-walks 𝓤 H A W mem run (𝓣 .C) (𝓣 .Λ) (fmOf 𝓤 H (W .laws) 𝓣) known)
 
 pub grow-from-spec : {M : Type 1} → stated.statement M

@@ -1,77 +1,88 @@
-use Rattle.model.specs.Tables.{noCounts}
-use mathlib.Core.Path.{_∙_}
-use borrow.Author.Tests.{not-true, not-false}
 use Rattle.calls.proofs.CallLaws.{grow-refused, grow-done}
+use borrow.Author.Tests.{not-true, not-false}
+use mathlib.Core.Path.{_∙_}
+use Rattle.model.specs.Tables.{noCounts}
 use borrow.Author.Needs.{needs}
 use Rattle.calls.proofs.grow.grow_with.Statement.{statement}
 use Rattle.calls.proofs.grow.grow_with.Tie as tie
 
 returns : tie.Need-returns
 returns c =
-    let at-clear-if-fit = c .before .before .before .before .before .before .before .before .before .before .before .before .before .before .before .before .before .before .before .before .before in
+    let at-clear-if-fit = c .before .before .before .before .before .before .before .before .before .before .before .before .before .before .before .before .before .before .before .before .before .before .before .before .before in
     grow-refused _ _ _ _ _ _ _ (at-clear-if-fit .clear-if-fit .ensures .0) (at-clear-if-fit .clear-if-fit .ensures .1) (at-clear-if-fit .clear-if-fit .ensures .2) (not-true _ (c .if1 .taken))
-
-same-length-11 : tie.Need-same-length-11
-same-length-11 c =
-    let at-land-list = c .before .before .before .before .before .before .before .before .before .before in
-    let at-clear-if-fit = at-land-list .before .before .before .before .before .before .before .before .before .before .before .before .before .before .before .before .before .before .before .before .before .before .before .before .before .before .before .before .before .before .before in
-    at-land-list .land-list .kept .1 .1 .1 .1 .0 ∙ at-clear-if-fit .clear-if-fit .kept .0
-
-same-length-12 : tie.Need-same-length-12
-same-length-12 c =
-    let at-land-list = c .before .before .before .before .before .before .before .before .before .before in
-    let at-clear-if-fit = at-land-list .before .before .before .before .before .before .before .before .before .before .before .before .before .before .before .before .before .before .before .before .before .before .before .before .before .before .before .before .before .before .before in
-    at-land-list .land-list .kept .1 .1 .1 .1 .1 .0 ∙ at-clear-if-fit .clear-if-fit .kept .1 .0
 
 same-length-13 : tie.Need-same-length-13
 same-length-13 c =
-    let at-land-list = c .before .before .before .before .before .before .before .before .before .before in
-    let at-clear-if-fit = at-land-list .before .before .before .before .before .before .before .before .before .before .before .before .before .before .before .before .before .before .before .before .before .before .before .before .before .before .before .before .before .before .before in
-    at-land-list .land-list .kept .1 .1 .1 .1 .1 .1 .0 ∙ at-clear-if-fit .clear-if-fit .kept .1 .1 .0
+    let at-land-list = c .before .before .before .before .before .before .before .before .before .before .before .before in
+    let at-clear-if-fit = at-land-list .before .before .before .before .before .before .before .before .before .before .before .before .before .before .before .before .before .before .before .before .before .before .before .before .before .before .before .before .before .before .before .before .before .before .before .before in
+    at-land-list .land-list .kept .1 .1 .1 .1 .0 ∙ at-clear-if-fit .clear-if-fit .kept .0
 
 same-length-14 : tie.Need-same-length-14
 same-length-14 c =
-    let at-land-list = c .before .before .before .before .before .before .before .before .before .before in
-    let at-clear-if-fit = at-land-list .before .before .before .before .before .before .before .before .before .before .before .before .before .before .before .before .before .before .before .before .before .before .before .before .before .before .before .before .before .before .before in
-    at-land-list .land-list .kept .1 .1 .1 .1 .1 .1 .1 .0 ∙ at-clear-if-fit .clear-if-fit .kept .1 .1 .1 .0
+    let at-land-list = c .before .before .before .before .before .before .before .before .before .before .before .before in
+    let at-clear-if-fit = at-land-list .before .before .before .before .before .before .before .before .before .before .before .before .before .before .before .before .before .before .before .before .before .before .before .before .before .before .before .before .before .before .before .before .before .before .before .before in
+    at-land-list .land-list .kept .1 .1 .1 .1 .1 .0 ∙ at-clear-if-fit .clear-if-fit .kept .1 .0
 
 same-length-15 : tie.Need-same-length-15
 same-length-15 c =
-    let at-land-list = c .before .before .before .before .before .before .before .before .before .before in
-    let at-clear-if-fit = at-land-list .before .before .before .before .before .before .before .before .before .before .before .before .before .before .before .before .before .before .before .before .before .before .before .before .before .before .before .before .before .before .before in
-    at-land-list .land-list .kept .1 .1 .1 .1 .1 .1 .1 .1 .0 ∙ at-clear-if-fit .clear-if-fit .kept .1 .1 .1 .1 .0
+    let at-land-list = c .before .before .before .before .before .before .before .before .before .before .before .before in
+    let at-clear-if-fit = at-land-list .before .before .before .before .before .before .before .before .before .before .before .before .before .before .before .before .before .before .before .before .before .before .before .before .before .before .before .before .before .before .before .before .before .before .before .before in
+    at-land-list .land-list .kept .1 .1 .1 .1 .1 .1 .0 ∙ at-clear-if-fit .clear-if-fit .kept .1 .1 .0
 
 same-length-16 : tie.Need-same-length-16
 same-length-16 c =
-    let at-clear-if-fit = c .before .before .before .before .before .before .before .before .before .before .before .before .before .before .before .before .before .before .before .before .before .before .before .before .before .before .before .before .before .before .before .before .before .before .before .before .before .before .before .before .before in
-    at-clear-if-fit .clear-if-fit .kept .1 .1 .1 .1 .1 .0
+    let at-land-list = c .before .before .before .before .before .before .before .before .before .before .before .before in
+    let at-clear-if-fit = at-land-list .before .before .before .before .before .before .before .before .before .before .before .before .before .before .before .before .before .before .before .before .before .before .before .before .before .before .before .before .before .before .before .before .before .before .before .before in
+    at-land-list .land-list .kept .1 .1 .1 .1 .1 .1 .1 .0 ∙ at-clear-if-fit .clear-if-fit .kept .1 .1 .1 .0
 
 same-length-17 : tie.Need-same-length-17
 same-length-17 c =
-    let at-clear-if-fit = c .before .before .before .before .before .before .before .before .before .before .before .before .before .before .before .before .before .before .before .before .before .before .before .before .before .before .before .before .before .before .before .before .before .before .before .before .before .before .before .before .before in
-    at-clear-if-fit .clear-if-fit .kept .1 .1 .1 .1 .1 .1 .0
+    let at-land-list = c .before .before .before .before .before .before .before .before .before .before .before .before in
+    let at-clear-if-fit = at-land-list .before .before .before .before .before .before .before .before .before .before .before .before .before .before .before .before .before .before .before .before .before .before .before .before .before .before .before .before .before .before .before .before .before .before .before .before in
+    at-land-list .land-list .kept .1 .1 .1 .1 .1 .1 .1 .1 .0 ∙ at-clear-if-fit .clear-if-fit .kept .1 .1 .1 .1 .0
 
 same-length-18 : tie.Need-same-length-18
 same-length-18 c =
-    let at-clear-if-fit = c .before .before .before .before .before .before .before .before .before .before .before .before .before .before .before .before .before .before .before .before .before .before .before .before .before .before .before .before .before .before .before .before .before .before .before .before .before .before .before .before .before in
-    at-clear-if-fit .clear-if-fit .kept .1 .1 .1 .1 .1 .1 .1 .0
+    let at-land-list = c .before .before .before .before .before .before .before .before .before .before .before .before in
+    let at-clear-if-fit = at-land-list .before .before .before .before .before .before .before .before .before .before .before .before .before .before .before .before .before .before .before .before .before .before .before .before .before .before .before .before .before .before .before .before .before .before .before .before in
+    at-land-list .land-list .kept .1 .1 .1 .1 .1 .1 .1 .1 .1 .0 ∙ at-clear-if-fit .clear-if-fit .kept .1 .1 .1 .1 .1 .0
 
 same-length-19 : tie.Need-same-length-19
 same-length-19 c =
-    let at-clear-if-fit = c .before .before .before .before .before .before .before .before .before .before .before .before .before .before .before .before .before .before .before .before .before .before .before .before .before .before .before .before .before .before .before .before .before .before .before .before .before .before .before .before .before in
-    at-clear-if-fit .clear-if-fit .kept .1 .1 .1 .1 .1 .1 .1 .1 .0
+    let at-clear-if-fit = c .before .before .before .before .before .before .before .before .before .before .before .before .before .before .before .before .before .before .before .before .before .before .before .before .before .before .before .before .before .before .before .before .before .before .before .before .before .before .before .before .before .before .before .before .before .before .before .before in
+    at-clear-if-fit .clear-if-fit .kept .1 .1 .1 .1 .1 .1 .0
 
 same-length-20 : tie.Need-same-length-20
 same-length-20 c =
-    let at-clear-if-fit = c .before .before .before .before .before .before .before .before .before .before .before .before .before .before .before .before .before .before .before .before .before .before .before .before .before .before .before .before .before .before .before .before .before .before .before .before .before .before .before .before .before in
+    let at-clear-if-fit = c .before .before .before .before .before .before .before .before .before .before .before .before .before .before .before .before .before .before .before .before .before .before .before .before .before .before .before .before .before .before .before .before .before .before .before .before .before .before .before .before .before .before .before .before .before .before .before .before in
+    at-clear-if-fit .clear-if-fit .kept .1 .1 .1 .1 .1 .1 .1 .0
+
+same-length-21 : tie.Need-same-length-21
+same-length-21 c =
+    let at-clear-if-fit = c .before .before .before .before .before .before .before .before .before .before .before .before .before .before .before .before .before .before .before .before .before .before .before .before .before .before .before .before .before .before .before .before .before .before .before .before .before .before .before .before .before .before .before .before .before .before .before .before in
+    at-clear-if-fit .clear-if-fit .kept .1 .1 .1 .1 .1 .1 .1 .1 .0
+
+same-length-22 : tie.Need-same-length-22
+same-length-22 c =
+    let at-clear-if-fit = c .before .before .before .before .before .before .before .before .before .before .before .before .before .before .before .before .before .before .before .before .before .before .before .before .before .before .before .before .before .before .before .before .before .before .before .before .before .before .before .before .before .before .before .before .before .before .before .before in
     at-clear-if-fit .clear-if-fit .kept .1 .1 .1 .1 .1 .1 .1 .1 .1 .0
+
+same-length-23 : tie.Need-same-length-23
+same-length-23 c =
+    let at-clear-if-fit = c .before .before .before .before .before .before .before .before .before .before .before .before .before .before .before .before .before .before .before .before .before .before .before .before .before .before .before .before .before .before .before .before .before .before .before .before .before .before .before .before .before .before .before .before .before .before .before .before in
+    at-clear-if-fit .clear-if-fit .kept .1 .1 .1 .1 .1 .1 .1 .1 .1 .1 .0
+
+same-length-24 : tie.Need-same-length-24
+same-length-24 c =
+    let at-clear-if-fit = c .before .before .before .before .before .before .before .before .before .before .before .before .before .before .before .before .before .before .before .before .before .before .before .before .before .before .before .before .before .before .before .before .before .before .before .before .before .before .before .before .before .before .before .before .before .before .before .before in
+    at-clear-if-fit .clear-if-fit .kept .1 .1 .1 .1 .1 .1 .1 .1 .1 .1 .1 .0
 
 returns-2 : tie.Need-returns-2
 unfolding noCounts
 returns-2 c =
-    let at-land-list = c .before .before .before .before .before .before .before .before .before .before in
-    let at-if1 = at-land-list .before .before .before .before .before .before .before .before .before .before in
-    let at-clear-if-fit = at-if1 .before .before .before .before .before .before .before .before .before .before .before .before .before .before .before .before .before .before .before .before .before in
+    let at-land-list = c .before .before .before .before .before .before .before .before .before .before .before .before in
+    let at-if1 = at-land-list .before .before .before .before .before .before .before .before .before .before .before in
+    let at-clear-if-fit = at-if1 .before .before .before .before .before .before .before .before .before .before .before .before .before .before .before .before .before .before .before .before .before .before .before .before .before in
     grow-done _ _ _ _ _ _ _ _ (at-clear-if-fit .clear-if-fit .ensures .0) (at-clear-if-fit .clear-if-fit .ensures .1) (at-clear-if-fit .clear-if-fit .ensures .2) (not-false _ (at-if1 .if1 .left)) (at-land-list .land-list .ensures)
 
 -- the needs in the order of the code
@@ -90,10 +101,10 @@ grow-with-spec =
     (λ c. search needs)
     (λ c. search needs)
     (λ c. search needs)
+    (λ c. search needs)
+    (λ c. search needs)
     returns
     (λ c κs. search needs)
-    same-length-11
-    same-length-12
     same-length-13
     same-length-14
     same-length-15
@@ -102,4 +113,8 @@ grow-with-spec =
     same-length-18
     same-length-19
     same-length-20
+    same-length-21
+    same-length-22
+    same-length-23
+    same-length-24
     returns-2)

@@ -1,8 +1,8 @@
-use mathlib.Core.Path.{refl, sym, ap, _∙_}
-use Rattle.model.specs.Calls.{writes, registerFor, lentSlice, lentTo}
-use Rattle.admission.specs.Gate.{gateRefusal}
-use Rattle.questions.proofs.WritingLaws.{write-answers}
 use Rattle.calls.proofs.QueryLaws.{query-refused, query-answered}
+use Rattle.questions.proofs.WritingLaws.{write-answers}
+use Rattle.admission.specs.Gate.{gateRefusal}
+use Rattle.model.specs.Calls.{writes, registerFor, lentSlice, lentTo}
+use mathlib.Core.Path.{refl, sym, ap, _∙_}
 use borrow.Author.Needs.{needs}
 use Rattle.calls.proofs.write.write.Statement.{statement}
 use Rattle.calls.proofs.write.write.Tie as tie
@@ -10,14 +10,14 @@ use Rattle.calls.proofs.write.write.Tie as tie
 returns : tie.Need-returns
 returns c =
     let at-enum-told = c .before .before .before .before in
-    let at-pass-gate = at-enum-told .before .before .before .before .before .before .before .before .before .before .before .before in
+    let at-pass-gate = at-enum-told .before .before .before .before .before .before .before .before .before .before .before .before .before .before in
     query-answered (writes _) _ _ _ _ (ap gateRefusal (sym (at-enum-told .enum-told .given .1)) ∙ at-pass-gate .pass-gate .ensures .0) (at-pass-gate .pass-gate .ensures .1)
-    (write-answers _ _ _ _ _ _ _ _ _ (c .before .before .write-in .ensures))
+    (write-answers _ _ _ _ _ _ _ _ _ _ (c .before .before .write-in .ensures))
 
 returns-2 : tie.Need-returns-2
 unfolding registerFor lentSlice lentTo
 returns-2 c =
-    let at-pass-gate = c .before .before .before .before .before .before .before .before .before .before .before .before .before in
+    let at-pass-gate = c .before .before .before .before .before .before .before .before .before .before .before .before .before .before .before in
     query-refused (writes _) _ refl _ _ (ap gateRefusal (sym (c .before .passed .given .1)) ∙ at-pass-gate .pass-gate .ensures .0) (at-pass-gate .pass-gate .ensures .1)
 
 -- the needs in the order of the code
@@ -35,7 +35,9 @@ write-spec =
     (λ c. search needs)
     (λ c. search needs)
     (λ c. search needs)
+    (λ c. search needs)
     returns
+    (λ c. search needs)
     (λ c. search needs)
     (λ c. search needs)
     (λ c. search needs)

@@ -19,9 +19,9 @@ returns c =
 returns-2 : tie.Need-returns-2
 unfolding cleared
 returns-2 c =
-    let at-enum-told = c .before .before .before .before .before .before in
-    let at-grow-list = at-enum-told .before .before .before .before .before .before .before in
-    let at-if1 = at-grow-list .before .before .before .before .before .before in
+    let at-enum-told = c .before .before .before .before .before .before .before in
+    let at-grow-list = at-enum-told .before .before .before .before .before .before .before .before in
+    let at-if1 = at-grow-list .before .before .before .before .before .before .before in
     whole-given _ _ _ (omega (arith, at-if1 .if1 .left)) (at-if1 .before .before .before .pre) (at-grow-list .grow-list .ensures) _ (sym (ap asStop (at-enum-told .enum-told .given .1))) (c .before .before .put-list .ensures)
 
 returns-3 : tie.Need-returns-3
@@ -29,8 +29,8 @@ unfolding cleared
 returns-3 c =
     let at-number = c .before .before .before .before in
     let at-stop = at-number .before .before in
-    let at-grow-list = at-stop .before .before .before .before .before .before .before in
-    let at-if1 = at-grow-list .before .before .before .before .before .before in
+    let at-grow-list = at-stop .before .before .before .before .before .before .before .before in
+    let at-if1 = at-grow-list .before .before .before .before .before .before .before in
     stop-told _ _ _ (omega (arith, at-if1 .if1 .left)) (at-if1 .before .before .before .pre) (at-grow-list .grow-list .ensures) _ _ _ (omega arith) (omega (arith, at-number .number .ok))
     (ap (λ (n : ℕ). stopped (at-stop .stop .given .0 .0) n) (at-number .number .ensures) ∙ sym (ap asStop (at-stop .stop .given .1))) (c .before .before .put-stopped .ensures)
 
@@ -48,7 +48,9 @@ canonical-list-spec =
     (λ c. search needs)
     (λ c. search needs)
     (λ c. search needs)
+    (λ c. search needs)
     (λ c κs. search needs)
+    (λ c. search needs)
     (λ c. search needs)
     (λ c. search needs)
     (λ c. search needs)

@@ -15,8 +15,8 @@ wide-requires c κs = search needs
 wide-requires-2 : tie.Need-wide-requires-2
 wide-requires-2 c κs = search needs
 
-add-t9 : tie.Need-add-t9
-add-t9 c = search needs
+add-t10 : tie.Need-add-t10
+add-t10 c = search needs
 
 add-lengths-requires : tie.Need-add-lengths-requires
 add-lengths-requires c κs = search needs
@@ -38,7 +38,7 @@ open-row-spec =
     greater-vertex-requires
     wide-requires
     wide-requires-2
-    add-t9
+    add-t10
     add-lengths-requires
     add-lengths-requires-2
     returns)

@@ -6,8 +6,8 @@ use Rattle.chains.proofs.rows.ring_row.Tie as tie
 wide-requires : tie.Need-wide-requires
 wide-requires c κs = search needs
 
-add-t6 : tie.Need-add-t6
-add-t6 c = search needs
+add-t7 : tie.Need-add-t7
+add-t7 c = search needs
 
 add-lengths-requires : tie.Need-add-lengths-requires
 add-lengths-requires c κs = search needs
@@ -20,6 +20,6 @@ ring-row-spec =
     tie.close
     (tie.spec
     wide-requires
-    add-t6
+    add-t7
     add-lengths-requires
     returns)

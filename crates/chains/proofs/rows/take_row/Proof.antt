@@ -11,6 +11,9 @@ first-end-requires c κs = search needs
 second-end-requires : tie.Need-second-end-requires
 second-end-requires c κs = search needs
 
+volume-of-requires : tie.Need-volume-of-requires
+volume-of-requires c κs = search needs
+
 walk-marking-requires : tie.Need-walk-marking-requires
 walk-marking-requires c κs = search needs
 
@@ -29,10 +32,11 @@ same-length c = search needs
 returns : tie.Need-returns
 returns c =
     let at-walk-marking = c .before .before .before .before .before .before in
-    let at-second-end = at-walk-marking .before .before in
+    let at-volume-of = at-walk-marking .before .before in
+    let at-second-end = at-volume-of .before in
     let at-first-end = at-second-end .before in
     let two = sym (c .before .before .degree-of .ensures) ∙ c .before .if1 .taken in
-    (row-round _ _ _ _ _ _ _ _ _ _ _ _ _ (at-first-end .first-end .ensures) (at-second-end .second-end .ensures) (at-walk-marking .walk-marking .ensures .0) (c .before .before .before .length-of .ensures) _ two (c .ring-row .ensures), chain-round _ _ _ _ _ _ _ _ _ _ (at-first-end .first-end .ensures) (at-second-end .second-end .ensures) (at-walk-marking .walk-marking .ensures .1) two)
+    (row-round _ _ _ _ _ _ _ _ _ _ _ _ _ _ _ _ (at-first-end .first-end .ensures) (at-second-end .second-end .ensures) (at-walk-marking .walk-marking .ensures .0) (c .before .before .before .length-of .ensures) (at-volume-of .volume-of .ensures) (at-walk-marking .walk-marking .ensures .1) _ two (c .ring-row .ensures), chain-round _ _ _ _ _ _ _ _ _ _ (at-first-end .first-end .ensures) (at-second-end .second-end .ensures) (at-walk-marking .walk-marking .ensures .2) two)
 
 walk-marking-requires-2 : tie.Need-walk-marking-requires-2
 walk-marking-requires-2 c κs = search needs
@@ -49,9 +53,10 @@ returns-2 c =
     let at-degree-of = at-if1 .before in
     let at-length-of = at-degree-of .before in
     let at-walk-marking = at-length-of .before .before .before in
-    let at-second-end = at-walk-marking .before .before in
+    let at-volume-of = at-walk-marking .before .before in
+    let at-second-end = at-volume-of .before in
     let at-first-end = at-second-end .before in
-    (row-both _ _ _ _ _ _ _ _ _ _ _ _ _ (at-first-end .first-end .ensures) (at-second-end .second-end .ensures) (at-walk-marking .walk-marking .ensures .0) (at-length-of .length-of .ensures) _ _ _ _ _ (λ e. at-if1 .if1 .left (at-degree-of .degree-of .ensures ∙ e)) (c .before .before .before .walk-marking2 .ensures .0) (c .open-row .ensures), chain-both _ _ _ _ _ _ _ _ _ _ (at-first-end .first-end .ensures) (at-second-end .second-end .ensures) (at-walk-marking .walk-marking .ensures .1) (λ e. at-if1 .if1 .left (at-degree-of .degree-of .ensures ∙ e)) _ _ (c .before .before .before .walk-marking2 .ensures .1))
+    (row-both _ _ _ _ _ _ _ _ _ _ _ _ _ _ _ _ (at-first-end .first-end .ensures) (at-second-end .second-end .ensures) (at-walk-marking .walk-marking .ensures .0) (at-length-of .length-of .ensures) (at-volume-of .volume-of .ensures) (at-walk-marking .walk-marking .ensures .1) _ _ _ _ _ _ (λ e. at-if1 .if1 .left (at-degree-of .degree-of .ensures ∙ e)) (c .before .before .before .walk-marking2 .ensures .0) (c .before .before .before .walk-marking2 .ensures .1) (c .open-row .ensures), chain-both _ _ _ _ _ _ _ _ _ _ (at-first-end .first-end .ensures) (at-second-end .second-end .ensures) (at-walk-marking .walk-marking .ensures .2) (λ e. at-if1 .if1 .left (at-degree-of .degree-of .ensures ∙ e)) _ _ (c .before .before .before .walk-marking2 .ensures .2))
 
 pub take-row-spec : {M : Type 1} → statement M
 take-row-spec =
@@ -59,6 +64,7 @@ take-row-spec =
     (tie.spec
     first-end-requires
     second-end-requires
+    volume-of-requires
     walk-marking-requires
     length-of-requires
     degree-of-requires

@@ -6,7 +6,7 @@ use Rattle.landing.proofs.records.grow_list.Tie as tie
 returns : tie.Need-returns
 unfolding noCounts
 returns c =
-    let at-land-list = c .before .before .before .before .before .before .before .before .before .before in
+    let at-land-list = c .before .before .before .before .before .before .before .before .before .before .before .before in
     at-land-list .land-list .ensures
 
 -- the needs in the order of the code
@@ -15,6 +15,7 @@ grow-list-spec =
     tie.close
     (tie.spec
     (λ c κs. search needs)
+    (λ c. search needs)
     (λ c. search needs)
     (λ c. search needs)
     (λ c. search needs)

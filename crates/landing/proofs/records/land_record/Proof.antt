@@ -1,6 +1,6 @@
-use Rattle.landing.proofs.RecordLaws.{record-ends, record-vertex, record-edge, record-bad}
-use Rattle.list.specs.Reading.{asRecord}
 use mathlib.Core.Path.{ap, sym, _∙_}
+use Rattle.list.specs.Reading.{asRecord}
+use Rattle.landing.proofs.RecordLaws.{record-ends, record-vertex, record-edge, record-bad}
 use borrow.Author.Needs.{needs}
 use Rattle.landing.proofs.records.land_record.Statement.{statement}
 use Rattle.landing.proofs.records.land_record.Tie as tie
@@ -15,8 +15,8 @@ returns-2 c =
 
 returns-3 : tie.Need-returns-3
 returns-3 c =
-    let at-land-edge = c .before .before .before .before .before .before .before .before .before .before .before in
-    let at-found2 = at-land-edge .before .before .before .before .before .before .before in
+    let at-land-edge = c .before .before .before .before .before .before .before .before .before .before .before .before .before in
+    let at-found2 = at-land-edge .before .before .before .before .before .before .before .before in
     let at-record-at = at-found2 .before .before in
     record-edge _ _ _ _ _ _ _ _ _ (ap asRecord (sym (at-found2 .found2 .given .1)) ∙ at-record-at .record-at .ensures) (at-land-edge .land-edge .ensures) (c .step-of2 .ensures)
 
@@ -39,6 +39,7 @@ land-record-spec =
     (λ c. search needs)
     returns
     returns-2
+    (λ c. search needs)
     (λ c. search needs)
     (λ c. search needs)
     (λ c. search needs)

@@ -17,8 +17,8 @@ returns c =
 returns-2 : tie.Need-returns-2
 unfolding cleared
 returns-2 c =
-    let at-grow-list = c .before .before .before .before .before .before .before .before .before .before .before .before .before .before in
-    let at-if1 = at-grow-list .before .before .before .before .before .before in
+    let at-grow-list = c .before .before .before .before .before .before .before .before .before .before .before .before .before .before .before .before in
+    let at-if1 = at-grow-list .before .before .before .before .before .before .before in
     let at-pre = at-if1 .before .before .before in
     prints _ _ _ _ (omega (arith, at-if1 .if1 .left)) (at-pre .pre) (at-grow-list .grow-list .ensures) (c .before .before .put-listing .ensures .0) (c .before .before .put-listing .ensures .1)
 
@@ -36,7 +36,9 @@ print-list-spec =
     (λ c. search needs)
     (λ c. search needs)
     (λ c. search needs)
+    (λ c. search needs)
     (λ c κs. search needs)
+    (λ c. search needs)
     (λ c. search needs)
     (λ c. search needs)
     (λ c. search needs)

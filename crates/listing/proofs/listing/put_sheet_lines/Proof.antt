@@ -4,7 +4,7 @@ use Rattle.chains.proofs.SheetLaws.{put-none, put-on, put-all}
 use Rattle.chains.proofs.NameLaws.{Sweeps, sweep-start, sweep-on, sweep-end, unmarked-less}
 use Rattle.chains.specs.Chains.{rowsIn}
 use Rattle.text.specs.Pages.{page, write}
-use Rattle.model.specs.Printing.{lines}
+use Rattle.model.specs.Printing.{rowLines}
 use lib.ListN.{length}
 use mathlib.Core.List.{List, [], _∷_, _++_}
 use mathlib.Core.Path.{_≡_, refl, _∙_}
@@ -15,10 +15,10 @@ use Rattle.listing.proofs.listing.put_sheet_lines.Statement.{statement}
 use Rattle.listing.proofs.listing.put_sheet_lines.Tie as tie
 
 abbrev Inv-loop : tie.InvT-loop
-Inv-loop out₀ at degrees sides ends lengths marks₀ edges next₀ edge₀ out marks next edge = ((length out ≡ length out₀) × (next ≤ at + rowBytes * edge)) × ((found : List ℕ) × (Sweeps degrees sides ends edges marks₀ edge marks found × (page out next ≡ write (lines (rowsIn degrees sides ends lengths edges found)) (page out₀ at))))
+Inv-loop out₀ at degrees sides ends lengths volumes marks₀ edges next₀ edge₀ out marks next edge = ((length out ≡ length out₀) × (next ≤ at + rowBytes * edge)) × ((found : List ℕ) × (Sweeps degrees sides ends edges marks₀ edge marks found × (page out next ≡ write (rowLines (rowsIn degrees sides ends lengths volumes edges found)) (page out₀ at))))
 
 abbrev μ-loop : tie.MeasureT-loop
-μ-loop out₀ at degrees sides ends lengths marks₀ edges next₀ edge₀ out marks next edge = edges - edge
+μ-loop out₀ at degrees sides ends lengths volumes marks₀ edges next₀ edge₀ out marks next edge = edges - edge
 
 -- src/listing.rt:71:9
 next-unmarked-requires : tie.Need-next-unmarked-requires Inv-loop μ-loop
@@ -26,15 +26,15 @@ next-unmarked-requires c κs = search needs
 
 -- src/listing.rt:72:5
 loop-holds : tie.Need-loop-holds Inv-loop μ-loop
-loop-holds c = ((refl, omega arith), ([], (sweep-start _ _ _ _ _ _ (c .next-unmarked .ensures), put-none _ _ _ _ _ _ _ row-lines _)))
+loop-holds c = ((refl, omega arith), ([], (sweep-start _ _ _ _ _ _ (c .next-unmarked .ensures), put-none _ _ _ _ _ _ _ _ row-lines _)))
 
 -- src/listing.rt:73:13
 take-row-requires : tie.Need-take-row-requires Inv-loop μ-loop
 take-row-requires c κs = search needs
 
 -- src/listing.rt:74:9
-put-row-line-requires : tie.Need-put-row-line-requires Inv-loop μ-loop
-put-row-line-requires c κs = search needs
+put-chain-line-requires : tie.Need-put-chain-line-requires Inv-loop μ-loop
+put-chain-line-requires c κs = search needs
 
 -- src/listing.rt:75:37
 add-next-unmarked : tie.Need-add-next-unmarked Inv-loop μ-loop
@@ -55,15 +55,15 @@ loop-less c =
 -- src/listing.rt:72:5
 loop-again : tie.Need-loop-again Inv-loop μ-loop
 loop-again c =
-    let at-put-row-line = c .before .before .before .before in
-    let at-take-row = at-put-row-line .before .before .before .before in
+    let at-put-chain-line = c .before .before .before .before in
+    let at-take-row = at-put-chain-line .before .before .before .before in
     let at-loop-test = at-take-row .before .before in
     let at-loop = at-loop-test .before in
     let inv = at-loop .loop .inv .1 in
     let found = inv .0 in
     let e = at-loop .loop .edge in
     let less = unmarked-less _ _ _ _ (at-loop-test .loop-test .taken) (c .next-unmarked2 .ensures) in
-    ((at-put-row-line .put-row-line .kept .0 ∙ at-loop .loop .inv .0 .0, omega (arith, less, at-loop .loop .inv .0 .1, at-put-row-line .put-row-line .ensures .1)), (found ++ (e ∷ []), (sweep-on _ _ _ _ _ _ _ _ _ _ (at-loop-test .loop-test .taken) (inv .1 .0) (at-take-row .take-row .ensures .1) (at-take-row .take-row .kept .1 .1 .1 .1 .0) (c .next-unmarked2 .ensures), put-on _ _ _ _ _ _ _ row-lines _ _ _ _ _ _ (inv .1 .1) (at-take-row .take-row .ensures .0) (at-put-row-line .put-row-line .ensures .0))))
+    ((at-put-chain-line .put-chain-line .kept .0 ∙ at-loop .loop .inv .0 .0, omega (arith, less, at-loop .loop .inv .0 .1, at-put-chain-line .put-chain-line .ensures .1)), (found ++ (e ∷ []), (sweep-on _ _ _ _ _ _ _ _ _ _ (at-loop-test .loop-test .taken) (inv .1 .0) (at-take-row .take-row .ensures .1) (at-take-row .take-row .kept .1 .1 .1 .1 .1 .0) (c .next-unmarked2 .ensures), put-on _ _ _ _ _ _ _ _ row-lines _ _ _ _ _ _ (inv .1 .1) (at-take-row .take-row .ensures .0) (at-put-chain-line .put-chain-line .ensures .0))))
 
 -- src/listing.rt:56:1
 same-length : tie.Need-same-length Inv-loop μ-loop
@@ -78,7 +78,7 @@ returns : tie.Need-returns Inv-loop μ-loop
 returns c =
     let inv = c .before .loop .inv .1 in
     let all = sweep-end _ _ _ _ _ _ _ _ (c .loop-test .left) (inv .1 .0) in
-    (put-all _ _ _ _ _ _ _ row-lines _ _ _ _ all (inv .1 .1), omega (arith, c .before .loop .inv .0 .1, inv .1 .0 .within))
+    (put-all _ _ _ _ _ _ _ _ row-lines _ _ _ _ all (inv .1 .1), omega (arith, c .before .loop .inv .0 .1, inv .1 .0 .within))
 
 pub put-sheet-lines-spec : {M : Type 1} → statement M
 put-sheet-lines-spec =
@@ -89,7 +89,7 @@ put-sheet-lines-spec =
     next-unmarked-requires
     loop-holds
     take-row-requires
-    put-row-line-requires
+    put-chain-line-requires
     add-next-unmarked
     next-unmarked-requires-2
     loop-less

@@ -22,13 +22,13 @@ enum-told c = search needs
 returns : tie.Need-returns
 returns c =
     let at-new = c .before .before .before .before in
-    λ lengths. c .find-from .ensures lengths ∙ ap (findIn _ _ _) (within-is _ _ _ _ (ap asLabel (sym (c .before .before .checked .given .1)) ∙ at-new .new .ensures))
+    λ lengths volumes. c .find-from .ensures lengths volumes ∙ ap (findIn _ _ _) (within-is _ _ _ _ (ap asLabel (sym (c .before .before .checked .given .1)) ∙ at-new .new .ensures))
 
 returns-2 : tie.Need-returns-2
 returns-2 c =
     let at-fits = c .before .before .before .before .before .before .before in
     let large = within-none _ _ (ap asLabel (sym (c .enum-told .given .1)) ∙ c .before .before .new .ensures) in
-    λ lengths. absurd (omega (arith, at-fits .fits .label .fits, large))
+    λ lengths volumes. absurd (omega (arith, at-fits .fits .label .fits, large))
 
 pub find-checked-spec : {M : Type 1} → statement M
 find-checked-spec =

@@ -11,13 +11,13 @@ use Rattle.pnl.proofs.checked.measure_to.Tie as tie
 returns : tie.Need-returns
 returns c =
     let at-new = c .before .before .before .before in
-    λ degrees sides labels. c .distance-in .ensures degrees sides labels ∙ ap (measureIn _ _ _) (within-is _ _ _ _ (ap asVertex (sym (c .before .before .checked .given .1)) ∙ at-new .new .ensures))
+    λ degrees sides volumes labels. c .distance-in .ensures degrees sides volumes labels ∙ ap (measureIn _ _ _) (within-is _ _ _ _ (ap asVertex (sym (c .before .before .checked .given .1)) ∙ at-new .new .ensures))
 
 returns-2 : tie.Need-returns-2
 returns-2 c =
     let at-pre = c .before .before .before .before .before in
     let large = within-none _ _ (ap asVertex (sym (c .enum-told .given .1)) ∙ c .before .before .new .ensures) in
-    λ degrees sides labels. measure-second _ _ _ _ (omega (arith, at-pre .pre .1, large))
+    λ degrees sides volumes labels. measure-second _ _ _ _ (omega (arith, at-pre .pre .1, large))
 
 -- the needs in the order of the code
 pub measure-to-spec : {M : Type 1} → statement M

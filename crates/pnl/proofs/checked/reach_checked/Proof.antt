@@ -11,13 +11,13 @@ use Rattle.pnl.proofs.checked.reach_checked.Tie as tie
 returns : tie.Need-returns
 returns c =
     let at-new = c .before .before .before .before in
-    λ labels. c .reach-in .ensures labels ∙ ap (reachIn _ _) (within-is _ _ _ _ (ap asVertex (sym (c .before .before .checked .given .1)) ∙ at-new .new .ensures))
+    λ volumes labels. c .reach-in .ensures volumes labels ∙ ap (reachIn _ _) (within-is _ _ _ _ (ap asVertex (sym (c .before .before .checked .given .1)) ∙ at-new .new .ensures))
 
 returns-2 : tie.Need-returns-2
 returns-2 c =
     let at-pre = c .before .before .before .before .before .before .before in
     let large = within-none _ _ (ap asVertex (sym (c .enum-told .given .1)) ∙ c .before .before .new .ensures) in
-    λ labels. reach-past _ _ _ (omega (arith, at-pre .pre, large))
+    λ volumes labels. reach-past _ _ _ (omega (arith, at-pre .pre, large))
 
 -- the needs in the order of the code
 pub reach-checked-spec : {M : Type 1} → statement M

@@ -10,20 +10,20 @@ use Rattle.pnl.proofs.grown.answer_call.Tie as tie
 answer-question-requires : tie.Need-answer-question-requires
 unfolding cleared
 answer-question-requires c κs =
-    let at-grow-list = c .before .before .before .before .before .before .before .before .before .before .before .before .before .before in
+    let at-grow-list = c .before .before .before .before .before .before .before .before .before .before .before .before .before .before .before .before in
     call-measurable _ _ _ _ (at-grow-list .grow-list .ensures)
 
 returns : tie.Need-returns
 unfolding cleared
 returns c =
-    let at-enum-told = c .before .before .before .before .before .before .before .before .before in
-    let at-grow-list = at-enum-told .before .before .before .before .before .before .before .before in
+    let at-enum-told = c .before .before .before .before .before .before .before .before .before .before in
+    let at-grow-list = at-enum-told .before .before .before .before .before .before .before .before .before in
     call-answers _ _ _ _ (at-grow-list .grow-list .ensures) _ _ _ (ap asStop (at-enum-told .enum-told .given .1)) (λ r h. handed (c .before .before .answer-question .ok) (c .before .before .answer-question .ensures r h))
 
 returns-2 : tie.Need-returns-2
 unfolding cleared
 returns-2 c =
-    let at-grow-list = c .before .before .before .before .before .before .before .before .before .before in
+    let at-grow-list = c .before .before .before .before .before .before .before .before .before .before .before in
     call-stops _ _ _ _ (at-grow-list .grow-list .ensures) _ _ _ _ _ (ap asStop (c .before .before .stop .given .1)) (value-kept (c .refused .ok) ∙ c .refused .ensures)
 
 -- the needs in the order of the code
@@ -36,7 +36,9 @@ answer-call-spec =
     (λ c. search needs)
     (λ c. search needs)
     (λ c. search needs)
+    (λ c. search needs)
     (λ c κs. search needs)
+    (λ c. search needs)
     (λ c. search needs)
     (λ c. search needs)
     (λ c. search needs)

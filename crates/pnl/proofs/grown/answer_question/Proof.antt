@@ -7,25 +7,25 @@ use Rattle.pnl.proofs.grown.answer_question.Tie as tie
 returns : tie.Need-returns
 returns c =
     let at-enum-told = c .before .before .before .before in
-    λ register h. rw (at-enum-told .enum-told .given .1) (sheet-question _ _ _ _ _ _ register h _ _ (handed (c .before .before .answer-sheet .ok) (c .before .before .answer-sheet .ensures)))
+    λ register h. rw (at-enum-told .enum-told .given .1) (sheet-question _ _ _ _ _ _ _ register h _ _ (handed (c .before .before .answer-sheet .ok) (c .before .before .answer-sheet .ensures)))
 
 returns-2 : tie.Need-returns-2
 returns-2 c =
     let at-find-checked = c .before .before .before .before in
     let at-question = at-find-checked .before .before in
-    λ register h. rw (at-question .question .given .1) (find-question _ _ _ _ _ _ register h _ _ _ _ (at-find-checked .find-checked .ensures _) (handed (c .before .before .answer-found .ok) (c .before .before .answer-found .ensures register)))
+    λ register h. rw (at-question .question .given .1) (find-question _ _ _ _ _ _ _ register h _ _ _ _ (at-find-checked .find-checked .ensures _ _) (handed (c .before .before .answer-found .ok) (c .before .before .answer-found .ensures register)))
 
 returns-3 : tie.Need-returns-3
 returns-3 c =
     let at-reach-checked = c .before .before .before .before in
     let at-question2 = at-reach-checked .before .before in
-    λ register h. rw (at-question2 .question2 .given .1) (reach-question _ _ _ _ _ _ register h _ _ _ _ (at-reach-checked .reach-checked .ensures _) (handed (c .before .before .answer-reached .ok) (c .before .before .answer-reached .ensures register)))
+    λ register h. rw (at-question2 .question2 .given .1) (reach-question _ _ _ _ _ _ _ register h _ _ _ _ (at-reach-checked .reach-checked .ensures _ _) (handed (c .before .before .answer-reached .ok) (c .before .before .answer-reached .ensures register)))
 
 returns-4 : tie.Need-returns-4
 returns-4 c =
     let at-measure-checked = c .before .before .before .before in
     let at-question3 = at-measure-checked .before .before in
-    λ register h. rw (at-question3 .question3 .given .1) (distance-question _ _ _ _ _ _ register h _ _ _ _ _ (at-measure-checked .measure-checked .ensures _ _ _) (handed (c .before .before .answer-distance .ok) (c .before .before .answer-distance .ensures register)))
+    λ register h. rw (at-question3 .question3 .given .1) (distance-question _ _ _ _ _ _ _ register h _ _ _ _ _ (at-measure-checked .measure-checked .ensures _ _ _ _) (handed (c .before .before .answer-distance .ok) (c .before .before .answer-distance .ensures register)))
 
 -- the needs in the order of the code
 pub answer-question-spec : {M : Type 1} → statement M

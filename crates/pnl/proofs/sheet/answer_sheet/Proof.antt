@@ -20,7 +20,7 @@ refused-requires c κs = search needs
 
 -- src/sheet.rt:75:9
 returns : tie.Need-returns
-returns c = sheet-short _ _ _ _ _ _ _ _ (c .before .before .before .has-room .ensures) _ (not-true _ (c .before .if1 .taken)) (value-kept (c .refused .ok) ∙ c .refused .ensures)
+returns c = sheet-short _ _ _ _ _ _ _ _ _ (c .before .before .before .has-room .ensures) _ (not-true _ (c .before .if1 .taken)) (value-kept (c .refused .ok) ∙ c .refused .ensures)
 
 -- src/sheet.rt:77:66
 slice-aggregate-put-sheet-bytes : tie.Need-slice-aggregate-put-sheet-bytes
@@ -52,7 +52,7 @@ returns-2 c =
     let at-put-sheet-bytes = c .before .before .before .before in
     let at-if1 = at-put-sheet-bytes .before .before .before in
     let at-has-room = at-if1 .before .before in
-    sheet-whole _ _ _ _ _ _ _ _ (at-has-room .has-room .ensures) _ _ _ (not-false _ (at-if1 .if1 .left)) (at-put-sheet-bytes .put-sheet-bytes .ensures .0) (at-put-sheet-bytes .put-sheet-bytes .ensures .1) (value-kept (c .byte-count .ok) ∙ c .byte-count .ensures)
+    sheet-whole _ _ _ _ _ _ _ _ _ (at-has-room .has-room .ensures) _ _ _ (not-false _ (at-if1 .if1 .left)) (at-put-sheet-bytes .put-sheet-bytes .ensures .0) (at-put-sheet-bytes .put-sheet-bytes .ensures .1) (value-kept (c .byte-count .ok) ∙ c .byte-count .ensures)
 
 pub answer-sheet-spec : {M : Type 1} → statement M
 answer-sheet-spec =

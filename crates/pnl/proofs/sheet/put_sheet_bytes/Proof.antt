@@ -15,10 +15,10 @@ use Rattle.pnl.proofs.sheet.put_sheet_bytes.Statement.{statement}
 use Rattle.pnl.proofs.sheet.put_sheet_bytes.Tie as tie
 
 abbrev Inv-loop : tie.InvT-loop
-Inv-loop out₀ degrees sides ends lengths marks₀ edges next₀ count₀ edge₀ out marks next count edge = (length out ≡ length out₀) × ((found : List ℕ) × (Sweeps degrees sides ends edges marks₀ edge marks found × ((count ≡ length found) × (page out next ≡ write (bytesOf (concat (rowsIn degrees sides ends lengths edges found))) (page out₀ 0)))))
+Inv-loop out₀ degrees sides ends lengths volumes marks₀ edges next₀ count₀ edge₀ out marks next count edge = (length out ≡ length out₀) × ((found : List ℕ) × (Sweeps degrees sides ends edges marks₀ edge marks found × ((count ≡ length found) × (page out next ≡ write (bytesOf (concat (rowsIn degrees sides ends lengths volumes edges found))) (page out₀ 0)))))
 
 abbrev μ-loop : tie.MeasureT-loop
-μ-loop out₀ degrees sides ends lengths marks₀ edges next₀ count₀ edge₀ out marks next count edge = edges - edge
+μ-loop out₀ degrees sides ends lengths volumes marks₀ edges next₀ count₀ edge₀ out marks next count edge = edges - edge
 
 -- src/sheet.rt:48:9
 next-unmarked-requires : tie.Need-next-unmarked-requires Inv-loop μ-loop
@@ -26,7 +26,7 @@ next-unmarked-requires c κs = search needs
 
 -- src/sheet.rt:49:5
 loop-holds : tie.Need-loop-holds Inv-loop μ-loop
-loop-holds c = (refl, ([], (sweep-start _ _ _ _ _ _ (c .next-unmarked .ensures), (refl, put-none _ _ _ _ _ _ _ row-bytes _))))
+loop-holds c = (refl, ([], (sweep-start _ _ _ _ _ _ (c .next-unmarked .ensures), (refl, put-none _ _ _ _ _ _ _ _ row-bytes _))))
 
 -- src/sheet.rt:50:13
 take-row-requires : tie.Need-take-row-requires Inv-loop μ-loop
@@ -41,7 +41,7 @@ add-count : tie.Need-add-count Inv-loop μ-loop
 add-count c =
     let at-loop-test = c .before .before .before .before .before .before .before .before in
     let at-loop = at-loop-test .before in
-    let at-fits = at-loop .before .before .before .before .before .before .before .before .before in
+    let at-fits = at-loop .before .before .before .before .before .before .before .before .before .before in
     omega (arith, at-loop .loop .inv .1 .1 .1 .0, at-loop .loop .inv .1 .1 .0 .few, at-loop-test .loop-test .taken, at-fits .fits .edges .fits)
 
 -- src/sheet.rt:53:37
@@ -70,7 +70,7 @@ loop-again c =
     let inv = at-loop .loop .inv .1 in
     let found = inv .0 in
     let e = at-loop .loop .edge in
-    (at-put-row-bytes .put-row-bytes .kept .0 ∙ at-loop .loop .inv .0, (found ++ (e ∷ []), (sweep-on _ _ _ _ _ _ _ _ _ _ (at-loop-test .loop-test .taken) (inv .1 .0) (at-take-row .take-row .ensures .1) (at-take-row .take-row .kept .1 .1 .1 .1 .0) (c .next-unmarked2 .ensures), (omega (arith, inv .1 .1 .0, length-append found (e ∷ [])), put-on _ _ _ _ _ _ _ row-bytes _ _ _ _ _ _ (inv .1 .1 .1) (at-take-row .take-row .ensures .0) (at-put-row-bytes .put-row-bytes .ensures)))))
+    (at-put-row-bytes .put-row-bytes .kept .0 ∙ at-loop .loop .inv .0, (found ++ (e ∷ []), (sweep-on _ _ _ _ _ _ _ _ _ _ (at-loop-test .loop-test .taken) (inv .1 .0) (at-take-row .take-row .ensures .1) (at-take-row .take-row .kept .1 .1 .1 .1 .1 .0) (c .next-unmarked2 .ensures), (omega (arith, inv .1 .1 .0, length-append found (e ∷ [])), put-on _ _ _ _ _ _ _ _ row-bytes _ _ _ _ _ _ (inv .1 .1 .1) (at-take-row .take-row .ensures .0) (at-put-row-bytes .put-row-bytes .ensures)))))
 
 -- src/sheet.rt:32:1
 same-length : tie.Need-same-length Inv-loop μ-loop
@@ -85,7 +85,7 @@ returns : tie.Need-returns Inv-loop μ-loop
 returns c =
     let inv = c .before .loop .inv .1 in
     let all = sweep-end _ _ _ _ _ _ _ _ (c .loop-test .left) (inv .1 .0) in
-    (inv .1 .1 .0 ∙ ap (λ (xs : List ℕ). length xs) all, ap (λ (p : Page). p .slice) (put-all _ _ _ _ _ _ _ row-bytes _ _ _ _ all (inv .1 .1 .1)))
+    (inv .1 .1 .0 ∙ ap (λ (xs : List ℕ). length xs) all, ap (λ (p : Page). p .slice) (put-all _ _ _ _ _ _ _ _ row-bytes _ _ _ _ all (inv .1 .1 .1)))
 
 pub put-sheet-bytes-spec : {M : Type 1} → statement M
 put-sheet-bytes-spec =

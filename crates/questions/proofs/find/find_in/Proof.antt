@@ -26,7 +26,7 @@ same-length c = search needs
 returns : tie.Need-returns
 returns c =
     let at-search-label = c .before .before .before .before .before .before .before in
-    λ lengths. find-chain _ _ _ _ _ (at-search-label .search-label .ensures) _ _ _ (ap asFound (sym (c .before .before .before .found .given .1))) (c .before .low-edge .ensures) (c .name-of .ensures)
+    λ lengths volumes. find-chain _ _ _ _ _ (at-search-label .search-label .ensures) _ _ _ (ap asFound (sym (c .before .before .before .found .given .1))) (c .before .low-edge .ensures) (c .name-of .ensures)
 
 same-length-2 : tie.Need-same-length-2
 same-length-2 c = search needs
@@ -34,7 +34,7 @@ same-length-2 c = search needs
 returns-2 : tie.Need-returns-2
 returns-2 c =
     let at-search-label = c .before .before .before .before in
-    λ lengths. find-nobody _ _ _ _ _ (at-search-label .search-label .ensures) (ap asFound (sym (c .enum-told .given .1)))
+    λ lengths volumes. find-nobody _ _ _ _ _ (at-search-label .search-label .ensures) (ap asFound (sym (c .enum-told .given .1)))
 
 pub find-in-spec : {M : Type 1} → statement M
 find-in-spec =

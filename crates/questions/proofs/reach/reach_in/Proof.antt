@@ -6,13 +6,13 @@ use Rattle.questions.proofs.reach.reach_in.Statement.{statement}
 use Rattle.questions.proofs.reach.reach_in.Tie as tie
 
 returns : tie.Need-returns
-returns c = λ labels. reach-past (tables _ _ _ _ labels) _ _ (c .if1 .taken)
+returns c = λ volumes labels. reach-past (tables _ _ _ _ volumes labels) _ _ (c .if1 .taken)
 
 degree-of-requires : tie.Need-degree-of-requires
 degree-of-requires c κs = search needs
 
 returns-2 : tie.Need-returns-2
-returns-2 c = λ labels. reach-singular (tables _ _ _ _ labels) _ _ (c .before .before .if1 .left) (λ e. c .if2 .taken (c .before .degree-of .ensures ∙ e))
+returns-2 c = λ volumes labels. reach-singular (tables _ _ _ _ volumes labels) _ _ (c .before .before .if1 .left) (λ e. c .if2 .taken (c .before .degree-of .ensures ∙ e))
 
 low-edge-requires : tie.Need-low-edge-requires
 low-edge-requires c κs = search needs
@@ -29,7 +29,7 @@ returns-3 c =
     let at-if2 = at-low-edge .before in
     let at-degree-of = at-if2 .before in
     let at-if1 = at-degree-of .before in
-    λ labels. reach-round (tables _ _ _ _ labels) _ _ _ _ _ (at-if1 .if1 .left) (sym (at-degree-of .degree-of .ensures) ∙ at-if2 .if2 .left) (at-low-edge .low-edge .ensures) (c .before .before .before .go-along .ensures) (sym (c .before .before .degree-of2 .ensures) ∙ c .before .if3 .taken)
+    λ volumes labels. reach-round (tables _ _ _ _ volumes labels) _ _ _ _ _ (at-if1 .if1 .left) (sym (at-degree-of .degree-of .ensures) ∙ at-if2 .if2 .left) (at-low-edge .low-edge .ensures) (c .before .before .before .go-along .ensures) (sym (c .before .before .degree-of2 .ensures) ∙ c .before .if3 .taken)
 
 high-edge-requires : tie.Need-high-edge-requires
 high-edge-requires c κs = search needs
@@ -46,7 +46,7 @@ returns-4 c =
     let at-if2 = at-low-edge .before in
     let at-degree-of = at-if2 .before in
     let at-if1 = at-degree-of .before in
-    λ labels. reach-both (tables _ _ _ _ labels) _ _ _ _ _ (at-if1 .if1 .left) (sym (at-degree-of .degree-of .ensures) ∙ at-if2 .if2 .left) (at-low-edge .low-edge .ensures) (at-go-along .go-along .ensures) _ _ (λ e. at-if3 .if3 .left (at-degree-of2 .degree-of2 .ensures ∙ e)) (c .before .before .before .high-edge .ensures) (c .before .before .go-along2 .ensures .1)
+    λ volumes labels. reach-both (tables _ _ _ _ volumes labels) _ _ _ _ _ (at-if1 .if1 .left) (sym (at-degree-of .degree-of .ensures) ∙ at-if2 .if2 .left) (at-low-edge .low-edge .ensures) (at-go-along .go-along .ensures) _ _ (λ e. at-if3 .if3 .left (at-degree-of2 .degree-of2 .ensures ∙ e)) (c .before .before .before .high-edge .ensures) (c .before .before .go-along2 .ensures .1)
 
 pub reach-in-spec : {M : Type 1} → statement M
 reach-in-spec =

@@ -28,12 +28,16 @@ put-u32-requires-4 c κs = search needs
 put-u32-requires-5 : tie.Need-put-u32-requires-5
 put-u32-requires-5 c κs = search needs
 
+put-u32-requires-6 : tie.Need-put-u32-requires-6
+put-u32-requires-6 c κs = search needs
+
 same-length : tie.Need-same-length
 same-length c = search needs
 
 returns : tie.Need-returns
 returns c =
-    let at-put-u324 = c .before .before .before .before .before .before in
+    let at-put-u325 = c .before .before .before .before .before .before in
+    let at-put-u324 = at-put-u325 .before .before .before .before in
     let at-put-u323 = at-put-u324 .before .before .before .before in
     let at-wide3 = at-put-u323 .before in
     let at-put-u322 = at-wide3 .before .before .before .before in
@@ -43,7 +47,8 @@ returns c =
     rw (← at-wide .wide .ensures, ← at-wide2 .wide2 .ensures, ← at-wide3 .wide3 .ensures) (write-two (_ ∷ []) _ _ _ _ (at-put-u32 .put-u32 .ensures)
     (write-two (_ ∷ []) _ _ _ _ (at-put-u322 .put-u322 .ensures)
     (write-two (_ ∷ []) _ _ _ _ (at-put-u323 .put-u323 .ensures)
-    (write-two (_ ∷ []) _ _ _ _ (at-put-u324 .put-u324 .ensures) (c .before .before .put-u325 .ensures)))))
+    (write-two (_ ∷ []) _ _ _ _ (at-put-u324 .put-u324 .ensures)
+    (write-two (_ ∷ []) _ _ _ _ (at-put-u325 .put-u325 .ensures) (c .before .before .put-u326 .ensures))))))
 
 pub put-row-spec : {M : Type 1} → statement M
 put-row-spec =
@@ -57,5 +62,6 @@ put-row-spec =
     put-u32-requires-3
     put-u32-requires-4
     put-u32-requires-5
+    put-u32-requires-6
     same-length
     returns)

@@ -38,7 +38,7 @@ returns : tie.Need-returns
 returns c =
     let at-clear16 = c .before .before .before .before .before .before in
     let at-sheet-in = at-clear16 .before .before .before .before .before .before .before .before in
-    (at-sheet-in .sheet-in .ensures, (at-clear16 .clear16 .ensures ∙ ap (λ (n : ℕ). replicate n 0) (at-sheet-in .sheet-in .kept .1 .1 .1 .1 .1 .0), c .before .before .clear162 .ensures ∙ ap (λ (n : ℕ). replicate n 0) (at-sheet-in .sheet-in .kept .1 .1 .1 .1 .1 .1 .0)))
+    (at-sheet-in .sheet-in .ensures, (at-clear16 .clear16 .ensures ∙ ap (λ (n : ℕ). replicate n 0) (at-sheet-in .sheet-in .kept .1 .1 .1 .1 .1 .1 .0), c .before .before .clear162 .ensures ∙ ap (λ (n : ℕ). replicate n 0) (at-sheet-in .sheet-in .kept .1 .1 .1 .1 .1 .1 .1 .0)))
 
 pub sheet-cleared-spec : {M : Type 1} → statement M
 sheet-cleared-spec =

@@ -15,7 +15,7 @@ same-length c = search needs
 
 -- src/sheet.rt:47:9
 returns : tie.Need-returns
-returns c = λ labels. sheet-short (tables _ _ _ _ labels) _ _ _ _ _ (c .before .before .before .has-room .ensures) (not-true _ (c .if1 .taken))
+returns c = λ labels. sheet-short (tables _ _ _ _ _ labels) _ _ _ _ _ (c .before .before .before .has-room .ensures) (not-true _ (c .if1 .taken))
 
 -- src/sheet.rt:49:9
 put-rows-requires : tie.Need-put-rows-requires
@@ -39,7 +39,7 @@ returns-2 c =
     let at-put-rows = c .before .before .before .before in
     let at-if1 = at-put-rows .before .before .before in
     let at-has-room = at-if1 .before .before .before in
-    λ labels. sheet-whole (tables _ _ _ _ labels) _ _ _ _ _ (at-has-room .has-room .ensures) _ _ (not-false _ (at-if1 .if1 .left)) (at-put-rows .put-rows .ensures .0) (at-put-rows .put-rows .ensures .1)
+    λ labels. sheet-whole (tables _ _ _ _ _ labels) _ _ _ _ _ (at-has-room .has-room .ensures) _ _ (not-false _ (at-if1 .if1 .left)) (at-put-rows .put-rows .ensures .0) (at-put-rows .put-rows .ensures .1)
 
 pub sheet-in-spec : {M : Type 1} → statement M
 sheet-in-spec =
