@@ -16,7 +16,7 @@
  *   Overlap    `list` and `answer` must not overlap.
  *   Threads    nothing is shared or kept between calls, nothing is allocated, no signal is used: any number of threads may call at
  *              once, as long as no thread writes a list or an answer that another call was given.
- *   Stack      a call uses less than 176 KiB. A thread's default stack may be smaller (musl: 128 KiB). The call touches its pages one by
+ *   Stack      a call uses less than 192 KiB. A thread's default stack may be smaller (musl: 128 KiB). The call touches its pages one by
  *              one before it writes to any, so on a stack that is too small it ends at the guard page and harms nothing behind it.
  *   Linking    the archive is position independent: it links into programs and into shared objects alike (README.md has the lines). From
  *              the C library it needs memset alone.

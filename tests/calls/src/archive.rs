@@ -3,7 +3,7 @@
 use std::ptr;
 
 /// The bytes of stack that a call has to stay below, as include/pnl.h promises.
-pub const STACK_BOUND: usize = 176 * 1024;
+pub const STACK_BOUND: usize = 192 * 1024;
 
 extern "C" {
     fn pnl_sheet(list: *const u8, list_len: usize, answer: *mut u8, answer_len: usize) -> i32;
