@@ -86,7 +86,7 @@ enum pnl_refusal {
     PNL_REFUSED_AMOUNT = -40,           /* a record above 1,000,000 ml */
     /* The planner. */
     PNL_REFUSED_PLAN_BOUNDS = -34,      /* a flow of 0 or above 1,000,000 ml a minute, a minute above 10,079, or more than 32 windows */
-    PNL_REFUSED_PLAN_WINDOWS = -35,     /* a window that is empty, ends above 10,080, or starts before the previous one's end */
+    PNL_REFUSED_PLAN_WINDOWS = -35,     /* a window that does not start before its end, ends above 10,080, or starts before the previous one's end */
     /* The call. */
     PNL_REFUSED_NO_COUPLING = -8,       /* a tag that no coupling wears, or a number that is no coupling's */
     PNL_REFUSED_SHORT_ANSWER = -9       /* the answer does not fit in answer_len bytes */
@@ -222,9 +222,9 @@ static inline int32_t pnl_recipe_at(const struct pnl_valve *valve, uint32_t volu
 
 /* When a change of recipe can go through.
  *
- * A compartment may be fed within its windows alone, the same each week. A change needs its transit: as many minutes as the volume between
- * the mixer and the compartment takes at the given flow, the quotient rounded up. The call tells the first minute from which the whole
- * transit lies inside one window.
+ * A change of recipe may go through a compartment within its windows alone, the same each week. It needs its transit: as many minutes as the
+ * volume between the mixer and the compartment takes at the given flow, the quotient rounded up. The call tells the first minute from which
+ * the whole transit lies inside one window. The volume of a run or ring is the last number of its line: pnl_number(sheet, 6 * line + 5).
  *
  *   Minute     of the week, 0 to 10,079; those of the next week are counted on, 10,080 to 20,159.
  *   Window     two numbers: the minute at which it starts, and the one at which it ends, which is no longer inside, at most 10,080. The

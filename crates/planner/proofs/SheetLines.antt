@@ -11,6 +11,8 @@ use Rattle.model.specs.Graph.{Edge, nameOf, chainVolume}
 use Rattle.model.specs.Register.{Register}
 use Rattle.model.specs.Queries.{listed, refuses, row, rowsOf, sheet, sheetNumbers}
 use Rattle.model.specs.Calls.{sheeting, fills, answer}
+use Rattle.planner.specs.Windows.{Window}
+use Rattle.planner.specs.Planning.{plan}
 use Rattle.planner.specs.Lines.{lineVolume}
 use Rattle.planner.proofs.LineLaws.{Wide, line-of-row}
 
@@ -61,3 +63,9 @@ answered-line r slice n i e h = go (ltb (length slice) (length (sheetNumbers r))
         let z : listed (length (sheet r)) ≡ listed n = rw q at e in
         let k : length (sheet r) ≡ n = cc in
         rw q (sheet-line r slice i (omega arith))
+
+-- so a plan with the volume that is read from a line is the plan of the run or ring that the line names
+pub planned-line : (r : Register) (slice : List ℕ) (n i : ℕ) → (answer (sheeting slice) r) .reply ≡ listed n → i < n
+    → (flow given : ℕ) (ws : List Window)
+    → plan (lineVolume ((answer (sheeting slice) r) .slice) i) flow given ws ≡ plan (chainVolume (r .edges) (getD (getD (sheet r) i []) 0 0)) flow given ws
+planned-line r slice n i e h flow given ws = ap (λ (v : ℕ). plan v flow given ws) (answered-line r slice n i e h)

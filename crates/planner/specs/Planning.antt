@@ -22,14 +22,14 @@ unfoldable pub insideOne : ℕ → ℕ → ℕ → List Window → Bool
 insideOne weekStart minutes minute [] = false
 insideOne weekStart minutes minute (w ∷ ws) = inside weekStart minutes minute w || insideOne weekStart minutes minute ws
 
--- "this week or the next (its minutes counted on from 10,080)"
-unfoldable pub possibleAt : List Window → ℕ → ℕ → Bool
-possibleAt ws minutes minute = insideOne 0 minutes minute ws || insideOne week minutes minute ws
-
 -- the first of the k numbers from n on that passes a test
 unfoldable pub firstOf : (ℕ → Bool) → ℕ → ℕ → Option ℕ
 firstOf test zero n = none
 firstOf test (suc k) n = elim (test n) [ true ↦ some n | false ↦ firstOf test k (suc n) ]
+
+-- "this week or the next (its minutes counted on from 10,080)"
+unfoldable pub possibleAt : List Window → ℕ → ℕ → Bool
+possibleAt ws minutes minute = insideOne 0 minutes minute ws || insideOne week minutes minute ws
 
 -- "the first minute at or after a given one, this week or the next .., from which the whole transit lies inside one window"
 unfoldable pub earliest : List Window → ℕ → ℕ → Option ℕ
