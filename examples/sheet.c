@@ -1,5 +1,5 @@
-/* All four calls: the runs of a small house, the run of a tag, how far a coupling is from the ends of its run, and how far two
- * fittings are from each other.
+/* All four calls: the runs of a small house with their volumes, the coupling that wears a tag and a coupling by its number, with their run
+ * and how far they are from its ends, and how far two fittings are from each other.
  *
  *     ./build
  *     cc -Iinclude examples/sheet.c target/staticlib/libpnl.a -o target/sheet && target/sheet

@@ -116,7 +116,7 @@ impl Millimetres {
     }
 }
 
-// The volume of one pipe; 0 in the register where it is not known.
+// A volume: of one pipe by `new`, which MIN and MAX bound; a sum of them by `volume_onto` of chains. 0 in the register where it is not known.
 pub struct Millilitres(pub u32);
 
 pub enum CheckedMillilitres {

@@ -1,7 +1,7 @@
 // Labels (document 01: tags) along a chain. A vertex has its own label and its own low edge, and no chain is stored: that rules out
 // document 01's "faults near at hand". Where each would have been:
 // - the greatest key smaller than a label: `label_vertex`. It keeps no dictionary of lowest labels; a find looks for the label itself.
-// - a stored weight that a split makes false: `label_vertex`. It stores none; a reach adds up lengths.
+// - a stored weight that a split makes false: `label_vertex`. It stores none; a find adds up lengths.
 // - a lone regular vertex always extended upwards: `rises`.
 // - the second split in the chain as it was: `split_both` and `split_two`.
 // - the leaf's own chain split: `place_open` of insertion.
