@@ -19,7 +19,7 @@ const FULL_SIZE_TURN: usize = 20;
 const FIRST_FULL_SIZE: usize = 12;
 
 /// The most tags that are asked for in turn.
-const MOST_TAGS: usize = 200;
+const MOST_TAGS: usize = 40;
 
 /// Shapes that leave rings standing.
 const WITH_RINGS: &[Shape] = &[
