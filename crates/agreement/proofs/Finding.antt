@@ -168,10 +168,10 @@ find-agrees r g label tree l = go (s .wearer) refl (a .wearer-is)
     t = tablesOf r
 
     s : Sought
-    s = searchIn ((tablesOf r) .degrees) ((tablesOf r) .sides) ((tablesOf r) .ends) ((tablesOf r) .labels) (r .vertices) (length (r .edges)) label tree
+    s = searchIn ((tablesOf r) .degrees) ((tablesOf r) .sides) ((tablesOf r) .ends) ((tablesOf r) .labels) (r .vertices) (length (r .edges)) label
 
     a : Agrees r g label s (search r label)
-    a = search-agrees r g label tree (omega (arith, few r g))
+    a = search-agrees r g label
 
     go : (o : Option ℕ) → s .wearer ≡ o → Wearer r g label (s .wearer) ((search r label) .holder) → findIn (tablesOf r) (countsOf r) tree label ≡ find r label
     go none e w =

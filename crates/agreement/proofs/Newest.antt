@@ -1,9 +1,8 @@
 -- The search from the newest chain over the tables takes what the search of model takes, and finds the vertex whose chain that one names.
 use mathlib.Core.Path.{_≡_, refl, sym, ap, _∙_, subst}
 use mathlib.Core.Logic.{_≢_, _⊎_, inl, inr}
-use Prim.Native.Nat.{ℕ, zero, suc, _+_, _-_, _*_, _≤_, _<_}
+use Prim.Native.Nat.{ℕ, zero, suc, _+_, _*_, _≤_, _<_, min, max}
 use native.Mathlib.Omega.{arith}
-use native.Mathlib.Numerals.{sub-one}
 use native.Mathlib.Decide.{ℕ-discrete}
 use mathlib.Core.Bool.{Bool, true, false, not, _&&_, _||_}
 use mathlib.Core.Option.{Option, none, some}
@@ -19,18 +18,18 @@ use Rattle.model.specs.Newest.{Searched, has, innerLabels, lowestLabel, search,
 use Rattle.model.specs.Tables.{Tables, tablesOf}
 use Rattle.model.specs.Notions.{Reachable, SameEdges, SameRing}
 use Rattle.model.specs.Series.{OwnChain}
-use Rattle.tables.specs.Steps.{farIn, more16}
+use Rattle.tables.specs.Steps.{farIn}
 use Rattle.chains.specs.Chains.{goesOnIn}
-use Rattle.chains.specs.Tournament.{keyIn, withoutIn}
-use Rattle.chains.specs.Newest.{Sought, entriesIn, entryIn, holderIn, isLowestIn, plantedIn, searchIn, sought, soughtAfter, takeIn, wearerIn, wearsIn}
-use Rattle.chains.proofs.NewestLaws.{lowest-bare, wearer-here, wearer-on, wearer-stop}
-use Rattle.chains.proofs.Winners.{AllFair, Own, all-crowned, entries-are, entries-long, first-most, first-own, taken-out}
+use Rattle.chains.specs.Newest.{Sought, bestIn, holderIn, isLowestIn, lowestsIn, noBound, searchIn, sought, soughtAfter, takeIn, wearerIn, wearsIn}
+use Rattle.chains.proofs.NewestLaws.{lowest-bare, take-nobody, take-none, take-some, wearer-here, wearer-on, wearer-stop}
+use Rattle.chains.proofs.OrderLaws.{Best, best-is, nobody, somebody, total-less}
+use Rattle.model.proofs.Basics.Total.{total}
 use Rattle.model.proofs.Basics.Booleans.{and-true, not-both, or-false, true-or-false}
 use Rattle.model.proofs.Basics.Lists.{length-upTo, mem-reverse}
 use Rattle.model.proofs.Walks.Degree.{Proper, is-two, two-is}
-use Rattle.model.proofs.Walks.Turn.{At}
+use Rattle.model.proofs.Walks.Turn.{At, Turned, turned, two-edges}
 use Rattle.model.proofs.Walks.Joins.{Across, across, other-end}
-use Rattle.model.proofs.Walks.Trail.{afters, walk-stop}
+use Rattle.model.proofs.Walks.Trail.{walk-on, walk-stop}
 use Rattle.model.proofs.Walks.Round.{ring-round}
 use Rattle.model.proofs.Chains.Same.{chain-open}
 use Rattle.model.proofs.Chains.Partition.{chain-again, chain-back, chain-has, chain-name, first-at, name-below, name-in-chain, ring-again}
@@ -41,6 +40,8 @@ use Rattle.model.proofs.Registers.Facts.{LabelFacts, zero-then}
 use Rattle.model.proofs.Registers.Founded.{Founded, regular-landed}
 use Rattle.model.proofs.Registers.Labelled.{label-facts}
 use Rattle.model.proofs.Registers.Sides.{sided}
+use Rattle.model.proofs.Registers.ReadBack.{first-read, second-read}
+use Rattle.model.proofs.Registers.Small.{labels-small}
 use Rattle.model.proofs.Registers.Newest.{Falling, Taken, falling, has-mem, in-newest, inner-regular, lowest-most, mem-has, newest, newest-few, own-is, own-newest}
 use Rattle.agreement.proofs.Tables.{far-is, sides-linked}
 use Rattle.agreement.proofs.Registers.{few, founded, labels-long, landed-below, lawful, low-at, proper}
@@ -213,125 +214,190 @@ module _ (r : Register) (g : Reachable r) where
     unfolding chainAt
     own = own-chain es₁ (proper r g) v reg
 
-    -- its low edge lies on its chain
+    -- the way up from v
+    abbrev high : ℕ
+    high = turn es₁ (lowEdgeOf r v) v
+
+    abbrev next-up : ℕ
+    next-up = far es₁ (turn es₁ (lowEdgeOf r v) v) v
+
+    turned-low : Turned es₁ v low
+    turned-low = turned es₁ v low (two-edges es₁ v (proper r g) (is-two es₁ v reg)) at-low
+
+    at-high : At es₁ v high
+    at-high = turned-low .at
+
+    -- its edges lie on its chain
     low-on : Mem low ((chainOf es₁ (chainAt r v)) .edges)
     low-on = inner-chain es₁ (proper r g) (chainAt r v) low v (own .inside) (own .has) at-low
 
-    to-own : (w : ℕ) → Mem w ((chainOf es₁ low) .inner) → Mem w ((chainOf es₁ (chainAt r v)) .inner)
-    to-own w m = inner-same (chainAt r v) low w (own .inside) (at-low .inside) low-on m
+    high-on : Mem high ((chainOf es₁ (chainAt r v)) .edges)
+    high-on = inner-chain es₁ (proper r g) (chainAt r v) high v (own .inside) (own .has) at-high
 
-    from-own : (w : ℕ) → Mem w ((chainOf es₁ (chainAt r v)) .inner) → Mem w ((chainOf es₁ low) .inner)
-    from-own w m = inner-same low (chainAt r v) w (at-low .inside) (own .inside) (chain-back es₁ (proper r g) low (chainAt r v) (own .inside) low-on) m
+    to-own : (w : ℕ) → Mem w ((chainOf es₁ high) .inner) → Mem w ((chainOf es₁ (chainAt r v)) .inner)
+    to-own w m = inner-same (chainAt r v) high w (own .inside) (at-high .inside) high-on m
+
+    from-own : (w : ℕ) → Mem w ((chainOf es₁ (chainAt r v)) .inner) → Mem w ((chainOf es₁ high) .inner)
+    from-own w m = inner-same high (chainAt r v) w (at-high .inside) (own .inside) (chain-back es₁ (proper r g) high (chainAt r v) (own .inside) high-on) m
 
     abbrev passed : List Pass
-    passed = until (far es₁ (lowEdgeOf r v) v) (walk (length es₁) es₁ (lowEdgeOf r v) v)
+    passed = until v (walk (length es₁) es₁ (turn es₁ (lowEdgeOf r v) v) (far es₁ (turn es₁ (lowEdgeOf r v) v) v))
 
-    round-is : onceRound es₁ low home ≡ passed
+    round-is : onceRound es₁ high v ≡ passed
     unfolding onceRound onwards
-    round-is = ap (λ (w : ℕ). until home (walk (length es₁) es₁ low w)) (x .again)
+    round-is = refl
 
-    -- who walks up from v visits the regular vertices of its chain, and none else
+    -- who looks at v and walks up from it meets the regular vertices of its chain, and none else
+    abbrev met : List ℕ
+    met = v ∷ visited es₁ (far es₁ (turn es₁ (lowEdgeOf r v) v) v) (until v (walk (length es₁) es₁ (turn es₁ (lowEdgeOf r v) v) (far es₁ (turn es₁ (lowEdgeOf r v) v) v)))
+
     record Visits : Type 0 where
-      only : (w : ℕ) → Mem w (visited es₁ v passed) → isRegular es₁ w ≡ true → Mem w ((chainOf es₁ low) .inner)
-      all : (w : ℕ) → Mem w ((chainOf es₁ low) .inner) → Mem w (visited es₁ v passed)
+      only : (w : ℕ) → Mem w met → isRegular es₁ w ≡ true → Mem w ((chainOf es₁ high) .inner)
+      all : (w : ℕ) → Mem w ((chainOf es₁ high) .inner) → Mem w met
 
-    in-ring : edgeOnRing es₁ low ≡ true → Visits
+    in-ring : edgeOnRing es₁ high ≡ true → Visits
     in-ring q =
         let pr : Proper es₁ = proper r g in
-        let same : SameRing (ringFrom es₁ pr low home) (chainOf es₁ low) = ring-only es₁ pr (ringFrom es₁ pr low home) low (loop-is-ring es₁ pr low home (x .at) (ring-round es₁ pr low home q (x .at))) (at-head refl) .1 in
+        let same : SameRing (ringFrom es₁ pr high v) (chainOf es₁ high) = ring-only es₁ pr (ringFrom es₁ pr high v) high (loop-is-ring es₁ pr high v at-high (ring-round es₁ pr high v q at-high)) (at-head refl) .1 in
         record {
-          only = λ w m reg′. same .inner-in w (inside w (append-cases (map atOf passed) m));
+          only = λ w m reg′. same .inner-in w (inside w (mem-cases m));
           all = λ w m. outside w (mem-cases (same .inner-back w m));
         }
       where
-        end : endOf es₁ v passed ≡ home
-        end = ap (λ (s : List Pass). endOf es₁ v s) (sym round-is) ∙ ap (λ (w : ℕ). endOf es₁ w (onceRound es₁ low home)) (sym (x .again)) ∙ round-end es₁ (proper r g) low home (x .at) q .0
+        end : endOf es₁ next-up passed ≡ v
+        end = ap (λ (s : List Pass). endOf es₁ next-up s) (sym round-is) ∙ round-end es₁ (proper r g) high v at-high q .0
 
-        inside : (w : ℕ) → Mem w (map atOf passed) ⊎ Mem w (endOf es₁ v passed ∷ []) → Mem w (home ∷ map atOf (onceRound es₁ low home))
-        inside w (inl m) = in-tail (subst (λ (s : List Pass). Mem w (map atOf s)) (sym round-is) m)
-        inside w (inr m) = last (mem-cases m)
+        inside : (w : ℕ) → (w ≡ v) ⊎ Mem w (visited es₁ next-up passed) → Mem w (v ∷ map atOf (onceRound es₁ high v))
+        inside w (inl e) = at-head e
+        inside w (inr m) = on (append-cases (map atOf passed) m)
           where
-            last : (w ≡ endOf es₁ v passed) ⊎ Mem w [] → Mem w (home ∷ map atOf (onceRound es₁ low home))
+            last : (w ≡ endOf es₁ next-up passed) ⊎ Mem w [] → Mem w (v ∷ map atOf (onceRound es₁ high v))
             last (inl e) = at-head (e ∙ end)
             last (inr m) = absurd (mem-nil m)
 
-        outside : (w : ℕ) → (w ≡ home) ⊎ Mem w (map atOf (onceRound es₁ low home)) → Mem w (visited es₁ v passed)
-        outside w (inl e) = Memᴰ·append-right (map atOf passed) (at-head (e ∙ sym end))
-        outside w (inr m) = Memᴰ·append-left (endOf es₁ v passed ∷ []) (rw round-is at m)
+            on : Mem w (map atOf passed) ⊎ Mem w (endOf es₁ next-up passed ∷ []) → Mem w (v ∷ map atOf (onceRound es₁ high v))
+            on (inl m) = in-tail (subst (λ (s : List Pass). Mem w (map atOf s)) (sym round-is) m)
+            on (inr m) = last (mem-cases m)
 
-    data LowEnds : Type 0 where
-      v-first : (edgeAt es₁ low) .first ≡ v → (edgeAt es₁ low) .second ≡ home → LowEnds
-      v-second : (edgeAt es₁ low) .first ≡ home → (edgeAt es₁ low) .second ≡ v → LowEnds
+        outside : (w : ℕ) → (w ≡ v) ⊎ Mem w (map atOf (onceRound es₁ high v)) → Mem w met
+        outside w (inl e) = at-head e
+        outside w (inr m) = in-tail (Memᴰ·append-left (endOf es₁ next-up passed ∷ []) (subst (λ (s : List Pass). Mem w (map atOf s)) round-is m))
 
-    on-chain : edgeOnRing es₁ low ≡ false → isRegular es₁ home ≡ false → Visits
-    unfolding openChain onwards
+    -- the ends of an edge of v
+    data Ends (d : ℕ) : Type 0 where
+      v-first : (edgeAt es₁ d) .first ≡ v → (edgeAt es₁ d) .second ≡ far es₁ d v → Ends d
+      v-second : (edgeAt es₁ d) .first ≡ far es₁ d v → (edgeAt es₁ d) .second ≡ v → Ends d
+
+    ends-of : (d : ℕ) → At es₁ v d → Ends d
+    ends-of d at = go (ℕ-discrete ((edgeAt es₁ d) .first) v)
+      where
+        go : Dec ((edgeAt es₁ d) .first ≡ v) → Ends d
+        go (yes e) = v-first e (sym (far-first es₁ d) ∙ ap (far es₁ d) e)
+        go (no n) =
+            let e : (edgeAt es₁ d) .first ≡ far es₁ d v = other-end es₁ d v ((edgeAt es₁ d) .first) (proper r g) at (at-first r g d (at .inside)) n in
+            v-second e (sym (far-first es₁ d) ∙ ap (far es₁ d) e ∙ (across es₁ d v (proper r g) at) .again)
+
+    -- downwards there is only v, where its low edge comes from a singular vertex
+    down : isRegular es₁ home ≡ false → map atOf (onwards es₁ high v) ≡ v ∷ []
+    unfolding onwards atOf
+    down sing = go (length es₁) refl
+      where
+        ended : (m : ℕ) → walk m es₁ (turn es₁ high v) (far es₁ (turn es₁ high v) v) ≡ []
+        ended m = rw (turned-low .again) (walk-stop m es₁ low home sing)
+
+        go : (m : ℕ) → length es₁ ≡ m → map atOf (walk (length es₁) es₁ high v) ≡ v ∷ []
+        go zero e = absurd (omega (arith, at-high .inside))
+        go (suc m) e = rw (e, walk-on m es₁ high v reg, ended m)
+
+    on-chain : edgeOnRing es₁ high ≡ false → isRegular es₁ home ≡ false → Visits
+    unfolding openChain
     on-chain q sing =
         record {
-          only = λ w m reg′. ours w reg′ (append-cases (map atOf passed) m);
-          all = λ w m. Memᴰ·append-left (endOf es₁ v passed ∷ []) (subst (λ (s : List Pass). Mem w (map atOf s)) (sym passed-is) (theirs w (append-cases (reverse (map atOf (onwards es₁ low first))) (subst (λ (c : Chain). Mem w (c .inner)) (chain-open es₁ low q) m)) (ℕ-discrete first v)));
+          only = λ w m reg′. subst (λ (c : Chain). Mem w (c .inner)) (sym (chain-open es₁ high q)) (ours w (ends-of high at-high) (kept w reg′ (mem-cases m)));
+          all = λ w m. back w (theirs w (ends-of high at-high) (append-cases (reverse (map atOf (onwards es₁ high ((edgeAt es₁ high) .first)))) (subst (λ (c : Chain). Mem w (c .inner)) (chain-open es₁ high q) m)));
         }
       where
-        first : ℕ
-        first = (edgeAt es₁ low) .first
+        passed-is : passed ≡ onwards es₁ high next-up
+        passed-is = sym round-is ∙ round-open es₁ (proper r g) high v at-high q
 
-        second : ℕ
-        second = (edgeAt es₁ low) .second
-
-        passed-is : passed ≡ onwards es₁ low v
-        passed-is = sym round-is ∙ round-open es₁ (proper r g) low home (x .at) q ∙ ap (onwards es₁ low) (x .again)
-
-        no-way : onwards es₁ low home ≡ []
-        no-way = walk-stop (length es₁) es₁ low home sing
-
-        end-singular : isRegular es₁ (endOf es₁ v passed) ≡ false
+        end-singular : isRegular es₁ (endOf es₁ next-up passed) ≡ false
         end-singular =
-            rw (ap (λ (s : List Pass). endOf es₁ v s) (sym round-is) ∙ ap (λ (w : ℕ). endOf es₁ w (onceRound es₁ low home)) (sym (x .again)) ∙ open-end es₁ (proper r g) low home (x .at) q)
-            (open-singular es₁ (proper r g) low home (x .at) q)
+            rw (ap (λ (s : List Pass). endOf es₁ next-up s) (sym round-is) ∙ open-end es₁ (proper r g) high v at-high q)
+            (open-singular es₁ (proper r g) high v at-high q)
 
-        -- the ends of the low edge are v and home
-        ends-are : Dec (first ≡ v) → LowEnds
-        ends-are (yes e) = v-first e (sym (far-first es₁ low) ∙ ap (far es₁ low) e)
-        ends-are (no n) =
-            let e : first ≡ home = other-end es₁ low v first (proper r g) at-low (at-first r g low (at-low .inside)) n in
-            v-second e (sym (far-first es₁ low) ∙ ap (far es₁ low) e ∙ x .again)
-
-        ours : (w : ℕ) → isRegular es₁ w ≡ true → Mem w (map atOf passed) ⊎ Mem w (endOf es₁ v passed ∷ []) → Mem w ((chainOf es₁ low) .inner)
-        ours w reg′ (inr m) = last (mem-cases m)
+        kept : (w : ℕ) → isRegular es₁ w ≡ true → (w ≡ v) ⊎ Mem w (visited es₁ next-up passed) → (w ≡ v) ⊎ Mem w (map atOf (onwards es₁ high next-up))
+        kept w reg′ (inl e) = inl e
+        kept w reg′ (inr m) = on (append-cases (map atOf passed) m)
           where
-            last : (w ≡ endOf es₁ v passed) ⊎ Mem w [] → Mem w ((chainOf es₁ low) .inner)
+            last : (w ≡ endOf es₁ next-up passed) ⊎ Mem w [] → (w ≡ v) ⊎ Mem w (map atOf (onwards es₁ high next-up))
             last (inl e) = absurd (not-both _ (rw e at reg′) end-singular)
-            last (inr m) = absurd (mem-nil m)
-        ours w reg′ (inl m) =
-            subst (λ (c : Chain). Mem w (c .inner)) (sym (chain-open es₁ low q)) (by (ends-are (ℕ-discrete first v)) (rw passed-is at m))
-          where
-            by : LowEnds → Mem w (map atOf (onwards es₁ low v)) → Mem w (reverse (map atOf (onwards es₁ low first)) ++ map atOf (onwards es₁ low second))
-            by (v-first a b) n = Memᴰ·append-left (map atOf (onwards es₁ low second)) (mem-reverse w (map atOf (onwards es₁ low first)) (rw a n))
-            by (v-second a b) n = Memᴰ·append-right (reverse (map atOf (onwards es₁ low first))) (rw b n)
+            last (inr k) = absurd (mem-nil k)
 
-        theirs : (w : ℕ) → Mem w (reverse (map atOf (onwards es₁ low first))) ⊎ Mem w (map atOf (onwards es₁ low second)) → Dec (first ≡ v) → Mem w (map atOf (onwards es₁ low v))
-        theirs w m dec = by (ends-are dec) m
-          where
-            nobody : Mem w (map atOf (onwards es₁ low home)) → ⊥
-            nobody n = mem-nil (subst (λ (s : List Pass). Mem w (map atOf s)) no-way n)
+            on : Mem w (map atOf passed) ⊎ Mem w (endOf es₁ next-up passed ∷ []) → (w ≡ v) ⊎ Mem w (map atOf (onwards es₁ high next-up))
+            on (inl k) = inr (subst (λ (s : List Pass). Mem w (map atOf s)) passed-is k)
+            on (inr k) = last (mem-cases k)
 
-            by : LowEnds → Mem w (reverse (map atOf (onwards es₁ low first))) ⊎ Mem w (map atOf (onwards es₁ low second)) → Mem w (map atOf (onwards es₁ low v))
-            by (v-first a b) (inl n) = rw a at (mem-back w (map atOf (onwards es₁ low first)) n)
-            by (v-first a b) (inr n) = absurd (nobody (rw b at n))
-            by (v-second a b) (inl n) = absurd (nobody (rw a at (mem-back w (map atOf (onwards es₁ low first)) n)))
-            by (v-second a b) (inr n) = rw b at n
+        back : (w : ℕ) → (w ≡ v) ⊎ Mem w (map atOf (onwards es₁ high next-up)) → Mem w met
+        back w (inl e) = at-head e
+        back w (inr m) = in-tail (Memᴰ·append-left (endOf es₁ next-up passed ∷ []) (subst (λ (s : List Pass). Mem w (map atOf s)) (sym passed-is) m))
+
+        v-down : (w : ℕ) → w ≡ v → Mem w (map atOf (onwards es₁ high v))
+        v-down w e = subst (λ (l : List ℕ). Mem w l) (sym (down sing)) (at-head e)
+
+        only-v : (w : ℕ) → Mem w (map atOf (onwards es₁ high v)) → w ≡ v
+        only-v w m = go (mem-cases (subst (λ (l : List ℕ). Mem w l) (down sing) m))
+          where
+            go : (w ≡ v) ⊎ Mem w [] → w ≡ v
+            go (inl e) = e
+            go (inr k) = absurd (mem-nil k)
+
+        ours : (w : ℕ) → Ends high → (w ≡ v) ⊎ Mem w (map atOf (onwards es₁ high next-up))
+            → Mem w (reverse (map atOf (onwards es₁ high ((edgeAt es₁ high) .first))) ++ map atOf (onwards es₁ high ((edgeAt es₁ high) .second)))
+        ours w (v-first a b) (inl e) = Memᴰ·append-left (map atOf (onwards es₁ high ((edgeAt es₁ high) .second))) (mem-reverse w (map atOf (onwards es₁ high ((edgeAt es₁ high) .first))) (rw a (v-down w e)))
+        ours w (v-first a b) (inr m) = Memᴰ·append-right (reverse (map atOf (onwards es₁ high ((edgeAt es₁ high) .first)))) (rw b m)
+        ours w (v-second a b) (inl e) = Memᴰ·append-right (reverse (map atOf (onwards es₁ high ((edgeAt es₁ high) .first)))) (rw b (v-down w e))
+        ours w (v-second a b) (inr m) = Memᴰ·append-left (map atOf (onwards es₁ high ((edgeAt es₁ high) .second))) (mem-reverse w (map atOf (onwards es₁ high ((edgeAt es₁ high) .first))) (rw a m))
+
+        theirs : (w : ℕ) → Ends high → Mem w (reverse (map atOf (onwards es₁ high ((edgeAt es₁ high) .first)))) ⊎ Mem w (map atOf (onwards es₁ high ((edgeAt es₁ high) .second)))
+            → (w ≡ v) ⊎ Mem w (map atOf (onwards es₁ high next-up))
+        theirs w (v-first a b) (inl m) = inl (only-v w (rw a at (mem-back w (map atOf (onwards es₁ high ((edgeAt es₁ high) .first))) m)))
+        theirs w (v-first a b) (inr m) = inr (rw b at m)
+        theirs w (v-second a b) (inl m) = inr (rw a at (mem-back w (map atOf (onwards es₁ high ((edgeAt es₁ high) .first))) m))
+        theirs w (v-second a b) (inr m) = inl (only-v w (rw b at m))
 
     -- what the tables say of v
     side-is : getD (t₁ .sides) (2 * v) 0 ≡ low
     side-is = (sides-linked r g v (landed-below r g v low at-low) .regular (is-two es₁ v reg)) .0
 
-    lowest-reads : isLowestIn (t₁ .sides) (t₁ .ends) (t₁ .labels) v
-        ≡ not (eqb (labelOf r v) 0) && (eqb (labelOf r home) 0 || ltb (labelOf r v) (labelOf r home))
-    unfolding isLowestIn
-    lowest-reads = rw (labels-are r g 0, side-is, far-is r low v (at-low .inside))
+    high-is : getD (t₁ .sides) (2 * v + 1) 0 ≡ high
+    high-is = (sides-linked r g v (landed-below r g v low at-low) .regular (is-two es₁ v reg)) .1
 
-    holder-is : (label : ℕ) → holderIn (t₁ .degrees) (t₁ .sides) (t₁ .ends) (t₁ .labels) (length es₁) label v ≡ vertexWith r label (visited es₁ v passed)
+    -- v and the vertex over its low edge are the ends of that
+    lowest-reads : isLowestIn (t₁ .sides) (t₁ .ends) (t₁ .labels) v
+        ≡ not (eqb (labelOf r v) 0) && (eqb (min (labelOf r v) (labelOf r home)) 0 || ltb (labelOf r v) (max (labelOf r v) (labelOf r home)))
+    unfolding isLowestIn
+    lowest-reads = rw (labels-are r g 0, side-is, first-read r low (at-low .inside), second-read r low (at-low .inside)) (go (ends-of low at-low))
+      where
+        go : Ends low
+            → not (eqb (labelOf r v) 0) && (eqb (min (labelOf r ((edgeAt es₁ low) .first)) (labelOf r ((edgeAt es₁ low) .second))) 0 || ltb (labelOf r v) (max (labelOf r ((edgeAt es₁ low) .first)) (labelOf r ((edgeAt es₁ low) .second))))
+            ≡ not (eqb (labelOf r v) 0) && (eqb (min (labelOf r v) (labelOf r home)) 0 || ltb (labelOf r v) (max (labelOf r v) (labelOf r home)))
+        go (v-first a b) = rw (a, b)
+        go (v-second a b) =
+            let m : min (labelOf r home) (labelOf r v) ≡ min (labelOf r v) (labelOf r home) = omega arith in
+            let n : max (labelOf r home) (labelOf r v) ≡ max (labelOf r v) (labelOf r home) = omega arith in
+            rw (a, b, m, n)
+
+    holder-is : (label : ℕ) → holderIn (t₁ .degrees) (t₁ .sides) (t₁ .ends) (t₁ .labels) (length es₁) label v ≡ vertexWith r label met
     unfolding holderIn
-    holder-is label = rw (side-is, far-is r low v (at-low .inside)) (wearer-agrees r g label home (length es₁) low v at-low)
+    holder-is label = go (true-or-false (wearsIn (t₁ .degrees) (t₁ .labels) label v))
+      where
+        go : (wearsIn (t₁ .degrees) (t₁ .labels) label v ≡ true) ⊎ (wearsIn (t₁ .degrees) (t₁ .labels) label v ≡ false)
+            → holderIn (t₁ .degrees) (t₁ .sides) (t₁ .ends) (t₁ .labels) (length es₁) label v ≡ vertexWith r label met
+        go (inl q) = rw (q, holderIn) (sym (with-yes r g label v (visited es₁ next-up passed) (sym (wears-is r g label low v at-low) ∙ q)))
+        go (inr q) =
+            rw (q, holderIn, high-is, far-is r high v (at-high .inside))
+            (wearer-agrees r g label v (length es₁) high next-up ((across es₁ high v (proper r g) at-high) .at)
+            ∙ sym (with-no r g label v (visited es₁ next-up passed) (sym (wears-is r g label low v at-low) ∙ q)))
 
     neighbour : LowNeighbour r (proper r g) (chainAt r v) v
     neighbour = low-neighbour r (proper r g) (sided r g) (chainAt r v) (own .inside) v reg (own .has)
@@ -357,20 +423,23 @@ module _ (r : Register) (g : Reachable r) where
               wears = omega (arith, lowest-most r (proper r g) (chainAt r v) v (own .has), all (own-taken .vertex) (own-taken .in-it), own-taken .wears);
             }
 
-        ways : (edgeOnRing es₁ low ≡ true) ⊎ (edgeOnRing es₁ low ≡ false) → (isRegular es₁ home ≡ false) ⊎ (edgeOnRing es₁ (chainAt r v) ≡ true) → Visits
+        ways : (edgeOnRing es₁ high ≡ true) ⊎ (edgeOnRing es₁ high ≡ false) → (isRegular es₁ home ≡ false) ⊎ (edgeOnRing es₁ (chainAt r v) ≡ true) → Visits
         ways (inl q) s = in-ring q
         ways (inr q) (inl s) = on-chain q s
-        ways (inr q) (inr s) = in-ring ((ring-again es₁ (proper r g) low (chainAt r v) (own .inside) s low-on) .ring)
+        ways (inr q) (inr s) = in-ring ((ring-again es₁ (proper r g) high (chainAt r v) (own .inside) s high-on) .ring)
+
+        worn : 1 ≤ labelOf r v
+        worn = facts .not-zero v (is-two es₁ v reg)
 
         go : LowNeighbour r (proper r g) (chainAt r v) v → Decided
         go (lowest all (inl s)) =
-            is-lowest (lowest-reads ∙ rw (some-label, eq-eqb (labelOf r home) 0 (facts .singular-zero home s))) (here all) (ways (true-or-false (edgeOnRing es₁ low)) (inl s))
+            is-lowest (lowest-reads ∙ rw (some-label, eq-eqb (min (labelOf r v) (labelOf r home)) 0 (omega (arith, facts .singular-zero home s)))) (here all) (ways (true-or-false (edgeOnRing es₁ high)) (inl s))
         go (lowest all (inr s)) =
-            is-lowest (lowest-reads ∙ rw (some-label, ne-eqb (labelOf r home) 0 (λ e. omega (arith, s .1)), lt-ltb (labelOf r v) (labelOf r home) (s .1))) (here all)
-            (ways (true-or-false (edgeOnRing es₁ low)) (inr (s .0)))
+            is-lowest (lowest-reads ∙ rw (some-label, ne-eqb (min (labelOf r v) (labelOf r home)) 0 (λ e. omega (arith, s .1, worn)), lt-ltb (labelOf r v) (max (labelOf r v) (labelOf r home)) (omega (arith, s .1)))) (here all)
+            (ways (true-or-false (edgeOnRing es₁ high)) (inr (s .0)))
         go (above m e) =
             let p : 1 ≤ labelOf r home = facts .not-zero home (is-two es₁ home (inner-regular r (proper r g) (chainAt r v) home (own .inside) m)) in
-            not-lowest (lowest-reads ∙ rw (some-label, ne-eqb (labelOf r home) 0 (λ z. omega arith), le-ltb (labelOf r v) (labelOf r home) (omega arith)))
+            not-lowest (lowest-reads ∙ rw (some-label, ne-eqb (min (labelOf r v) (labelOf r home)) 0 (λ z. omega (arith, worn, p)), le-ltb (labelOf r v) (max (labelOf r v) (labelOf r home)) (omega (arith, e))))
             (λ l. omega (arith, l .wears, lowest-most r (proper r g) (chainAt r v) home m))
 
   -- ---- the chains that are left
@@ -378,65 +447,69 @@ module _ (r : Register) (g : Reachable r) where
   abbrev n : ℕ
   n = r .vertices
 
-  entry-most : (v : ℕ) → v < maxVertices → more16 v ≡ suc v
-  unfolding more16
-  entry-most v h = omega arith
+  -- vertex v by the tables, and by its chain
+  record Low (v : ℕ) : Type 0 where
+    regular : isRegular es₁ v ≡ true
+    lowest-here : LowestHere v
+    visits : Visits v regular
 
-  -- the entry of vertex v, where the chains ds are left
-  data Entry (v : ℕ) (ds : List ℕ) (e : ℕ) : Type 0 where
-    out : e ≡ 0 → (LowestHere v → Mem (chainAt r v) ds → ⊥) → Entry v ds e
-    entered : e ≡ suc v → (reg : isRegular es₁ v ≡ true) → LowestHere v → Visits v reg → Mem (chainAt r v) ds → Entry v ds e
-
-  -- before the first is taken all are there
-  first-entry : (v : ℕ) → v < n → Entry v (newest r (founded r g) facts) (entryIn (t₁ .sides) (t₁ .ends) (t₁ .labels) v)
-  unfolding entryIn
-  first-entry v h = go (true-or-false (isRegular es₁ v))
+  low-is : (v : ℕ) → isLowestIn (t₁ .sides) (t₁ .ends) (t₁ .labels) v ≡ true → Low v
+  low-is v t = go (true-or-false (isRegular es₁ v))
     where
-      by : (reg : isRegular es₁ v ≡ true) → Decided v reg → Entry v (newest r (founded r g) facts) (if isLowestIn (t₁ .sides) (t₁ .ends) (t₁ .labels) v then more16 v else 0)
-      by reg (is-lowest q l w) = entered (rw q (entry-most v (omega (arith, few r g)))) reg l w (own-newest r (founded r g) facts v reg)
-      by reg (not-lowest q bar) = out (rw q) (λ l m. bar l)
+      by : (reg : isRegular es₁ v ≡ true) → Decided v reg → Low v
+      by reg (is-lowest q l w) = record { regular = reg; lowest-here = l; visits = w }
+      by reg (not-lowest q bar) = absurd (not-both (isLowestIn (t₁ .sides) (t₁ .ends) (t₁ .labels) v) t q)
 
-      go : (isRegular es₁ v ≡ true) ⊎ (isRegular es₁ v ≡ false) → Entry v (newest r (founded r g) facts) (if isLowestIn (t₁ .sides) (t₁ .ends) (t₁ .labels) v then more16 v else 0)
+      go : (isRegular es₁ v ≡ true) ⊎ (isRegular es₁ v ≡ false) → Low v
       go (inl reg) = by reg (decided v reg)
       go (inr sing) =
           let bare : isLowestIn (t₁ .sides) (t₁ .ends) (t₁ .labels) v ≡ false = sym (lowest-bare (t₁ .sides) (t₁ .ends) (t₁ .labels) v 0 (sym (ap (λ (ls : List ℕ). getD ls v 0) (labels-are r g 0) ∙ facts .singular-zero v sing)) refl) in
-          out (rw bare) (λ l m. not-both (isRegular es₁ v) (l .regular) sing)
+          absurd (not-both (isLowestIn (t₁ .sides) (t₁ .ends) (t₁ .labels) v) t bare)
 
-  record Stand (tree ds : List ℕ) : Type 0 where
-    fair : AllFair (t₁ .labels) n tree
-    long : 2 * n ≤ length tree
-    entries : (v : ℕ) → v < n → Entry v ds (getD tree (n + v) 0)
+  is-low : (v : ℕ) → LowestHere v → isLowestIn (t₁ .sides) (t₁ .ends) (t₁ .labels) v ≡ true
+  is-low v l = go (decided v (l .regular))
+    where
+      go : Decided v (l .regular) → isLowestIn (t₁ .sides) (t₁ .ends) (t₁ .labels) v ≡ true
+      go (is-lowest q l′ w) = q
+      go (not-lowest q bar) = absurd (bar l)
 
-  key-is : (e v : ℕ) → e ≡ suc v → keyIn (t₁ .labels) e ≡ labelOf r v
-  unfolding keyIn
-  key-is e v q = rw (q, labels-are r g 0)
+  own-label : (v : ℕ) → getD (t₁ .labels) v 0 ≡ labelOf r v
+  own-label v = ap (λ (ls : List ℕ). getD ls v 0) (labels-are r g 0)
 
-  key-zero : (e : ℕ) → e ≡ 0 → keyIn (t₁ .labels) e ≡ 0
-  unfolding keyIn
-  key-zero e q = rw q
+  -- those with a lowest label below the bound are left
+  record Left (bound : ℕ) (ds : List ℕ) : Type 0 where
+    below : (d : ℕ) → Mem d ds → lowestLabel r d < bound
+    there : (d : ℕ) → Mem d (newest r (founded r g) facts) → lowestLabel r d < bound → Mem d ds
 
-  -- the winner is the lowest vertex of the first chain that is left
-  record Top (tree : List ℕ) (d : ℕ) : Type 0 where
+  -- the best is the lowest vertex of the first chain that is left
+  record Top (bound d : ℕ) : Type 0 where
     vertex : ℕ
     inside : vertex < n
-    first-is : getD tree 1 0 ≡ suc vertex
+    first-is : bestIn (t₁ .sides) (t₁ .ends) (t₁ .labels) bound n ≡ suc vertex
+    is-lowest : isLowestIn (t₁ .sides) (t₁ .ends) (t₁ .labels) vertex ≡ true
+    low-bound : getD (t₁ .labels) vertex 0 < bound
     regular : isRegular es₁ vertex ≡ true
     lowest-here : LowestHere vertex
     visits : Visits vertex regular
     chain-is : chainAt r vertex ≡ d
 
-  module _ (tree : List ℕ) (some-vertex : 1 ≤ n) where
-    nobody-left : Stand tree [] → getD tree 1 0 ≡ 0
-    nobody-left s = let o = first-own (t₁ .labels) n tree (s .fair) some-vertex in o .entry-is ∙ go (o .vertex) (s .entries (o .vertex) (o .inside))
-      where
-        go : (v : ℕ) → Entry v [] (getD tree (n + v) 0) → getD tree (n + v) 0 ≡ 0
-        go v (out e bar) = e
-        go v (entered e reg l w m) = absurd (mem-nil m)
+  module _ (bound : ℕ) where
+    best : Best (t₁ .sides) (t₁ .ends) (t₁ .labels) bound n (bestIn (t₁ .sides) (t₁ .ends) (t₁ .labels) bound n)
+    best = best-is (t₁ .sides) (t₁ .ends) (t₁ .labels) bound n (omega (arith, few r g))
 
-    top : (d : ℕ) (ds : List ℕ) → Falling r (d ∷ ds) → Taken r d → Stand tree (d ∷ ds) → Top tree d
-    top d ds f k s =
-        let o = first-own (t₁ .labels) n tree (s .fair) some-vertex in
-        win (o .vertex) (o .inside) (o .entry-is) (s .entries (o .vertex) (o .inside))
+    -- the chain of a lowest vertex with a label below the bound
+    left-there : (ds : List ℕ) → Left bound ds → (v : ℕ) → Low v → getD (t₁ .labels) v 0 < bound → Mem (chainAt r v) ds
+    left-there ds s v l h = s .there (chainAt r v) (own-newest r (founded r g) facts v (l .regular)) (omega (arith, h, own-label v, l .lowest-here .wears))
+
+    nobody-left : Left bound [] → bestIn (t₁ .sides) (t₁ .ends) (t₁ .labels) bound n ≡ 0
+    nobody-left s = go best
+      where
+        go : Best (t₁ .sides) (t₁ .ends) (t₁ .labels) bound n (bestIn (t₁ .sides) (t₁ .ends) (t₁ .labels) bound n) → bestIn (t₁ .sides) (t₁ .ends) (t₁ .labels) bound n ≡ 0
+        go (nobody e bar) = e
+        go (somebody v e h t l most) = absurd (mem-nil (left-there [] s v (low-is v t) l))
+
+    top : (d : ℕ) (ds : List ℕ) → Falling r (d ∷ ds) → Taken r d → Left bound (d ∷ ds) → Top bound d
+    top d ds f k s = go best
       where
         u : ℕ
         u = k .vertex
@@ -447,57 +520,87 @@ module _ (r : Register) (g : Reachable r) where
         chain-u : chainAt r u ≡ d
         chain-u = sym (own-is r (proper r g) d u (k .inside) (k .names) (k .in-it))
 
-        here-u : LowestHere u
-        here-u = record { regular = reg-u; wears = k .wears ∙ ap (lowestLabel r) (sym chain-u) }
+        low-u : isLowestIn (t₁ .sides) (t₁ .ends) (t₁ .labels) u ≡ true
+        low-u = is-low u (record { regular = reg-u; wears = k .wears ∙ ap (lowestLabel r) (sym chain-u) })
 
         u-inside : u < n
         u-inside = regular-landed r (founded r g) u reg-u
 
-        -- no less than the lowest label of d
-        enough : labelOf r u ≤ keyIn (t₁ .labels) (getD tree 1 0)
-        enough = go (s .entries u u-inside)
-          where
-            go : Entry u (d ∷ ds) (getD tree (n + u) 0) → labelOf r u ≤ keyIn (t₁ .labels) (getD tree 1 0)
-            go (out e bar) = absurd (bar here-u (at-head chain-u))
-            go (entered e reg l w m) = omega (arith, key-is (getD tree (n + u) 0) u e, first-most (t₁ .labels) n tree (s .fair) (n + u) (omega (arith, some-vertex)) (omega (arith, u-inside)))
+        u-below : getD (t₁ .labels) u 0 < bound
+        u-below = omega (arith, own-label u, k .wears, s .below d (at-head refl))
 
-        win : (v : ℕ) → v < n → getD tree 1 0 ≡ getD tree (n + v) 0 → Entry v (d ∷ ds) (getD tree (n + v) 0) → Top tree d
-        win v h q (out e bar) = absurd (omega (arith, key-zero (getD tree 1 0) (q ∙ e), enough, facts .not-zero u (is-two es₁ u reg-u)))
-        win v h q (entered e reg l w m) = by (mem-cases m)
+        go : Best (t₁ .sides) (t₁ .ends) (t₁ .labels) bound n (bestIn (t₁ .sides) (t₁ .ends) (t₁ .labels) bound n) → Top bound d
+        go (nobody e bar) = absurd (bar u u-inside low-u u-below)
+        go (somebody v e h t l most) = by (mem-cases (left-there (d ∷ ds) s v (low-is v t) l))
           where
-            by : (chainAt r v ≡ d) ⊎ Mem (chainAt r v) ds → Top tree d
-            by (inl i) = record { vertex = v; inside = h; first-is = q ∙ e; regular = reg; lowest-here = l; visits = w; chain-is = i }
-            by (inr i) = absurd (omega (arith, f .0 (chainAt r v) i, l .wears, k .wears, key-is (getD tree 1 0) v (q ∙ e), enough))
+            low-v : Low v
+            low-v = low-is v t
+
+            by : (chainAt r v ≡ d) ⊎ Mem (chainAt r v) ds → Top bound d
+            by (inl i) =
+                record {
+                  vertex = v;
+                  inside = h;
+                  first-is = e;
+                  is-lowest = t;
+                  low-bound = l;
+                  regular = low-v .regular;
+                  lowest-here = low-v .lowest-here;
+                  visits = low-v .visits;
+                  chain-is = i;
+                }
+            by (inr i) = absurd (omega (arith, f .0 (chainAt r v) i, low-v .lowest-here .wears, k .wears, own-label u, own-label v, most u u-inside low-u u-below))
 
     -- without it the others are left
-    next : (d : ℕ) (ds : List ℕ) → Falling r (d ∷ ds) → (t : Top tree d) → Stand tree (d ∷ ds) → Stand (withoutIn (t₁ .labels) n tree (t .vertex)) ds
+    next : (d : ℕ) (ds : List ℕ) → Falling r (d ∷ ds) → (t : Top bound d) → Left bound (d ∷ ds) → Left (getD (t₁ .labels) (t .vertex) 0) ds
     next d ds f t s =
-        let o = taken-out (t₁ .labels) n (t .vertex) tree (t .inside) (s .long) (s .fair) in
-        record { fair = o .fair; long = rw (o .long) (s .long); entries = λ v h. left v h (ℕ-discrete v (t .vertex)) }
+        record {
+          below = λ c m. omega (arith, own, f .0 c m);
+          there = λ c m h. by c h (mem-cases (s .there c m (omega (arith, h, t .low-bound))));
+        }
       where
-        after : List ℕ
-        after = withoutIn (t₁ .labels) n tree (t .vertex)
+        own : getD (t₁ .labels) (t .vertex) 0 ≡ lowestLabel r d
+        own = own-label (t .vertex) ∙ t .lowest-here .wears ∙ ap (lowestLabel r) (t .chain-is)
 
-        left : (v : ℕ) → v < n → Dec (v ≡ t .vertex) → Entry v ds (getD (withoutIn (t₁ .labels) n tree (t .vertex)) (n + v) 0)
-        left v h (yes e) =
-            let o = taken-out (t₁ .labels) n (t .vertex) tree (t .inside) (s .long) (s .fair) in
-            out (ap (λ (w : ℕ). getD (withoutIn (t₁ .labels) n tree (t .vertex)) (n + w) 0) e ∙ o .gone)
-            (λ l m.
-            let i : chainAt r v ≡ d = ap (chainAt r) e ∙ t .chain-is in
-            omega (arith, f .0 d (rw i at m)))
-        left v h (no e) =
-            let o = taken-out (t₁ .labels) n (t .vertex) tree (t .inside) (s .long) (s .fair) in
-            rw (o .others v e) (go (s .entries v h))
-          where
-            go : Entry v (d ∷ ds) (getD tree (n + v) 0) → Entry v ds (getD tree (n + v) 0)
-            go (out q bar) = out q (λ l m. bar l (in-tail m))
-            go (entered q reg l w m) = by (mem-cases m)
-              where
-                by : (chainAt r v ≡ d) ⊎ Mem (chainAt r v) ds → Entry v ds (getD tree (n + v) 0)
-                by (inr i) = entered q reg l w i
-                by (inl i) =
-                    let same : labelOf r v ≡ labelOf r (t .vertex) = l .wears ∙ ap (lowestLabel r) (i ∙ sym (t .chain-is)) ∙ sym (t .lowest-here .wears) in
-                    absurd (e (facts .unique v (t .vertex) (is-two es₁ v reg) (is-two es₁ (t .vertex) (t .regular)) same))
+        by : (c : ℕ) → lowestLabel r c < getD (t₁ .labels) (t .vertex) 0 → (c ≡ d) ⊎ Mem c ds → Mem c ds
+        by c h (inr m) = m
+        by c h (inl e) =
+            let h′ : lowestLabel r d < getD (t₁ .labels) (t .vertex) 0 = rw e at h in
+            absurd (omega (arith, h′, own))
+
+  -- 1 for a lowest vertex with a label below the bound
+  hitBelow : ℕ → ℕ → ℕ
+  hitBelow bound v = if isLowestIn (t₁ .sides) (t₁ .ends) (t₁ .labels) v && ltb (getD (t₁ .labels) v 0) bound then 1 else 0
+
+  hit-within : (b c v : ℕ) → b ≤ c → hitBelow b v ≤ hitBelow c v
+  unfolding hitBelow
+  hit-within b c v h = go (isLowestIn (t₁ .sides) (t₁ .ends) (t₁ .labels) v) (true-or-false (ltb (getD (t₁ .labels) v 0) b))
+    where
+      go : (t : Bool) → (ltb (getD (t₁ .labels) v 0) b ≡ true) ⊎ (ltb (getD (t₁ .labels) v 0) b ≡ false)
+          → (if t && ltb (getD (t₁ .labels) v 0) b then 1 else 0) ≤ (if t && ltb (getD (t₁ .labels) v 0) c then 1 else 0)
+      go false q = omega arith
+      go true (inr q) = rw q (omega arith)
+      go true (inl q) = rw (q, lt-ltb (getD (t₁ .labels) v 0) c (omega (arith, ltb-true (getD (t₁ .labels) v 0) b q, h))) (omega arith)
+
+  hits-most : (b k : ℕ) → total k (hitBelow b) ≤ lowestsIn (t₁ .sides) (t₁ .ends) (t₁ .labels) k
+  unfolding hitBelow total lowestsIn
+  hits-most b zero = omega arith
+  hits-most b (suc k) = go (isLowestIn (t₁ .sides) (t₁ .ends) (t₁ .labels) k) (ltb (getD (t₁ .labels) k 0) b) (hits-most b k)
+    where
+      go : (t u : Bool) → total k (hitBelow b) ≤ lowestsIn (t₁ .sides) (t₁ .ends) (t₁ .labels) k
+          → total k (hitBelow b) + (if t && u then 1 else 0) ≤ lowestsIn (t₁ .sides) (t₁ .ends) (t₁ .labels) k + (if t then 1 else 0)
+      go true true ih = omega (arith, ih)
+      go true false ih = omega (arith, ih)
+      go false u ih = omega (arith, ih)
+
+  fewer : (bound d : ℕ) (t : Top bound d) → total n (hitBelow (getD (t₁ .labels) (t .vertex) 0)) < total n (hitBelow bound)
+  unfolding hitBelow
+  fewer bound d t =
+      let v : ℕ = t .vertex in
+      let zero-now : hitBelow (getD (t₁ .labels) (t .vertex) 0) (t .vertex) ≡ 0 = rw (t .is-lowest, le-ltb (getD (t₁ .labels) (t .vertex) 0) (getD (t₁ .labels) (t .vertex) 0) (omega arith)) in
+      let one-before : hitBelow bound (t .vertex) ≡ 1 = rw (t .is-lowest, lt-ltb (getD (t₁ .labels) (t .vertex) 0) bound (t .low-bound)) in
+      total-less n (t .vertex) (hitBelow (getD (t₁ .labels) (t .vertex) 0)) (hitBelow bound) (t .inside)
+      (λ w h. hit-within (getD (t₁ .labels) (t .vertex) 0) bound w (omega (arith, t .low-bound))) (omega (arith, zero-now, one-before))
 
   -- ---- one taken after the other
 
@@ -510,40 +613,12 @@ module _ (r : Register) (g : Reachable r) where
     pub taken-is : s .taken ≡ q .taken
     pub wearer-is : Wearer label (s .wearer) (q .holder)
 
-  module _ (label : ℕ) (some-vertex : 1 ≤ n) where
-    abbrev takeOver : ℕ → List ℕ → Sought
+  module _ (label : ℕ) where
+    abbrev takeOver : ℕ → ℕ → Sought
     takeOver = takeIn (t₁ .degrees) (t₁ .sides) (t₁ .ends) (t₁ .labels) n (length es₁) label
 
     abbrev holderOver : ℕ → Option ℕ
     holderOver = holderIn (t₁ .degrees) (t₁ .sides) (t₁ .ends) (t₁ .labels) (length es₁) label
-
-    module _ (k : ℕ) (tree : List ℕ) (v : ℕ) (first : getD tree 1 0 ≡ suc v) where
-      there : getD tree 1 0 - 1 ≡ v
-      there = ap (λ (x : ℕ). x - 1) first ∙ sub-one (suc v)
-
-      one-more : getD tree 1 0 ≢ 0
-      one-more e = omega arith
-
-      take-some : (w : ℕ) → holderOver v ≡ some w → takeOver (suc k) tree ≡ sought (some w) 1
-      unfolding takeIn
-      take-some w e =
-          let held : holderOver (getD tree 1 0 - 1) ≡ some w = ap holderOver there ∙ e in
-          rw (ne-eqb (getD tree 1 0) 0 one-more, held, takeIn)
-
-      take-none : holderOver v ≡ none → takeOver (suc k) tree ≡ soughtAfter 1 (takeOver k (withoutIn (t₁ .labels) n tree v))
-      unfolding takeIn
-      take-none e =
-          let held : holderOver (getD tree 1 0 - 1) ≡ none = ap holderOver there ∙ e in
-          let left : withoutIn (t₁ .labels) n tree (getD tree 1 0 - 1) ≡ withoutIn (t₁ .labels) n tree v = ap (withoutIn (t₁ .labels) n tree) there in
-          rw (ne-eqb (getD tree 1 0) 0 one-more, held, takeIn, left)
-
-    take-nobody : (k : ℕ) (tree : List ℕ) → getD tree 1 0 ≡ 0 → takeOver (suc k) tree ≡ sought none 0
-    unfolding takeIn
-    take-nobody k tree e = rw (eq-eqb (getD tree 1 0) 0 e, takeIn)
-
-    take-zero : (tree : List ℕ) → takeOver zero tree ≡ sought none 0
-    unfolding takeIn
-    take-zero tree = refl
 
     among-nobody : searchAmong r label [] ≡ record { holder = none; taken = 0 }
     unfolding searchAmong
@@ -566,21 +641,21 @@ module _ (r : Register) (g : Reachable r) where
     agrees-after s q a = record { taken-is = omega (arith, a .taken-is); wearer-is = a .wearer-is }
 
     -- the label is on the chain exactly if the walk meets it
-    walk-finds : (tree : List ℕ) (d : ℕ) (t : Top tree d) (w : ℕ) → holderOver (t .vertex) ≡ some w
+    walk-finds : (bound d : ℕ) (t : Top bound d) (w : ℕ) → holderOver (t .vertex) ≡ some w
         → (isRegular es₁ w ≡ true) × ((labelOf r w ≡ label) × ((chainAt r w ≡ d) × (has label (innerLabels r d) ≡ true)))
     unfolding innerLabels
-    walk-finds tree d t w e =
+    walk-finds bound d t w e =
         let v : ℕ = t .vertex in
-        let k = with-some r label w (visited es₁ v (passed v (t .regular))) (sym (holder-is v (t .regular) label) ∙ e) in
+        let k = with-some r label w (met v (t .regular)) (sym (holder-is v (t .regular) label) ∙ e) in
         let m : Mem w ((chainOf es₁ (chainAt r v)) .inner) = to-own v (t .regular) w (t .visits .only w (k .0) (k .1 .0)) in
         let o : OwnChain es₁ v (chainAt r v) = own v (t .regular) in
         let c : chainAt r v ≡ chainAt r w = own-is r (proper r g) (chainAt r v) w (o .inside) (o .names) m in
         let l : Mem label (innerLabels r (chainAt r v)) = rw (← k .1 .1) (Memᴰ·map (labelOf r) m) in
         (k .1 .0, (k .1 .1, (sym c ∙ t .chain-is, rw (← t .chain-is) (mem-has label (innerLabels r (chainAt r v)) l))))
 
-    walk-misses : (tree : List ℕ) (d : ℕ) (t : Top tree d) → holderOver (t .vertex) ≡ none → has label (innerLabels r d) ≡ false
+    walk-misses : (bound d : ℕ) (t : Top bound d) → holderOver (t .vertex) ≡ none → has label (innerLabels r d) ≡ false
     unfolding innerLabels
-    walk-misses tree d t e = go (true-or-false (has label (innerLabels r d)))
+    walk-misses bound d t e = go (true-or-false (has label (innerLabels r d)))
       where
         v : ℕ
         v = t .vertex
@@ -591,62 +666,39 @@ module _ (r : Register) (g : Reachable r) where
             let o = Memᴰ·of-map (labelOf r) ((chainOf es₁ d) .inner) (has-mem label (innerLabels r d) q) in
             let m : Mem (o .0) ((chainOf es₁ (chainAt r v)) .inner) = rw (t .chain-is) (o .1) in
             let own-v : OwnChain es₁ v (chainAt r v) = own v (t .regular) in
-            absurd (with-none r label (visited es₁ v (passed v (t .regular))) (sym (holder-is v (t .regular) label) ∙ e) (o .0)
+            absurd (with-none r label (met v (t .regular)) (sym (holder-is v (t .regular) label) ∙ e) (o .0)
             (t .visits .all (o .0) (from-own v (t .regular) (o .0) m))
             (inner-regular r (proper r g) (chainAt r v) (o .0) (own-v .inside) m) (o .2))
 
-    takes : (k : ℕ) (tree ds : List ℕ) → length ds ≤ k → Falling r ds → ((d : ℕ) → Mem d ds → Taken r d) → Stand tree ds → Agrees label (takeOver k tree) (searchAmong r label ds)
-    takes zero tree [] h f k s = agrees-none _ _ (take-zero tree) among-nobody
-    takes zero tree (d ∷ ds) h f k s = absurd (omega arith)
-    takes (suc j) tree [] h f k s = agrees-none _ _ (take-nobody j tree (nobody-left tree some-vertex s)) among-nobody
-    takes (suc j) tree (d ∷ ds) h f k s =
-        let t : Top tree d = top tree some-vertex d ds f (k d (at-head refl)) s in
+    takes : (k bound : ℕ) (ds : List ℕ) → total n (hitBelow bound) ≤ k → Falling r ds → ((d : ℕ) → Mem d ds → Taken r d) → Left bound ds → Agrees label (takeOver k bound) (searchAmong r label ds)
+    takes k bound [] h f own s =
+        agrees-none _ _ (take-nobody (t₁ .degrees) (t₁ .sides) (t₁ .ends) (t₁ .labels) n (length es₁) label k bound (nobody-left bound s)) among-nobody
+    takes zero bound (d ∷ ds) h f own s = absurd (omega (arith, h, fewer bound d (top bound d ds f (own d (at-head refl)) s)))
+    takes (suc j) bound (d ∷ ds) h f own s =
+        let t : Top bound d = top bound d ds f (own d (at-head refl)) s in
         go t (holderOver (t .vertex)) refl
-        (takes j (withoutIn (t₁ .labels) n tree (t .vertex)) ds (omega arith) (f .1) (λ c m. k c (in-tail m)) (next tree some-vertex d ds f t s))
+        (takes j (getD (t₁ .labels) (t .vertex) 0) ds (omega (arith, h, fewer bound d t)) (f .1) (λ c m. own c (in-tail m)) (next bound d ds f t s))
       where
-        go : (t : Top tree d) (o : Option ℕ) → holderOver (t .vertex) ≡ o → Agrees label (takeOver j (withoutIn (t₁ .labels) n tree (t .vertex))) (searchAmong r label ds)
-            → Agrees label (takeOver (suc j) tree) (searchAmong r label (d ∷ ds))
+        go : (t : Top bound d) (o : Option ℕ) → holderOver (t .vertex) ≡ o → Agrees label (takeOver j (getD (t₁ .labels) (t .vertex) 0)) (searchAmong r label ds)
+            → Agrees label (takeOver (suc j) bound) (searchAmong r label (d ∷ ds))
         go t (some w) e ih =
-            let q = walk-finds tree d t w e in
-            rw (take-some j tree (t .vertex) (t .first-is) w e, among-held d ds (q .1 .1 .1))
+            let q = walk-finds bound d t w e in
+            rw (take-some (t₁ .degrees) (t₁ .sides) (t₁ .ends) (t₁ .labels) n (length es₁) label j bound (t .vertex) (t .first-is) w e, among-held d ds (q .1 .1 .1))
             (record { taken-is = refl; wearer-is = (q .0, (q .1 .0, ap some (sym (q .1 .1 .0)))) })
-        go t none e ih = rw (take-none j tree (t .vertex) (t .first-is) e, among-next d ds (walk-misses tree d t e)) (agrees-after _ _ ih)
+        go t none e ih =
+            rw (take-none (t₁ .degrees) (t₁ .sides) (t₁ .ends) (t₁ .labels) n (length es₁) label j bound (t .vertex) (t .first-is) e, among-next d ds (walk-misses bound d t e))
+            (agrees-after _ _ ih)
 
-    planted : (tree : List ℕ) → 2 * n ≤ length tree → Stand (plantedIn (t₁ .sides) (t₁ .ends) (t₁ .labels) n tree) (newest r (founded r g) facts)
-    unfolding plantedIn
-    planted tree l =
-        let es′ : List ℕ = entriesIn (t₁ .sides) (t₁ .ends) (t₁ .labels) n n 0 tree in
-        let long : length es′ ≡ length tree = entries-long (t₁ .sides) (t₁ .ends) (t₁ .labels) n n 0 tree in
-        let c = all-crowned (t₁ .labels) n es′ some-vertex (rw long l) in
-        record {
-          fair = c .fair;
-          long = rw (c .long, long) l;
-          entries = λ v h. rw (c .own (n + v) (omega arith), entries-are (t₁ .sides) (t₁ .ends) (t₁ .labels) n n 0 tree v (omega arith) (omega arith) (omega arith)) (first-entry v h);
-        }
-
-  pub search-agrees : (label : ℕ) (tree : List ℕ) → 2 * n ≤ length tree
-      → Agrees label (searchIn (t₁ .degrees) (t₁ .sides) (t₁ .ends) (t₁ .labels) n (length es₁) label tree) (search r label)
-  unfolding searchIn search takeIn searchAmong
-  search-agrees label tree l = go (length es₁) refl
+  -- before the first is taken all are left
+  all-left : Left noBound (newest r (founded r g) facts)
+  all-left = record { below = λ d m. small d (in-newest r (founded r g) facts d m); there = λ d m h. m }
     where
-      go : (m : ℕ) → length es₁ ≡ m
-          → Agrees label (takeIn (t₁ .degrees) (t₁ .sides) (t₁ .ends) (t₁ .labels) n (length es₁) label (length es₁) (plantedIn (t₁ .sides) (t₁ .ends) (t₁ .labels) n tree)) (searchAmong r label (newest r (founded r g) facts))
-      go zero e = empty-house e
-        where
-          none-there : newest r (founded r g) facts ≡ []
-          none-there = short (newest r (founded r g) facts) (omega (arith, e, newest-few r (upTo (length es₁)), length-upTo (length es₁)))
-            where
-              short : (xs : List ℕ) → length xs ≤ 0 → xs ≡ []
-              short [] h = refl
-              short (x ∷ xs) h = absurd (omega arith)
+      small : (d : ℕ) → Taken r d → lowestLabel r d < noBound
+      small d k = omega (arith, k .wears, labels-small r g (k .vertex))
 
-          no-fuel : (m : ℕ) → m ≡ 0 → (tree : List ℕ) → takeIn (t₁ .degrees) (t₁ .sides) (t₁ .ends) (t₁ .labels) n (length es₁) label m tree ≡ sought none 0
-          no-fuel m q tree = rw q refl
-
-          empty-house : length es₁ ≡ 0 → Agrees label (takeIn (t₁ .degrees) (t₁ .sides) (t₁ .ends) (t₁ .labels) n (length es₁) label (length es₁) (plantedIn (t₁ .sides) (t₁ .ends) (t₁ .labels) n tree)) (searchAmong r label (newest r (founded r g) facts))
-          empty-house q = rw (no-fuel (length es₁) q (plantedIn (t₁ .sides) (t₁ .ends) (t₁ .labels) n tree), none-there) (record { taken-is = refl; wearer-is = refl })
-      go (suc m) e =
-          let one : 1 ≤ n = omega (arith, lawful r g 0 (omega arith) .first-landed) in
-          takes label one (length es₁) (plantedIn (t₁ .sides) (t₁ .ends) (t₁ .labels) n tree) (newest r (founded r g) facts)
-          (omega (arith, newest-few r (upTo (length es₁)), length-upTo (length es₁)))
-          (falling r (founded r g) facts) (in-newest r (founded r g) facts) (planted label one tree l)
+  pub search-agrees : (label : ℕ) → Agrees label (searchIn (t₁ .degrees) (t₁ .sides) (t₁ .ends) (t₁ .labels) n (length es₁) label) (search r label)
+  unfolding searchIn search
+  search-agrees label =
+      takes label (lowestsIn (t₁ .sides) (t₁ .ends) (t₁ .labels) n) noBound (newest r (founded r g) facts)
+      (hits-most noBound n)
+      (falling r (founded r g) facts) (in-newest r (founded r g) facts) all-left

@@ -19,7 +19,7 @@ use Rattle.questions.proofs.AnswerLaws.{sheet-answers}
 use Rattle.questions.proofs.Answers.{Answers}
 use Rattle.calls.proofs.QueryLaws.{query-answered}
 
--- Find and the sheet over scratch g that the gate left. Its sides served for the tournament; its degrees and its sides for marks. They are
+-- Find and the sheet over scratch g that the gate left. Its sides served for the order of the search; its degrees and its sides for marks. They are
 -- zeros again.
 module _ (t : Tables) (c : Counts) (s g : Tables) (h : none ≡ barred (lent t c s)) (e : g ≡ scratchAfter (lent t c s)) where
   zeros : g ≡ cleared

@@ -4,6 +4,5 @@ pub mod VolumeLaws
 pub mod NameLaws
 pub mod LookupLaws
 pub mod SheetLaws
-pub mod TournamentLaws
 pub mod NewestLaws
-pub mod Winners
+pub mod OrderLaws

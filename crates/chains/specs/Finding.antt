@@ -33,14 +33,14 @@ foundAtIn t c v =
     if eqb (getD (t .degrees) end 0) 2 then found name v 0 (along low)
     else found name v (along low) (along (getD (t .sides) (2 * v + 1) 0))
 
--- by the search from the newest chain; a tree is lent for it
+-- by the search from the newest chain; what is lent for it decides nothing
 unfoldable pub findIn : Tables → Counts → List ℕ → ℕ → Reply
-findIn t c tree label =
-    elim ((searchIn (t .degrees) (t .sides) (t .ends) (t .labels) (c .vertices) (c .edges) label tree) .wearer) [
+findIn t c lent label =
+    elim ((searchIn (t .degrees) (t .sides) (t .ends) (t .labels) (c .vertices) (c .edges) label) .wearer) [
       | some v ↦ foundAtIn t c v
       | none ↦ refuses 8
     ]
 
 -- through the vertex's label
 unfoldable pub findAtIn : Tables → Counts → List ℕ → ℕ → Reply
-findAtIn t c tree v = findIn t c tree (getD (t .labels) v 0)
+findAtIn t c lent v = findIn t c lent (getD (t .labels) v 0)

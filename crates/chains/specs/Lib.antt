@@ -1,5 +1,5 @@
 pub mod Chains
-pub mod Tournament
 pub mod Newest
+pub mod Order
 pub mod Finding
 pub mod Answers

@@ -1,10 +1,11 @@
 // Chains found by walking over the lent tables: names, rows of the sheet, and the search for a label from the newest chain.
 pub mod lookup;
+pub mod lowest;
 pub mod marks;
 pub mod names;
 pub mod newest;
 pub mod numbers;
+pub mod order;
 pub mod rows;
-pub mod tournament;
 pub mod volumes;
 pub mod walks;

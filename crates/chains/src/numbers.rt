@@ -1,5 +1,6 @@
 // Single numbers.
 use counters::numbers::Edge;
+use counters::numbers::Label;
 use counters::numbers::Vertex;
 ghost use mathlib.Core.Path.{_≡_};
 ghost use Prim.Native.Nat.{min, max};
@@ -23,6 +24,24 @@ pub fn lesser_vertex(m: Vertex, n: Vertex) -> Vertex
 }
 
 pub fn greater_vertex(m: Vertex, n: Vertex) -> Vertex
+    ensures { λ r. ⌜ r .0 ≡ max (m .0) (n .0) ⌝ }
+{
+    if m.0 < n.0 {
+        return n;
+    }
+    m
+}
+
+pub fn lesser_label(m: Label, n: Label) -> Label
+    ensures { λ r. ⌜ r .0 ≡ min (m .0) (n .0) ⌝ }
+{
+    if m.0 < n.0 {
+        return m;
+    }
+    n
+}
+
+pub fn greater_label(m: Label, n: Label) -> Label
     ensures { λ r. ⌜ r .0 ≡ max (m .0) (n .0) ⌝ }
 {
     if m.0 < n.0 {

@@ -30,15 +30,15 @@ way-law ds ss es ls n d v w at l own r a b c e =
 module _ (t : Tables) (c : Counts) where
   -- ---- find
 
-  module _ (tree : List ℕ) (label : ℕ) (s : Sought) (e : s ≡ searchIn (t .degrees) (t .sides) (t .ends) (t .labels) (c .vertices) (c .edges) label tree) where
+  module _ (tree : List ℕ) (label : ℕ) (s : Sought) (e : s ≡ searchIn (t .degrees) (t .sides) (t .ends) (t .labels) (c .vertices) (c .edges) label) where
     pub find-nobody : none ≡ s .wearer → refuses 8 ≡ findIn t c tree label
     unfolding findIn
-    find-nobody f = let g : (searchIn (t .degrees) (t .sides) (t .ends) (t .labels) (c .vertices) (c .edges) label tree) .wearer ≡ none = rw e at (sym f) in rw (g, findIn)
+    find-nobody f = let g : (searchIn (t .degrees) (t .sides) (t .ends) (t .labels) (c .vertices) (c .edges) label) .wearer ≡ none = rw e at (sym f) in rw (g, findIn)
 
     pub find-wearer : (v : ℕ) (r : Reply) → some v ≡ s .wearer → r ≡ foundAtIn t c v → r ≡ findIn t c tree label
     unfolding findIn
     find-wearer v r f q =
-        let g : (searchIn (t .degrees) (t .sides) (t .ends) (t .labels) (c .vertices) (c .edges) label tree) .wearer ≡ some v = rw e at (sym f) in
+        let g : (searchIn (t .degrees) (t .sides) (t .ends) (t .labels) (c .vertices) (c .edges) label) .wearer ≡ some v = rw e at (sym f) in
         rw (g, findIn) q
 
   -- through the label of a vertex

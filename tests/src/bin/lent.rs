@@ -16,7 +16,7 @@ use reference::tally::{verdict, Cases};
 const DEFAULT_COUNT: usize = 6;
 /// How often a series is led on, by some commands each time. Its calls have to be answered within the
 /// time that a program has for one run.
-const TURNS: usize = 380;
+const TURNS: usize = 240;
 
 /// Calls by their kind and refusal, those that leave a ring of two or of more pipes standing, and the
 /// cases of the pipes landed.

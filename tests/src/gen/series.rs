@@ -1,6 +1,8 @@
 //! Random series of calls over lent tables: refused calls, stopped lists, damaged tables, tables of
 //! wrong sizes and short slices included.
 
+use std::collections::BTreeSet;
+
 use super::random::Random;
 use super::shapes::{self, Shape};
 use super::{full, list, records, version, whole_of};
@@ -15,6 +17,9 @@ const LONGEST_LIST: usize = 65_536;
 /// series have three kinds of full rings, and lists that stop with 22 and 23.
 const FULL_SIZE_TURN: usize = 20;
 const FIRST_FULL_SIZE: usize = 12;
+
+/// The most tags that are asked for in turn.
+const MOST_TAGS: usize = 40;
 
 /// Shapes that leave rings standing.
 const WITH_RINGS: &[Shape] = &[
@@ -52,6 +57,7 @@ pub fn next(source: &mut Source, turn: usize, lent: &mut Lent) -> Vec<Command> {
             vec![landed, Command::Call(Call::Sheet(SLICE))]
         }
         14..=21 => vec![Command::Call(land(random, house.as_ref()))],
+        22 => every_tag(house.as_ref()),
         _ => vec![Command::Call(question(random, house.as_ref()))],
     }
 }
@@ -165,6 +171,17 @@ fn question(random: &mut Random, house: Option<&House>) -> Call {
             Call::Write(room(random, needs, BYTES))
         }
     }
+}
+
+/// Every tag that is worn, those beside them, 0 and the greatest number; of a large house some of them.
+fn every_tag(house: Option<&House>) -> Vec<Command> {
+    let tags = house.map_or(&[][..], House::tags);
+    let worn = tags.iter().filter(|&&tag| tag != 0);
+    let near = worn.flat_map(|&tag| [tag - 1, tag, tag + 1]);
+    let asked: BTreeSet<u32> = near.chain([0, u32::MAX]).collect();
+    let step = 1 + asked.len() / MOST_TAGS;
+    let finds = asked.into_iter().step_by(step).map(Call::Find);
+    finds.map(Command::Call).collect()
 }
 
 /// A worn tag or one beside it, or any.
