@@ -16,7 +16,7 @@ ghost use Rattle.tables.specs.Meaning.{tables};
 ghost use Rattle.admission.specs.Lent.{lent, outcome};
 ghost use Rattle.questions.specs.Meaning.{foundReply};
 
-// The scratch's sides serve as the tree of the search.
+// The scratch's sides serve for the order of the search.
 pub fn find(
     degrees: &[u16],
     sides: &[u16],

@@ -92,7 +92,7 @@ fn found_at(
     FoundChain::Chain(name, vertex, to_low, to_high)
 }
 
-// The tree is lent for the search.
+// A table is lent for the order of the search; what it holds decides nothing.
 pub fn find_in(
     degrees: &[u16],
     sides: &[u16],
@@ -124,7 +124,7 @@ pub fn find_in(
     }
 }
 
-// The same; the tree ends all zero.
+// The same; that table ends all zero.
 pub fn find_cleared(
     degrees: &[u16],
     sides: &[u16],
