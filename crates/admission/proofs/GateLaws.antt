@@ -5,14 +5,15 @@ use Prim.Native.Nat.{ℕ}
 use mathlib.Core.Bool.{Bool, true, false, _&&_}
 use mathlib.Core.Option.{Option, none, some, Option·some-injective, Option·some-ne-none}
 use Rattle.model.specs.Register.{Register}
+use Rattle.model.specs.Queries.{refuses}
 use Rattle.model.specs.Tables.{Tables, Counts, fits, cleared, held}
-use Rattle.model.specs.Calls.{Call, Lent, allFit, bars, gate, registerFor, scratchAfter}
+use Rattle.model.specs.Calls.{Call, Lent, allFit, bars, gate, registerFor, scratchAfter, lentSlice, step}
 use Rattle.model.proofs.Basics.Booleans.{not-both}
 use Rattle.model.specs.Notions.{HeldOf}
 use Rattle.model.proofs.Registers.OnlyHeld.{only-held}
 use Rattle.tables.specs.Meaning.{stored}
 use Rattle.tables.specs.Steps.{zeroed}
-use Rattle.admission.specs.Lent.{lent}
+use Rattle.admission.specs.Lent.{lent, outcome}
 use Rattle.holding.specs.Replay.{Regrows}
 use Rattle.holding.proofs.HeldLaws.{replay-held, replay-none}
 use Rattle.admission.specs.Gate.{barred}
@@ -71,6 +72,12 @@ gate-bars c l q x h = go (allFit l) refl (held (l .stored)) refl
     go false e o f = rw (e, gate) (ap bars (sym (Option·some-injective x 25 (rw (e, barred) at h))))
     go true e none f = rw (e, gate, q, f) (ap bars (sym (Option·some-injective x 21 (rw (e, barred, f) at h))))
     go true e (some r) f = absurd (Option·some-ne-none x (rw (e, barred, f) at h))
+
+-- .. so it is refused before its work, and leaves register and slice
+pub query-refused : (c : Call) (l : Lent) → registerFor c l ≡ held (l .stored) → (s : Tables) (x : ℕ) → some x ≡ barred l → s ≡ scratchAfter l
+    → outcome (l .stored .tables) (l .stored .counts) s (lentSlice c) (refuses x) ≡ step c l
+unfolding step
+query-refused c l q s x h e = rw (gate-bars c l q x h, step, e)
 
 -- an open gate: the sizes are right, and the tables hold a register
 pub record Open (l : Lent) : Type 0 where

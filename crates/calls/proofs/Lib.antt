@@ -1,5 +1,1 @@
 pub mod CallLaws
-pub mod QueryLaws
-pub mod ScratchLaws
-pub mod MeasureLaws
-pub mod CallSteps

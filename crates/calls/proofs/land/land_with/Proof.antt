@@ -1,5 +1,5 @@
 use Rattle.calls.proofs.CallLaws.{land-done}
-use Rattle.calls.proofs.QueryLaws.{query-refused}
+use Rattle.admission.proofs.GateLaws.{query-refused}
 use Rattle.model.specs.Calls.{lands, registerFor, lentSlice}
 use Rattle.admission.specs.Gate.{gateRefusal}
 use mathlib.Core.Path.{refl, sym, ap, _∙_}

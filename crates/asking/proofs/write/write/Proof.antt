@@ -1,11 +1,12 @@
-use Rattle.calls.proofs.QueryLaws.{query-refused, query-answered}
+use Rattle.asking.proofs.QueryLaws.{query-answered}
+use Rattle.admission.proofs.GateLaws.{query-refused}
 use Rattle.questions.proofs.WritingLaws.{write-answers}
 use Rattle.admission.specs.Gate.{gateRefusal}
 use Rattle.model.specs.Calls.{writes, registerFor, lentSlice, lentTo}
 use mathlib.Core.Path.{refl, sym, ap, _∙_}
 use borrow.Author.Needs.{needs}
-use Rattle.calls.proofs.write.write.Statement.{statement}
-use Rattle.calls.proofs.write.write.Tie as tie
+use Rattle.asking.proofs.write.write.Statement.{statement}
+use Rattle.asking.proofs.write.write.Tie as tie
 
 returns : tie.Need-returns
 returns c =

@@ -14,7 +14,7 @@ use Rattle.admission.specs.Lent.{lent, outcome}
 use Rattle.admission.specs.Gate.{barred}
 use Rattle.admission.proofs.SizeLaws.{zeroed-cleared}
 use Rattle.admission.proofs.GateLaws.{opened}
-use Rattle.calls.proofs.QueryLaws.{query-answered}
+use Rattle.asking.proofs.QueryLaws.{query-answered}
 use Rattle.questions.specs.Measure.{Measurable, measureIn}
 use Rattle.questions.proofs.Searchable.{measurable}
 use Rattle.questions.proofs.Measuring.{measure-answers}

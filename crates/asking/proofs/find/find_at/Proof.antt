@@ -2,11 +2,11 @@ use mathlib.Core.Path.{refl, sym, ap, _∙_}
 use Rattle.model.specs.Calls.{findsAt, registerFor, lentSlice, lentTo}
 use Rattle.admission.specs.Gate.{gateRefusal}
 use Rattle.questions.proofs.AnswerLaws.{find-at-answers}
-use Rattle.calls.proofs.QueryLaws.{query-refused}
-use Rattle.calls.proofs.ScratchLaws.{find-answered}
+use Rattle.admission.proofs.GateLaws.{query-refused}
+use Rattle.asking.proofs.ScratchLaws.{find-answered}
 use borrow.Author.Needs.{needs}
-use Rattle.calls.proofs.find.find_at.Statement.{statement}
-use Rattle.calls.proofs.find.find_at.Tie as tie
+use Rattle.asking.proofs.find.find_at.Statement.{statement}
+use Rattle.asking.proofs.find.find_at.Tie as tie
 
 returns : tie.Need-returns
 returns c =

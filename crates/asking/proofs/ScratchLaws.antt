@@ -17,7 +17,7 @@ use Rattle.admission.proofs.GateLaws.{opened}
 use Rattle.questions.specs.Answering.{answered, sheetedIn}
 use Rattle.questions.proofs.AnswerLaws.{sheet-answers}
 use Rattle.questions.proofs.Answers.{Answers}
-use Rattle.calls.proofs.QueryLaws.{query-answered}
+use Rattle.asking.proofs.QueryLaws.{query-answered}
 
 -- Find and the sheet over scratch g that the gate left. Its sides served for the order of the search; its degrees and its sides for marks. They are
 -- zeros again.

@@ -1,11 +1,11 @@
 use mathlib.Core.Path.{refl, sym, ap, _∙_}
 use Rattle.model.specs.Calls.{measures, registerFor, lentSlice, lentTo}
 use Rattle.admission.specs.Gate.{gateRefusal}
-use Rattle.calls.proofs.QueryLaws.{query-refused}
-use Rattle.calls.proofs.MeasureLaws.{open-measurable, open-answers}
+use Rattle.admission.proofs.GateLaws.{query-refused}
+use Rattle.asking.proofs.MeasureLaws.{open-measurable, open-answers}
 use borrow.Author.Needs.{needs}
-use Rattle.calls.proofs.distance.distance.Statement.{statement}
-use Rattle.calls.proofs.distance.distance.Tie as tie
+use Rattle.asking.proofs.distance.distance.Statement.{statement}
+use Rattle.asking.proofs.distance.distance.Tie as tie
 
 measure-requires : tie.Need-measure-requires
 measure-requires c κs =

@@ -23,13 +23,13 @@ use Rattle.counters.specs.Answers.{asCounts, listReply}
 use Rattle.tables.specs.Meaning.{tables}
 use Rattle.admission.specs.Lent.{lent, outcome}
 use Rattle.questions.specs.Meaning.{foundReply, listedReply, measuredReply, writtenReply}
 use Rattle.calls.proofs.grow.grow as grow
 use Rattle.calls.proofs.land.land as land
-use Rattle.calls.proofs.find.find as find
-use Rattle.calls.proofs.find.find_at as find-at
-use Rattle.calls.proofs.sheet.sheet as sheet
-use Rattle.calls.proofs.write.write as write
-use Rattle.calls.proofs.distance.distance as distance
+use Rattle.asking.proofs.find.find as find
+use Rattle.asking.proofs.find.find_at as find-at
+use Rattle.asking.proofs.sheet.sheet as sheet
+use Rattle.asking.proofs.write.write as write
+use Rattle.asking.proofs.distance.distance as distance
 
 -- ---- the parameters of a call
 

@@ -1,12 +1,12 @@
-use Rattle.calls.proofs.ScratchLaws.{find-answered}
-use Rattle.calls.proofs.QueryLaws.{query-refused}
+use Rattle.asking.proofs.ScratchLaws.{find-answered}
+use Rattle.admission.proofs.GateLaws.{query-refused}
 use Rattle.questions.proofs.AnswerLaws.{find-answers}
 use Rattle.admission.specs.Gate.{gateRefusal}
 use Rattle.model.specs.Calls.{finds, registerFor, lentSlice, lentTo}
 use mathlib.Core.Path.{refl, sym, ap, _∙_}
 use borrow.Author.Needs.{needs}
-use Rattle.calls.proofs.find.find.Statement.{statement}
-use Rattle.calls.proofs.find.find.Tie as tie
+use Rattle.asking.proofs.find.find.Statement.{statement}
+use Rattle.asking.proofs.find.find.Tie as tie
 
 returns : tie.Need-returns
 returns c =

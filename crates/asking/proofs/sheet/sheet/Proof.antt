@@ -1,11 +1,11 @@
 use mathlib.Core.Path.{refl, sym, ap, _∙_}
 use Rattle.model.specs.Calls.{sheets, registerFor, lentSlice, lentTo}
 use Rattle.admission.specs.Gate.{gateRefusal}
-use Rattle.calls.proofs.ScratchLaws.{sheet-answered}
-use Rattle.calls.proofs.QueryLaws.{query-refused}
+use Rattle.asking.proofs.ScratchLaws.{sheet-answered}
+use Rattle.admission.proofs.GateLaws.{query-refused}
 use borrow.Author.Needs.{needs}
-use Rattle.calls.proofs.sheet.sheet.Statement.{statement}
-use Rattle.calls.proofs.sheet.sheet.Tie as tie
+use Rattle.asking.proofs.sheet.sheet.Statement.{statement}
+use Rattle.asking.proofs.sheet.sheet.Tie as tie
 
 returns : tie.Need-returns
 returns c =

@@ -1,0 +1,3 @@
+pub mod QueryLaws
+pub mod ScratchLaws
+pub mod MeasureLaws
