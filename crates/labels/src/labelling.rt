@@ -54,7 +54,7 @@ fn orient_sides(sides: &mut [u16], v: Vertex, before: Edge, after: Edge, up: boo
 }
 
 // Document 01's re-hanging: both labels are not 0, and they differ.
-fn is_relabelled(old: Label, new: Label) -> bool
+pub fn is_relabelled(old: Label, new: Label) -> bool
     ensures { λ r. ⌜ r ≡ isRelabelled (old .0) (new .0) ⌝ }
 {
     if old.0 == 0 {

@@ -138,7 +138,7 @@ pub enum Keeper {
 }
 
 // The chain with more regular vertices keeps its labels, a's on a tie: a walk that still stands at one is that of the longer chain.
-fn keeper_of(degrees: &[u16], meeting: Meeting, a: Vertex, b: Vertex) -> Keeper
+pub fn keeper_of(degrees: &[u16], meeting: Meeting, a: Vertex, b: Vertex) -> Keeper
     ensures { λ r. ⌜ r ≡ keeperFor (now (degrees .entry)) (a .0) (b .0) (met (meeting .first .at .0) (meeting .second .at .0) (meeting .steps)) ⌝ }
 {
     if degree_of(degrees, meeting.second.at) == 2 {

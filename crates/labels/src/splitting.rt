@@ -98,7 +98,7 @@ fn split_chain(
 }
 
 // What the first split leaves round about the second vertex: a ring that they shared is one no more.
-fn left_for(second: Round) -> Round
+pub fn left_for(second: Round) -> Round
     ensures { λ r. ⌜ r ≡ leftFor second ⌝ }
 {
     match second {

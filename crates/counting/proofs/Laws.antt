@@ -1,0 +1,141 @@
+-- Laws of the counts that are read: the loop along a chain, two chains joined, and the ways out of a merge.
+use mathlib.Core.Path.{_≡_, refl, sym}
+use mathlib.Core.Bool.{Bool, true, false, not}
+use mathlib.Core.List.{List}
+use Prim.Native.Nat.{ℕ, zero, suc, _+_, _*_, _-_, _<_, _≤_}
+use native.Mathlib.Nat.{not-suc-le-zero}
+use native.Mathlib.Numerals.{sub-one}
+use native.Mathlib.Omega.{arith}
+use borrow.Author.Tests.{eq-eqb, ne-eqb}
+use lib.Dec.{eqb}
+use lib.ListN.{getD}
+use Rattle.model.specs.Basics.{if_then_else_}
+use Rattle.model.specs.Labels.{isRelabelled}
+use Rattle.model.proofs.Basics.Booleans.{one-most}
+use Rattle.counters.specs.declared.numbers.Vertex.{Vertex}
+use Rattle.tables.specs.Steps.{farIn, turnIn}
+use Rattle.tables.specs.Walks.{Met, lockstepIn}
+use Rattle.tables.specs.Rounds.{ringIn}
+use Rattle.tables.specs.declared.rings.Round.{Round}
+use Rattle.tables.specs.declared.rings.Round.the-variants.{NoRing, Ring, Shared}
+use Rattle.labels.specs.Labelling.{nextIn, risesIn}
+use Rattle.labels.specs.Merging.{keeperFor}
+use Rattle.labels.specs.Splitting.{leftFor}
+use Rattle.labels.specs.declared.splitting.Splits.{Splits}
+use Rattle.labels.specs.declared.splitting.Splits.the-variants as splits
+use Rattle.counting.specs.Counting.{Estimated, countIn, estimated, joinCountIn, keeperCountIn, mergeCountAt, mergeCountIn, movedIn, roundCount, splitCountIn}
+use Rattle.labels.specs.declared.merging.Keeper.{Keeper}
+use Rattle.labels.specs.declared.merging.Keeper.the-variants.{Neither, Chain}
+
+pub moved-le : (m old new : ℕ) → m ≡ movedIn old new → m ≤ 1
+unfolding movedIn
+moved-le m old new e = rw e (one-most (isRelabelled old new))
+
+pub moved-law : (was label old n : ℕ) (r : Bool) → old ≡ was → r ≡ isRelabelled old label → n ≡ (if r then 1 else 0) → n ≡ movedIn was label
+unfolding movedIn
+moved-law was label old n r a b e = rw (← a, ← b) e
+
+module _ (degrees sides ends labels : List ℕ) (up : Bool) where
+  pub count-none : (n d v label : ℕ) → n ≤ 0 → countIn degrees sides ends labels up n d v label ≡ 0
+  unfolding countIn
+  count-none zero d v label h = refl
+  count-none (suc n) d v label h = absurd (not-suc-le-zero h)
+
+  pub count-end : (n d v label : ℕ) → (getD degrees v 0 ≡ 2 → ⊥) → countIn degrees sides ends labels up n d v label ≡ 0
+  unfolding countIn
+  count-end zero d v label h = refl
+  count-end (suc n) d v label h = rw (ne-eqb _ _ h)
+
+  pub count-on : (n d v label d′ v′ label′ : ℕ) → getD degrees v 0 ≡ 2 → turnIn sides d v ≡ d′ → farIn ends d′ v ≡ v′ → nextIn up label ≡ label′
+      → countIn degrees sides ends labels up (suc n) d v label ≡ movedIn (getD labels v 0) label + countIn degrees sides ends labels up n d′ v′ label′
+  unfolding countIn
+  count-on n d v label d′ v′ label′ e f g i = rw (eq-eqb _ _ e, f, g, i)
+
+  -- a turn of the loop, k vertices having been counted before
+  pub count-step : (n d v label d′ v′ label′ k m : ℕ) → 0 < n → getD degrees v 0 ≡ 2 → d′ ≡ turnIn sides d v → v′ ≡ farIn ends d′ v
+      → label′ ≡ nextIn up label → m ≡ movedIn (getD labels v 0) label
+      → k + countIn degrees sides ends labels up n d v label ≡ k + m + countIn degrees sides ends labels up (n - 1) d′ v′ label′
+  count-step zero d v label d′ v′ label′ k m h e f g i j = absurd (not-suc-le-zero h)
+  count-step (suc n) d v label d′ v′ label′ k m h e f g i j =
+      rw (count-on n d v label d′ v′ label′ e (sym f) (sym g) (sym i), ← j, sub-one) (omega arith)
+
+  -- the loop is done: no step is left, or it stands at a singular vertex
+  pub count-done : (n d v label k total : ℕ) → n ≤ 0 → k + countIn degrees sides ends labels up n d v label ≡ total → k ≡ total
+  count-done n d v label k total h e = omega (arith, count-none n d v label h, e)
+
+  pub count-stop : (n d v label k total : ℕ) → (getD degrees v 0 ≡ 2 → ⊥) → k + countIn degrees sides ends labels up n d v label ≡ total → k ≡ total
+  count-stop n d v label k total h e = omega (arith, count-end n d v label h, e)
+
+-- x's chain would keep its labels
+pub join-count : (degrees s ends l : List ℕ) (x y n dx dy ux uy old lx ly lz r : ℕ) (up : Bool)
+    → (dx ≡ getD s (2 * x) 0) × (ux ≡ farIn ends dx x) → (dy ≡ getD s (2 * y) 0) × (uy ≡ farIn ends dy y)
+    → up ≡ risesIn s dx ux → old ≡ getD l ux 0 → lx ≡ nextIn up old → ly ≡ nextIn up lx → lz ≡ nextIn up ly
+    → r ≡ countIn degrees s ends l up n dy uy lz → r ≡ joinCountIn degrees s ends l x y n
+unfolding joinCountIn
+join-count degrees s ends l x y n dx dy ux uy old lx ly lz r up a b f g h i j k =
+    rw (← a .0, ← a .1, ← b .0, ← b .1, ← f, ← g, ← h, ← i, ← j) k
+
+module _ (degrees s ends l : List ℕ) (a b n da ua db ub : ℕ) (m : Met) (h : (da ≡ getD s (2 * a) 0) × (ua ≡ farIn ends da a))
+    (i : (db ≡ getD s (2 * b) 0) × (ub ≡ farIn ends db b)) (is : m ≡ lockstepIn degrees s ends n da ua db ub) where
+  pub count-closes : m .first ≡ b → estimated true 0 ≡ mergeCountIn degrees s ends l a b n
+  unfolding mergeCountIn mergeCountAt
+  count-closes o = rw (← h .0, ← h .1, ← i .0, ← i .1, ← is, eq-eqb _ _ o)
+
+  pub count-kept : (keeper : Keeper) (c : ℕ) → (m .first ≡ b → ⊥) → keeper ≡ keeperFor degrees a b m → c ≡ keeperCountIn keeper degrees s ends l n
+      → estimated false c ≡ mergeCountIn degrees s ends l a b n
+  unfolding mergeCountIn mergeCountAt
+  count-kept keeper c o k e = rw (← h .0, ← h .1, ← i .0, ← i .1, ← is, ne-eqb _ _ o, ← k, ← e)
+
+pub neither-count : (degrees s ends l : List ℕ) (n : ℕ) (keeper : Keeper) → keeper ≡ Neither → 0 ≡ keeperCountIn keeper degrees s ends l n
+neither-count degrees s ends l n keeper e = rw e
+
+pub chain-count : (degrees s ends l : List ℕ) (n c : ℕ) (keeper : Keeper) (x y : Vertex) → keeper ≡ Chain x y → c ≡ joinCountIn degrees s ends l (x .0) (y .0) n
+    → c ≡ keeperCountIn keeper degrees s ends l n
+chain-count degrees s ends l n c keeper x y e f = rw e f
+
+-- a test of `!b`
+pub not-then : (b : Bool) → not b ≡ true → b ≡ false
+not-then true h = sym h
+not-then false h = refl
+
+pub not-else : (b : Bool) → not b ≡ false → b ≡ true
+not-else true h = refl
+not-else false h = sym h
+
+-- ---- taps
+
+pub no-round : (round : Round) → round ≡ NoRing → 0 ≡ roundCount round
+no-round round e = rw e
+
+pub a-round : (round : Round) (n : ℕ) → round ≡ Ring n → n ≡ roundCount round
+a-round round n e = rw e
+
+pub shared-round : (round : Round) (n m : ℕ) → round ≡ Shared n → m ≡ n - 1 → m ≡ roundCount round
+shared-round round n m e f = rw e f
+
+module _ (degrees s ends : List ℕ) (a b n : ℕ) where
+  pub both-count : (p q q′ : Round) (f g : ℕ) → p ≡ ringIn degrees s ends a b n → f ≡ roundCount p → q ≡ ringIn degrees s ends b a n → q′ ≡ leftFor q
+      → g ≡ roundCount q′ → f + g ≡ splitCountIn splits.Both degrees s ends a b n true
+  unfolding splitCountIn
+  both-count p q q′ f g h i j k l = rw (← h, ← i, ← j, ← k, ← l)
+
+  -- where no ring stands
+  pub no-count : (x : Splits) (rings : Bool) → rings ≡ false → 0 ≡ splitCountIn x degrees s ends a b n rings
+  unfolding splitCountIn
+  no-count splits.Neither rings e = refl
+  no-count (splits.One v w) rings e = rw e
+  no-count splits.Both rings e = rw e
+
+  -- where one may
+  pub neither-split : (x : Splits) (rings : Bool) → x ≡ splits.Neither → 0 ≡ splitCountIn x degrees s ends a b n rings
+  unfolding splitCountIn
+  neither-split x rings e = rw e
+
+  pub one-split : (x : Splits) (rings : Bool) (v w : Vertex) (p : Round) (r : ℕ) → rings ≡ true → x ≡ splits.One v w → p ≡ ringIn degrees s ends (v .0) (w .0) n
+      → r ≡ roundCount p → r ≡ splitCountIn x degrees s ends a b n rings
+  unfolding splitCountIn
+  one-split x rings v w p r e f g h = rw (f, e, ← g) h
+
+  pub both-split : (x : Splits) (rings : Bool) (r : ℕ) → rings ≡ true → x ≡ splits.Both → r ≡ splitCountIn splits.Both degrees s ends a b n true
+      → r ≡ splitCountIn x degrees s ends a b n rings
+  both-split x rings r e f g = rw (f, e) g
