@@ -15,21 +15,9 @@ use Rattle.model.proofs.Walks.Degree.{Proper}
 use Rattle.model.proofs.Walks.Ring.{ring-decides}
 use Rattle.model.proofs.Labels.Closings.{case-closing, closing-case}
 use Rattle.model.proofs.Registers.Accepted.{accepted, no-refusal}
-use Rattle.model.proofs.Registers.Quotes.{commit-lands, commit-same, land-edge-by, not-refused, unlessRefused}
+use Rattle.model.proofs.Registers.Quotes.{termsFor, terms-by, commit-lands, commit-same, land-edge-by, not-refused, unlessRefused}
 
 -- ---- the terms of a quote
-
-abbrev termsFor : Register → Edge → Option ℕ → Terms
-termsFor r e (some x) = declines x
-termsFor r e none = offers (caseNumber (caseAt (r .edges) e)) (relabelsOf r e)
-
-terms-by : (r : Register) (e : Edge) → (quote r e) .terms ≡ termsFor r e (edgeRefusal r e)
-unfolding quote
-terms-by r e = go (edgeRefusal r e)
-  where
-    go : (o : Option ℕ) → elim o [ some x ↦ declines x | none ↦ offers (caseNumber (caseAt (r .edges) e)) (relabelsOf r e) ] ≡ termsFor r e o
-    go (some x) = refl
-    go none = refl
 
 pub quoted-some : (r : Register) (e : Edge) (x : ℕ) → edgeRefusal r e ≡ some x → (quote r e) .terms ≡ declines x
 quoted-some r e x h = terms-by r e ∙ ap (termsFor r e) h

@@ -14,7 +14,7 @@ use Rattle.model.specs.Basics.{if_then_else_, maxEdges, maxLength, maxVo
 use Rattle.model.specs.Graph.{Edge}
 use Rattle.model.specs.Cases.{caseAt}
 use Rattle.model.specs.Labels.{relabelCount}
-use Rattle.model.specs.Register.{Landed, Quote, Register, Terms, caseNumber, commit, declines, edgeRefusal, eqEdge, eqQuote, eqTerms, landEdge, landed, offers, quote, refused, relabelsOf, withEdge}
+use Rattle.model.specs.Register.{Landed, Quote, Register, Terms, caseNumber, commit, commitMade, declines, edgeRefusal, eqEdge, eqQuote, eqTerms, landEdge, landed, offers, quote, refused, relabelsOf, withEdge}
 use Rattle.model.proofs.Basics.Booleans.{and-true, if-either, not-both, true-or-false}
 
 -- ---- what is equal passes the test
@@ -81,26 +81,62 @@ quote-one q p h =
     let h₁ = and-true (eqEdge (q .asked) (p .asked)) (eqTerms (q .terms) (p .terms)) (h₂ .0) in
     quote-parts (edge-one _ _ (h₁ .0)) (terms-one _ _ (h₁ .1)) (eqb-true _ _ (h₂ .1)) (eqb-true _ _ (h₃ .1))
 
+-- ---- the terms of a quote
+
+-- the terms of a quote, by the refusal of its edge
+abbrev pub termsFor : Register → Edge → Option ℕ → Terms
+termsFor r e (some x) = declines x
+termsFor r e none = offers (caseNumber (caseAt (r .edges) e)) (relabelsOf r e)
+
+pub terms-by : (r : Register) (e : Edge) → (quote r e) .terms ≡ termsFor r e (edgeRefusal r e)
+unfolding quote
+terms-by r e = go (edgeRefusal r e)
+  where
+    go : (o : Option ℕ) → elim o [ some x ↦ declines x | none ↦ offers (caseNumber (caseAt (r .edges) e)) (relabelsOf r e) ] ≡ termsFor r e o
+    go (some x) = refl
+    go none = refl
+
 -- ---- a commit
+
+same-now : (r : Register) (e : Edge) → eqQuote (quote r e) (quote r ((quote r e) .asked)) ≡ true
+unfolding quote
+same-now r e = quote-same (quote r e)
 
 -- what a list's edge comes to
 abbrev pub unlessRefused : Register → Edge → Option ℕ → Landed
 unlessRefused r e (some x) = refused x
 unlessRefused r e none = landed (withEdge r e)
 
--- the quote just made
-pub land-edge-by : (r : Register) (e : Edge) → landEdge r e ≡ unlessRefused r e (edgeRefusal r e)
-unfolding landEdge commit quote
-land-edge-by r e = go (edgeRefusal r e) refl
+-- "go through the pair for each pipe"
+pub through-pair : (r : Register) (e : Edge) → commit r (quote r e) ≡ landEdge r e
+unfolding landEdge commit
+through-pair r e = go (eqQuote (quote r e) (quote r ((quote r e) .asked))) (same-now r e)
   where
-    go : (o : Option ℕ) → edgeRefusal r e ≡ o → landEdge r e ≡ unlessRefused r e (edgeRefusal r e)
-    go (some x) q = rw (quote-same (quote r e)) (rw q)
-    go none q = rw (quote-same (quote r e)) (rw q)
+    go : (b : Bool) → b ≡ true → (if not b then refused 32 else commitMade r (quote r e)) ≡ commitMade r (quote r e)
+    go true h = refl
+    go false h = absurd (let z : _≡_ {A = ℕ} 0 1 = cc in omega arith)
+
+-- what is done by the terms of a quote
+abbrev byTerms : Register → Edge → Terms → Landed
+byTerms r e (offers c n) = landed (withEdge r e)
+byTerms r e (declines x) = refused x
+
+made-by : (r : Register) (q : Quote) (t : Terms) → q .terms ≡ t → commitMade r q ≡ byTerms r (q .asked) t
+unfolding commitMade
+made-by r q (offers c n) h = rw (h, commitMade)
+made-by r q (declines x) h = rw (h, commitMade)
+
+pub land-edge-by : (r : Register) (e : Edge) → landEdge r e ≡ unlessRefused r e (edgeRefusal r e)
+unfolding landEdge quote
+land-edge-by r e = made-by r (quote r e) (termsFor r e (edgeRefusal r e)) (terms-by r e) ∙ go (edgeRefusal r e)
+  where
+    go : (o : Option ℕ) → byTerms r e (termsFor r e o) ≡ unlessRefused r e o
+    go (some x) = refl
+    go none = refl
 
 -- any quote that is one made now: equal but older too
 pub commit-same : (r : Register) (q : Quote) → q ≡ quote r (q .asked) → commit r q ≡ landEdge r (q .asked)
-unfolding landEdge
-commit-same r q h = ap (λ (p : Quote). commit r p) h
+commit-same r q h = ap (λ (p : Quote). commit r p) h ∙ through-pair r (q .asked)
 
 -- any other
 pub commit-differs : (r : Register) (q : Quote) → q ≢ quote r (q .asked) → commit r q ≡ refused 32
