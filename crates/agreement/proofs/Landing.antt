@@ -27,6 +27,7 @@ use Rattle.insertion.specs.Insertion.{CheckIn, LandingIn, checkIn, done, failed
 use Rattle.model.proofs.Walks.NewEdge.{length-new}
 use Rattle.model.proofs.Registers.Small.{total-small}
 use Rattle.model.proofs.Registers.Accepted.{unrefused}
+use Rattle.model.proofs.Registers.Quotes.{land-edge-by, unlessRefused}
 use Rattle.agreement.proofs.Lists.{ends-stored, lengths-stored, volumes-stored}
 use Rattle.agreement.proofs.Relabelled.{relabelled-most}
 use Rattle.agreement.proofs.Tables.{degrees-are, linked-sides}
@@ -142,7 +143,7 @@ module _ (r : Register) (e : Edge) (rings : Bool) where
 
   module _ (g : Reachable r) (warns : Warns rings (r .edges)) where
     by-refusal : (o : Option ℕ) → edgeRefusal r e ≡ o
-        → landChecked (tablesOf r) (countsOf r) rings e (checkedAs e o) ≡ shown (elim o [ some x ↦ refused x | none ↦ landed (withEdge r e) ])
+        → landChecked (tablesOf r) (countsOf r) rings e (checkedAs e o) ≡ shown (unlessRefused r e o)
     unfolding shownIn
     by-refusal (some x) q = refl
     by-refusal none q =
@@ -150,8 +151,10 @@ module _ (r : Register) (e : Edge) (rings : Bool) where
         inserts-agree r e rings g warns (a .lawful .first-landed) (a .lawful .second-landed) (a .lawful .differ) (a .room)
 
     pub land-agrees : landIn (tablesOf r) (countsOf r) rings e ≡ shownIn r (ringsAfter r rings e) (landEdge r e)
-    unfolding landIn landEdge
-    land-agrees = ap (landChecked (tablesOf r) (countsOf r) rings e) (check-agrees r e (few r g)) ∙ by-refusal (edgeRefusal r e) refl
+    unfolding landIn
+    land-agrees =
+        ap (landChecked (tablesOf r) (countsOf r) rings e) (check-agrees r e (few r g)) ∙ by-refusal (edgeRefusal r e) refl
+        ∙ ap (shownIn r (ringsAfter r rings e)) (sym (land-edge-by r e))
 
     -- .. in two parts, for a function that goes on by the answer
     pub edge-parts : (l : Landed) → landEdge r e ≡ l → let shows = shownIn r (ringsAfter r rings e) l in
