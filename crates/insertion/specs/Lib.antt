@@ -1,3 +1,4 @@
 pub mod Placing
 pub mod Insertion
+pub mod Quoting
 pub mod Meaning

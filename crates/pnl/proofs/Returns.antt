@@ -11,7 +11,7 @@ use mir.Facts.{toZ-pos, toZ-ofZ}
 use Rattle.model.specs.FromC.{Returned}
 use Rattle.counters.specs.Refusals.{numberOf}
 use Rattle.counters.specs.declared.refusals.Refusal.{Refusal}
-use Rattle.counters.specs.declared.refusals.Refusal.the-variants.{NoMark, Version, Cut, UnknownKind, NotLanded, SameVertex, Length, NotRegular, ShortSlice, NotGrown, TooManyVertices, TooManyEdges, WrongSize, Volume}
+use Rattle.counters.specs.declared.refusals.Refusal.the-variants.{NoMark, Version, Cut, UnknownKind, NotLanded, SameVertex, Length, NotRegular, ShortSlice, NotGrown, TooManyVertices, TooManyEdges, WrongSize, Volume, OtherQuote}
 use Rattle.pnl.specs.FromC.{returned}
 
 number-few : (x : Refusal) → numberOf x ≤ 31
@@ -29,6 +29,7 @@ number-few TooManyVertices = omega arith
 number-few TooManyEdges = omega arith
 number-few WrongSize = omega arith
 number-few Volume = omega arith
+number-few OtherQuote = omega arith
 
 negated : (n : ℕ) → n ≤ 31 → toZ w32 0 -ℤ toZ w32 n ≡ negℤ (pos n)
 negated n h = rw (toZ-pos w32 {n = n} (omega arith)) (+ℤ-idl (negℤ (pos n)))
