@@ -2,3 +2,4 @@
 pub mod Classes
 pub mod Places
 pub mod Answers
+pub mod QuotingLaws

@@ -57,7 +57,7 @@ pub enum Checked {
 }
 
 // Document 01's order, with 31 just after 7. These refusals look at no table. What a record says is a plain number until it is tested here.
-fn check_edge(counts: Counts, first: u16, second: u16, length: u32, volume: u32) -> Checked
+pub fn check_edge(counts: Counts, first: u16, second: u16, length: u32, volume: u32) -> Checked
     ensures { λ r. ⌜ asChecked r ≡ checkIn (asCounts counts) (record { first = first; second = second; len = length; volume = volume }) ⌝ }
 {
     let CheckedVertex::Is(a) = Vertex::landed(first, counts.vertices) else {

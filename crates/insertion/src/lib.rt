@@ -4,4 +4,5 @@
 pub mod cases;
 pub mod edges;
 pub mod placing;
+pub mod quoting;
 pub mod vertices;

@@ -29,7 +29,7 @@ pub enum Work {
 }
 
 // Document 01's cases. Document 02's ring is closed where chains are merged, and tapped where one is split.
-fn work_of(case: Case, a: Vertex, b: Vertex) -> Work
+pub fn work_of(case: Case, a: Vertex, b: Vertex) -> Work
     ensures { λ r. ⌜ r ≡ workFor (asCase case) (a .0) (b .0) ⌝ }
 {
     match case {
