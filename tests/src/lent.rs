@@ -9,6 +9,7 @@ use std::fmt;
 use crate::house::{Fitting, House, Pipe, PipeNumber, MOST_FITTINGS, MOST_PIPES};
 use crate::list;
 use crate::queries::{self, Found};
+use crate::quote::{self, Quote};
 use crate::refusal::Refusal;
 
 /// Numbers of degrees, sides, ends, lengths, volumes and labels.
@@ -99,6 +100,8 @@ pub enum Call {
     Sheet(usize),
     /// Into so many bytes.
     Write(usize),
+    Quote(Pipe),
+    Commit(Quote),
 }
 
 /// What is done to the tables.
@@ -114,17 +117,21 @@ pub enum Command {
 impl Command {
     /// As tests/lent/main.rattle reads it.
     pub fn bytes(&self) -> Vec<u8> {
-        let (kind, numbers, list) = match self {
-            Command::Set(table, place, number) => (b'X', [*table, *place, *number as usize], None),
-            Command::Lend(table, size) => (b'Z', [*table, *size, 0], None),
+        let (kind, numbers, rest) = match self {
+            Command::Set(table, place, number) => {
+                (b'X', [*table, *place, *number as usize], vec![])
+            }
+            Command::Lend(table, size) => (b'Z', [*table, *size, 0], vec![]),
             Command::Call(call) => match call {
-                Call::Grow(list) => (b'G', [list.len(), 0, 0], Some(list)),
-                Call::Land(list) => (b'L', [list.len(), 0, 0], Some(list)),
-                Call::Find(tag) => (b'F', [*tag as usize, 0, 0], None),
-                Call::FindAt(fitting) => (b'A', [usize::from(*fitting), 0, 0], None),
-                Call::Distance(from, to) => (b'D', [*from, *to, 0].map(usize::from), None),
-                Call::Sheet(size) => (b'S', [*size, 0, 0], None),
-                Call::Write(size) => (b'W', [*size, 0, 0], None),
+                Call::Grow(list) => (b'G', [list.len(), 0, 0], list.clone()),
+                Call::Land(list) => (b'L', [list.len(), 0, 0], list.clone()),
+                Call::Find(tag) => (b'F', [*tag as usize, 0, 0], vec![]),
+                Call::FindAt(fitting) => (b'A', [usize::from(*fitting), 0, 0], vec![]),
+                Call::Distance(from, to) => (b'D', [*from, *to, 0].map(usize::from), vec![]),
+                Call::Sheet(size) => (b'S', [*size, 0, 0], vec![]),
+                Call::Write(size) => (b'W', [*size, 0, 0], vec![]),
+                Call::Quote(pipe) => (b'Q', asked(pipe), vec![]),
+                Call::Commit(quote) => (b'C', asked(&quote.pipe), parts(quote)),
             },
         };
         let mut bytes = vec![kind, 0, 0, 0];
@@ -132,9 +139,23 @@ impl Command {
             let number = u32::try_from(number).expect("32 bits");
             bytes.extend(number.to_le_bytes());
         }
-        bytes.extend(list.into_iter().flatten());
+        bytes.extend(rest);
         bytes
     }
+}
+
+/// A pipe's fittings in one number, its length, its volume.
+fn asked(pipe: &Pipe) -> [usize; 3] {
+    let ends = pipe.first | pipe.second << 16;
+    [ends, pipe.length as usize, pipe.volume as usize]
+}
+
+/// The parts of a quote behind its pipe: the case, 0 where it declines; the re-hangings, or the refusal;
+/// the two counts.
+fn parts(quote: &Quote) -> Vec<u8> {
+    let (case, number) = quote.terms.unwrap_or_else(|refusal| (0, refusal));
+    let parts = [case, number, quote.fittings, quote.pipes];
+    parts.into_iter().flat_map(u32::to_le_bytes).collect()
 }
 
 /// What a call answers. Displayed, it is the line that tests/lent/main.rattle prints.
@@ -261,6 +282,15 @@ impl Lent {
         let answered = match *call {
             Call::Grow(_) => unreachable!("answered above"),
             Call::Land(ref list) => return self.land(call, house, list),
+            Call::Commit(ref quote) => return self.commit(call, house, quote),
+            Call::Quote(pipe) => {
+                let quote = quote::quote(&house, pipe);
+                let (case, number) = quote.terms.unwrap_or_else(|refusal| (0, refusal));
+                numbers = [pipe.first, pipe.second].map(number_of).to_vec();
+                numbers.extend([pipe.length, pipe.volume]);
+                let terms = u64::from(case) << 32 | u64::from(number);
+                Ok((terms, u64::from(quote.fittings) << 32 | u64::from(quote.pipes)))
+            }
             Call::Find(tag) => {
                 let (name, taken) = queries::search(&house, tag);
                 let found = queries::find(&house, tag);
@@ -306,6 +336,15 @@ impl Lent {
         self.answer(call, result.map(|()| (0, 0)).map_err(stopped), &[])
     }
 
+    /// Commits a quote and leaves the tables of what was landed.
+    fn commit(&mut self, call: &Call, mut house: House, quote: &Quote) -> Answer {
+        let result = quote::commit(&mut house, quote);
+        let (tables, head) = tables_of(&house);
+        (self.tables, self.head) = (tables.clone(), head);
+        self.grown = Some((tables, head, Some(house)));
+        self.answer(call, result.map(|()| (0, 0)).map_err(|number| (0, number)), &[])
+    }
+
     /// The answer to a call, with the state after it. 25 writes nothing, and no number of the scratch is
     /// 0 before; otherwise the scratch ends all zero. The slice begins with these numbers, and its rest
     /// is untouched.
@@ -318,6 +357,8 @@ impl Lent {
         let room = match call {
             Call::Sheet(_) => SLICE,
             Call::Write(_) => BYTES,
+            // What a quote has of its pipe stands for a slice.
+            Call::Quote(_) => slice.len(),
             _ => 0,
         };
         let mut numbers = vec![SLICE_BEFORE; room];

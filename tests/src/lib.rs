@@ -4,6 +4,7 @@
 //! - [`cases`]: what landing a pipe comes to, for counting;
 //! - [`list`]: the list of records, read and written;
 //! - [`queries`]: find, distance and sheet;
+//! - [`quote`]: what a pipe would cost, and its commit;
 //! - [`calls`]: the same as calls from C answer them;
 //! - [`lent`]: the same over lent tables, and what the tables hold;
 //! - [`print`]: what the printing program prints;
@@ -25,6 +26,7 @@ pub mod list;
 pub mod plan;
 pub mod print;
 pub mod queries;
+pub mod quote;
 pub mod refusal;
 pub mod ring;
 pub mod run;

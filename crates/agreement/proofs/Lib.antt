@@ -22,6 +22,7 @@ pub mod Placing
 pub mod Cases
 pub mod Inserting
 pub mod Landing
+pub mod Committing
 pub mod Chaining
 pub mod Rounds
 pub mod Ends

@@ -1,5 +1,5 @@
 -- Whether a ring may stand. Where none does no split looks for one, and leaves what it would leave if it did.
-use mathlib.Core.Path.{_≡_, _∙_, subst}
+use mathlib.Core.Path.{_≡_, refl, _∙_, subst}
 use mathlib.Core.Logic.{_⊎_, inl, inr}
 use Prim.Native.Nat.{ℕ, _<_}
 use native.Mathlib.Omega.{arith}
@@ -33,6 +33,10 @@ RingFree es = (d : ℕ) → d < length es → edgeOnRing es d ≡ false
 -- `rings` tells of every ring that stands: it is false only where none does
 abbrev pub Warns : Bool → List Edge → Type 0
 Warns rings es = rings ≡ false → RingFree es
+
+-- where a ring may stand, nothing is left to tell
+pub warns-any : (es : List Edge) → Warns true es
+warns-any es f = absurd (not-both true refl f)
 
 -- no ring stands without edges
 pub warns-first : (es : List Edge) → Warns (ltb 0 (length es)) es

@@ -1,3 +1,4 @@
 pub mod QueryLaws
 pub mod ScratchLaws
 pub mod MeasureLaws
+pub mod QuoteLaws

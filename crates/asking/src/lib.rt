@@ -3,5 +3,6 @@
 // None asks anything of its caller: what is lent is tested first. Each passes the gate, `questions` answers, and the register is left as it is.
 pub mod distance;
 pub mod find;
+pub mod quote;
 pub mod sheet;
 pub mod write;

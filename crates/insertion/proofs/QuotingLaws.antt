@@ -6,10 +6,11 @@ use mathlib.Core.List.{List}
 use lib.ListN.{getD}
 use Rattle.model.specs.Graph.{Edge}
 use Rattle.model.specs.Cases.{Case, Class, classOf, caseOf}
-use Rattle.model.specs.Register.{Quote, Terms, offers, caseNumber}
-use Rattle.model.specs.Tables.{Counts}
+use Rattle.model.specs.Register.{Quote, Terms, offers, caseNumber, eqQuote}
+use Rattle.model.specs.Tables.{Tables, Counts}
 use Rattle.counting.specs.Counting.{Estimated, estimated}
-use Rattle.insertion.specs.Insertion.{CheckIn, checkIn}
+use Rattle.insertion.specs.Insertion.{AnswerIn, CheckIn, checkIn, landIn, landingIn, refusedIn}
+use Rattle.insertion.specs.Committing.{commitIn}
 use Rattle.insertion.specs.Placing.{workFor}
 use Rattle.insertion.specs.Quoting.{caseIn, offerIn, quoteIn, termsIn, workCountIn}
 use Rattle.insertion.specs.declared.placing.Work.{Work}
@@ -35,3 +36,14 @@ pub quote-law : (degrees sides ends labels : List ℕ) (c : Counts) (rings : Boo
     → record { asked = e; terms = t; vertices = c .vertices; edges = c .edges } ≡ quoteIn degrees sides ends labels c rings e
 unfolding quoteIn
 quote-law degrees sides ends labels c rings e k t h g = rw (← h, g)
+
+-- the ways out of a commit
+module _ (t : Tables) (c : Counts) (rings : Bool) (q made : Quote) (same : Bool)
+    (h : made ≡ quoteIn (t .degrees) (t .sides) (t .ends) (t .labels) c rings (q .asked)) (g : same ≡ eqQuote q made) where
+  pub commit-differs : same ≡ false → landingIn t (refusedIn 32) ≡ commitIn t c rings q
+  unfolding commitIn
+  commit-differs e = rw (← h, ← g, e)
+
+  pub commit-lands : (t′ : Tables) (a : AnswerIn) → same ≡ true → landingIn t′ a ≡ landIn t c rings (q .asked) → landingIn t′ a ≡ commitIn t c rings q
+  unfolding commitIn
+  commit-lands t′ a e l = rw (← h, ← g, e) l

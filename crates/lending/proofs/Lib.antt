@@ -3,3 +3,4 @@ pub mod TakenApart
 pub mod Single
 pub mod WithList
 pub mod LentCounts
+pub mod WithQuote

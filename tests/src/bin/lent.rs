@@ -28,7 +28,7 @@ struct Tally {
 }
 
 /// The refusals of each call, 0 for an answer.
-const OUTCOMES: [(&str, &[u32]); 7] = [
+const OUTCOMES: [(&str, &[u32]); 9] = [
     ("grow", &[0, 3, 4, 5, 7, 22, 23, 25, 31]),
     ("land", &[0, 1, 2, 3, 4, 5, 6, 7, 21, 25, 31]),
     ("find", &[0, 8, 21, 25]),
@@ -36,6 +36,8 @@ const OUTCOMES: [(&str, &[u32]); 7] = [
     ("distance", &[0, 5, 21, 25]),
     ("sheet", &[0, 9, 21, 25]),
     ("write", &[0, 9, 21, 25]),
+    ("quote", &[0, 21, 25]),
+    ("commit", &[0, 5, 21, 25, 32]),
 ];
 
 impl Tally {
@@ -77,6 +79,8 @@ fn name(call: &Call) -> &'static str {
         Call::Distance(..) => "distance",
         Call::Sheet(_) => "sheet",
         Call::Write(_) => "write",
+        Call::Quote(_) => "quote",
+        Call::Commit(_) => "commit",
     }
 }
 

@@ -6,10 +6,11 @@ use std::collections::BTreeSet;
 use super::random::Random;
 use super::shapes::{self, Shape};
 use super::{full, list, records, version, whole_of};
-use crate::house::{House, Standing, LARGEST_VOLUME};
+use crate::house::{House, Pipe, Standing, LARGEST_VOLUME};
 use crate::lent::{Call, Command, Lent, BYTES, SIZES, SLICE};
 use crate::list::{self as lists, Record};
 use crate::queries;
+use crate::quote::{self, Quote};
 
 /// No longer list has room in the program that is asked.
 const LONGEST_LIST: usize = 65_536;
@@ -56,7 +57,8 @@ pub fn next(source: &mut Source, turn: usize, lent: &mut Lent) -> Vec<Command> {
             let landed = Command::Call(land(random, house.as_ref()));
             vec![landed, Command::Call(Call::Sheet(SLICE))]
         }
-        14..=21 => vec![Command::Call(land(random, house.as_ref()))],
+        14..=19 => vec![Command::Call(land(random, house.as_ref()))],
+        20..=21 => committed(random, house.as_ref()),
         22 => every_tag(house.as_ref()),
         _ => vec![Command::Call(question(random, house.as_ref()))],
     }
@@ -155,10 +157,75 @@ fn fitting_of_some_standing(random: &mut Random, house: &House) -> usize {
     found.unwrap_or(start)
 }
 
+/// A pipe is quoted, and mostly its quote committed: at once; after something was landed; twice; or with
+/// one part forged.
+fn committed(random: &mut Random, house: Option<&House>) -> Vec<Command> {
+    let empty = House::default();
+    let house = house.unwrap_or(&empty);
+    let made = quote::quote(house, pipe(random, house));
+    let commit = Command::Call(Call::Commit(made));
+    let quoted = Command::Call(Call::Quote(made.pipe));
+    match random.below(10) {
+        0..=3 => vec![quoted, commit],
+        4 => vec![quoted, commit.clone(), commit],
+        5 => vec![quoted, Command::Call(land(random, Some(house))), commit],
+        _ => vec![Command::Call(Call::Commit(forged(random, made)))],
+    }
+}
+
+/// The commit of a quote made now, before the tables are damaged.
+fn commit(random: &mut Random, house: Option<&House>) -> Call {
+    let empty = House::default();
+    let house = house.unwrap_or(&empty);
+    Call::Commit(quote::quote(house, pipe(random, house)))
+}
+
+/// A pipe as a list would name it, or one that no list has.
+fn pipe(random: &mut Random, house: &House) -> Pipe {
+    match record(random, house) {
+        Record::Pipe {
+            first,
+            second,
+            length,
+            volume,
+        } => Pipe {
+            first: first.into(),
+            second: second.into(),
+            length,
+            volume,
+        },
+        Record::Fitting => Pipe {
+            first: random.pick(&[0, 1, 4_096, 65_535]),
+            second: random.pick(&[0, 1, 65_535]),
+            length: random.pick(&[1, 100_000, 100_001, u32::MAX]),
+            volume: random.pick(&[0, 1, u32::MAX]),
+        },
+    }
+}
+
+/// One part is another.
+fn forged(random: &mut Random, quote: Quote) -> Quote {
+    let mut forged = quote;
+    let any = random.u32();
+    match random.below(9) {
+        0 => forged.pipe.first = random.pick(&[0, quote.pipe.first ^ 1, 65_535]),
+        1 => forged.pipe.second = random.pick(&[0, quote.pipe.second ^ 1, 65_535]),
+        2 => forged.pipe.length = random.pick(&[quote.pipe.length ^ 1, 0, any]),
+        3 => forged.pipe.volume = random.pick(&[quote.pipe.volume ^ 1, 0, any]),
+        4 => forged.fittings = (quote.fittings + 1) & 0xFFFF,
+        5 => forged.pipes = (quote.pipes ^ 1) & 0xFFFF,
+        6 => forged.terms = quote.terms.map(|(case, count)| (case % 7 + 1, count)),
+        7 => forged.terms = quote.terms.map(|(case, count)| (case, count ^ 1)),
+        _ => forged.terms = Err(random.pick(&[5, 6, 7, 9, 21, 23, 31, 32])),
+    }
+    forged
+}
+
 /// Every question, also about numbers that are no fitting and tags that are not worn.
 fn question(random: &mut Random, house: Option<&House>) -> Call {
     let fittings = house.map_or(0, House::fittings);
-    match random.below(9) {
+    match random.below(10) {
+        9 => Call::Quote(pipe(random, house.unwrap_or(&House::default()))),
         0 | 1 => Call::Find(tag(random, house)),
         2 | 3 => Call::FindAt(coupling(random, house)),
         4 | 5 => Call::Distance(fitting(random, fittings), fitting(random, fittings)),
@@ -246,7 +313,8 @@ fn written_back(source: &mut Source, turn: usize, house: Option<&House>) -> Vec<
 
 /// One call of any kind.
 fn any_call(random: &mut Random, house: Option<&House>) -> Command {
-    Command::Call(match random.below(4) {
+    Command::Call(match random.below(5) {
+        4 => commit(random, house),
         0 => land(random, house),
         1 => Call::Grow(lists::header(version(random))),
         _ => question(random, house),
@@ -279,7 +347,8 @@ fn with_damage(random: &mut Random, lent: &Lent, house: Option<&House>) -> Vec<C
     let new = if wide { new } else { new & 0xFFFF };
     let mut commands = vec![Command::Set(table, place, new)];
     for _ in 0..random.between(1, 2) {
-        commands.push(Command::Call(match random.below(3) {
+        commands.push(Command::Call(match random.below(4) {
+            3 => commit(random, house),
             0 => land(random, house),
             _ => question(random, house),
         }));

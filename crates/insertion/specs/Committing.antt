@@ -1,0 +1,13 @@
+-- What the commit of a quote does to the tables (document 02, S-5), as a function of lists that mirrors the code.
+use mathlib.Core.Bool.{Bool}
+use Rattle.model.specs.Basics.{if_then_else_}
+use Rattle.model.specs.Register.{Quote, eqQuote}
+use Rattle.model.specs.Tables.{Tables, Counts}
+use Rattle.insertion.specs.Insertion.{LandingIn, landingIn, landIn, refusedIn}
+use Rattle.insertion.specs.Quoting.{quoteIn}
+
+-- "does exactly that when a quote made now would be the same"; "32 .., nothing written"
+unfoldable pub commitIn : Tables → Counts → Bool → Quote → LandingIn
+commitIn t c rings q =
+    if eqQuote q (quoteIn (t .degrees) (t .sides) (t .ends) (t .labels) c rings (q .asked)) then landIn t c rings (q .asked)
+    else landingIn t (refusedIn 32)
