@@ -6,6 +6,7 @@ pub mod Linked
 pub mod Lockstep
 pub mod Passes
 pub mod Laying
+pub mod Reading
 pub mod Ringing
 pub mod Meeting
 pub mod Splitting
