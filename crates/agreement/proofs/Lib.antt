@@ -7,6 +7,7 @@ pub mod Lockstep
 pub mod Passes
 pub mod Laying
 pub mod Reading
+pub mod Renewing
 pub mod Ringing
 pub mod Meeting
 pub mod Splitting
