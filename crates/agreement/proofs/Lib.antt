@@ -11,6 +11,7 @@ pub mod Renewing
 pub mod Ringing
 pub mod Meeting
 pub mod Splitting
+pub mod Clearing
 pub mod SplittingBoth
 pub mod Standing
 pub mod Opening

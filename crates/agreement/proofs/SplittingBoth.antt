@@ -1,32 +1,31 @@
 -- The split of one end, whose other end is singular, and of both ends.
-use mathlib.Core.Path.{_≡_, refl, sym, ap, _∙_, subst}
+use mathlib.Core.Path.{_≡_, refl, sym, _∙_, subst}
 use mathlib.Core.Logic.{_≢_, _⊎_, inl, inr}
-use Prim.Native.Nat.{ℕ, zero, suc, _+_, _*_, _≤_, _<_}
+use Prim.Native.Nat.{ℕ, _+_, _*_, _≤_, _<_}
 use native.Mathlib.Omega.{arith}
-use native.Mathlib.Decide.{ℕ-discrete}
 use mathlib.Core.Bool.{Bool, true, false}
-use mathlib.Core.List.{List, [], _∷_}
+use mathlib.Core.List.{List}
 use lib.ListN.{length, getD, set, length-set}
-use lib.Seq.{set-set, set-comm}
 use Rattle.model.specs.Basics.{maxVertices}
 use Rattle.model.specs.Graph.{Edge, Pass, degree, lowerNumbered, onceRound}
-use Rattle.model.specs.Labels.{Labelling, Marks, base, labelPath, next, onOneRing, passes, relabelCount, vertexOnRing, split, splitOrTap, splitTwo, tap}
+use Rattle.model.specs.Labels.{Labelling, Marks, base, labelPath, onOneRing, passes, relabelCount, vertexOnRing, split, splitOrTap, splitTwo, tap}
 use Rattle.tables.specs.Steps.{most16, most32, sum32}
 use Rattle.tables.specs.Rounds.{backIn, ringIn}
 use Rattle.tables.specs.declared.rings.Round.the-variants.{Shared}
 use Rattle.tables.proofs.Sums.{more16-is, sum32-is}
-use Rattle.labels.specs.Labelling.{MarksIn, countAhead, labelVertexIn, marksIn}
+use Rattle.labels.specs.Labelling.{MarksIn, marksIn}
 use Rattle.labels.specs.Merging.{Changed}
 use Rattle.labels.specs.Splitting.{bareIn, leftFor, splitBothIn, splitBy, splitIn, tapIn}
 use Rattle.model.proofs.Basics.Booleans.{and-true, true-or-false}
-use Rattle.model.proofs.Labels.Relabellings.{moved-new, moved-old, relabelCount-cons, relabelCount-same}
+use Rattle.model.proofs.Labels.Relabellings.{moved-new, relabelCount-same}
 use Rattle.model.proofs.Walks.Degree.{Proper, is-two}
 use Rattle.model.proofs.Walks.Turn.{Between}
-use Rattle.model.proofs.Walks.Places.{Ith, no-ith, InPath, Off, ith-split}
+use Rattle.model.proofs.Walks.Places.{Ith, InPath, Off}
 use Rattle.agreement.proofs.Relabelled.{relabelled-most, relabelled-set}
 use Rattle.agreement.proofs.Lockstep.{Shows}
 use Rattle.agreement.proofs.Passes.{between-ith}
 use Rattle.agreement.proofs.Laying.{lay-counts, lay-off, layIn}
+use Rattle.agreement.proofs.Clearing.{lay-over, lay-sides, swap-count}
 use Rattle.agreement.proofs.Ringing.{ring-no, ring-yes}
 use Rattle.agreement.proofs.Meeting.{meets-back, not-passed, passed, passes-in, passes-off, ring-too, shares}
 use Rattle.agreement.proofs.Splitting.{Also, SplitAs, SplitOne, bared-as, below-v, byTest, laid-as, lay-long, rd-between, rd-off, rd-once, splits-one, tap-lays}
@@ -71,40 +70,6 @@ module _ {es : List Edge} (pr : Proper es) {degrees sides ends labels : List ℕ
   splits-single v w two sw few room =
       rw (by-test pr sh v w two (singular-off pr sh v w two sw))
       (splits-one pr sh v w two Nobody labels sides labels m blocks k (λ s. s) refl refl few room (λ t u s. absurd s) (λ t i s j. refl))
-
--- ---- a label that is cleared before, and one that is cleared after
-
-swap-count : (ts us : List ℕ) (w : ℕ) → length ts ≡ length us → relabelCount ts (set us w 0) ≡ relabelCount (set ts w 0) us
-swap-count [] [] w l = refl
-swap-count [] (u ∷ us) w l = absurd (omega arith)
-swap-count (t ∷ ts) [] w l = absurd (omega arith)
-swap-count (t ∷ ts) (u ∷ us) zero l = omega (arith, relabelCount-cons t 0 ts us, relabelCount-cons 0 u ts us, moved-new t, moved-old 0 u refl)
-swap-count (t ∷ ts) (u ∷ us) (suc w) l = omega (arith, relabelCount-cons t u ts (set us w 0), relabelCount-cons t u (set ts w 0) us, swap-count ts us w (omega arith))
-
--- sides do not depend on labels
-lay-sides : (up : Bool) (label : ℕ) (path : List Pass) (sides labels labels′ : List ℕ) → layIn up label path sides labels .sides ≡ layIn up label path sides labels′ .sides
-unfolding layIn countAhead labelVertexIn
-lay-sides up label [] sides labels labels′ = refl
-lay-sides up label (s ∷ ss) sides labels labels′ =
-    let w = labelVertexIn sides labels (s .at) label (s .before) (s .after) up in
-    lay-sides up (next up label) ss (w .sides) (set labels (s .at) label) (set labels′ (s .at) label)
-
--- what was at a vertex of the path does not matter
-lay-over : (up : Bool) (label : ℕ) (path : List Pass) (sides labels : List ℕ) (w a : ℕ) → InPath path w
-    → layIn up label path sides (set labels w a) .labels ≡ layIn up label path sides labels .labels
-unfolding layIn countAhead labelVertexIn
-lay-over up label [] sides labels w a f = absurd (no-ith (f .ith))
-lay-over up label (s ∷ ss) sides labels w a f =
-    go (ℕ-discrete (s .at) w) (λ g. lay-over up (next up label) ss _ (set labels (s .at) label) w a g) (ith-split (f .ith))
-  where
-    go : Dec (s .at ≡ w)
-        → (InPath ss w → layIn up (next up label) ss (labelVertexIn sides labels (s .at) label (s .before) (s .after) up .sides) (set (set labels (s .at) label) w a) .labels
-        ≡ layIn up (next up label) ss (labelVertexIn sides labels (s .at) label (s .before) (s .after) up .sides) (set labels (s .at) label) .labels)
-        → (f .pass-is ≡ s) ⊎ ((j : ℕ) × Ith (f .pass-is) j ss)
-        → layIn up label (s ∷ ss) sides (set labels w a) .labels ≡ layIn up label (s ∷ ss) sides labels .labels
-    go (yes e) ih i = rw (← e, set-set labels (s .at) a label)
-    go (no n) ih (inl q) = absurd (n (ap (λ (x : Pass). x .at) (sym q) ∙ f .at-is))
-    go (no n) ih (inr (i, j)) = rw (set-comm labels w (s .at) a label (λ q. n (sym q))) (ih (record { index = i; pass-is = f .pass-is; ith = j; at-is = f .at-is }))
 
 -- ---- both ends
 
