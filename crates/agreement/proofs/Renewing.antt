@@ -9,7 +9,7 @@ use mathlib.Core.List.{List, [], _∷_}
 use lib.ListN.{length, getD, set}
 use lib.Seq.{getD-set-other, set-set, set-comm}
 use borrow.Author.Tests.{ne-eqb}
-use Rattle.model.specs.Graph.{Pass}
+use Rattle.model.specs.Graph.{Edge, Pass, degree}
 use Rattle.model.specs.Labels.{isRelabelled, next}
 use Rattle.labels.specs.Labelling.{countAhead, labelVertexIn}
 use Rattle.model.proofs.Labels.Relabellings.{moved, moved-old}
@@ -25,6 +25,10 @@ moves old new n l = rw (ne-eqb old 0 (λ q. omega arith), ne-eqb new 0 (λ q. om
 -- each vertex of the path wears a label, and one below `label`
 abbrev pub Older : List ℕ → ℕ → List Pass → Type 0
 Older labels label path = (i : ℕ) (s : Pass) → Ith s i path → (1 ≤ getD labels (s .at) 0) × (getD labels (s .at) 0 < label)
+
+-- .. and so does each regular vertex
+abbrev pub AllOlder : List Edge → List ℕ → ℕ → Type 0
+AllOlder es labels label = (v : ℕ) → degree es v ≡ 2 → (1 ≤ getD labels v 0) × (getD labels v 0 < label)
 
 older-next : (labels : List ℕ) (label : ℕ) (s : Pass) (ss : List Pass) → Once (s ∷ ss) → Older labels label (s ∷ ss) → Older (set labels (s .at) label) (label + 1) ss
 older-next labels label s ss o h i t j =

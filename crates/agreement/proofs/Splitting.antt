@@ -33,7 +33,7 @@ use Rattle.agreement.proofs.Linked.{Linked, linked-other, turn-agrees}
 use Rattle.agreement.proofs.Lockstep.{Shows}
 use Rattle.agreement.proofs.Passes.{AllBetween, between-ith, trail-between}
 use Rattle.agreement.proofs.Laying.{HoldsMarks, Turns, lay-counts, lay-off, lay-within, layIn, relabel-all}
-use Rattle.agreement.proofs.Renewing.{Older, lay-renews}
+use Rattle.agreement.proofs.Renewing.{AllOlder, Older, lay-renews}
 use Rattle.agreement.proofs.Ringing.{lower-at, lower-is}
 
 -- ---- lengths and sizes of labels along a path
@@ -137,6 +137,9 @@ module _ {es : List Edge} (pr : Proper es) {degrees sides₀ ends lows₀ : List
 
     pub rd-short : length (onceRound es (lowerNumbered es v) v) < length es
     rd-short = first-short es pr (x .at) (r .trail) (r .off)
+
+    pub rd-older : (labels : List ℕ) (label : ℕ) → AllOlder es labels label → Older labels label (onceRound es (lowerNumbered es v) v)
+    rd-older labels label h i s j = h (s .at) (is-two es (s .at) ((between-ith rd rd-between i s j) .regular))
 
     pub rd-off : Off (onceRound es (lowerNumbered es v) v) v
     rd-off = r .off
