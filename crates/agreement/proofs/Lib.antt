@@ -25,6 +25,7 @@ pub mod Placing
 pub mod Cases
 pub mod Inserting
 pub mod Landing
+pub mod Quoting
 pub mod Chaining
 pub mod Rounds
 pub mod Ends

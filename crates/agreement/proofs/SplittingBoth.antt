@@ -1,4 +1,4 @@
--- The split of one end, whose other end is singular, and of both ends.
+-- The split of one end, whose other end is singular, and of both ends; and the count that is read before.
 use mathlib.Core.Path.{_≡_, ap₂, refl, sym, _∙_, subst}
 use mathlib.Core.Logic.{_≢_, _⊎_, inl, inr}
 use Prim.Native.Nat.{ℕ, _+_, _*_, _≤_, _<_}
