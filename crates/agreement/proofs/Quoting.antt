@@ -171,12 +171,11 @@ module _ (r : Register) (e : Edge) (rings : Bool) (g : Reachable r) (warns : War
 
   -- 7 exactly if a ring is closed, else the case by the degrees
   case-is : (if closesRing es a b then 7 else caseNumber (caseIn degrees a b)) ≡ caseNumber (caseAt es e)
-  unfolding caseAt
+  unfolding caseAt caseNumber
   case-is = rw (degrees-read r a below-a, degrees-read r b below-b) (go (closesRing es a b))
     where
       go : (t : Bool) → (if t then 7 else caseNumber (caseOf (classOf (degree es a)) (classOf (degree es b))))
           ≡ caseNumber (if t then closes else caseOf (classOf (degree es a)) (classOf (degree es b)))
-      unfolding caseNumber
       go true = refl
       go false = refl
 
@@ -238,11 +237,10 @@ module _ (r : Register) (q : Quote) (rings : Bool) (g : Reachable r) (warns : Wa
 
   -- the same by the test of two quotes
   pub commit-tested : commit r q ≡ (if not (eqQuote q (readQuote r rings (q .asked))) then refused 32 else landEdge r (q .asked))
-  unfolding commit landEdge quote
+  unfolding commit landEdge quote eqQuote
   commit-tested = rw (quote-agrees r (q .asked) rings g warns) (go (eqQuote q (quote r (q .asked))) refl)
     where
       terms-same : eqQuote q (quote r (q .asked)) ≡ true → eqTerms (q .terms) ((quote r (q .asked)) .terms) ≡ true
-      unfolding eqQuote
       terms-same h =
           let p = quote r (q .asked) in
           let h₂ = and-true _ (eqb (q .vertices) (p .vertices)) ((and-true _ (eqb (q .edges) (p .edges)) h) .0) in
