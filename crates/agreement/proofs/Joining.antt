@@ -6,28 +6,31 @@ use native.Mathlib.Omega.{arith}
 use mathlib.Core.Bool.{Bool, true, false, not}
 use mathlib.Core.List.{List, [], _∷_, _++_}
 use lib.ListN.{length, getD, set}
+use lib.Seq.{getD-set-other}
 use lib.Dec.{eqb}
 use Rattle.model.specs.Basics.{maxVertices, maxEdges}
 use Rattle.model.specs.Graph.{Edge, Pass, degree, endsAt, far, isRegular, onlyEdge}
 use Rattle.model.specs.Labels.{Labelling, Marks, attach, base, inwards, joinPath, labelPath, next, relabelCount}
-use Rattle.tables.specs.Steps.{most32}
-use Rattle.labels.proofs.Labels.{nextIn-is}
-use Rattle.labels.specs.Labelling.{countAhead, labelVertexIn}
+use Rattle.tables.specs.Steps.{farIn, most32}
+use Rattle.labels.specs.Labelling.{MarksIn, countAhead, labelVertexIn, risesIn}
 use Rattle.labels.specs.Merging.{Changed, beginIn, changed, joinIn}
 use Rattle.labels.proofs.Merges.{join-law}
+use Rattle.counting.specs.Counting.{joinCountIn}
+use Rattle.counting.proofs.Laws.{join-count}
 use Rattle.model.proofs.Walks.Degree.{Proper, is-two}
 use Rattle.model.proofs.Walks.Turn.{At, Between, between-back}
 use Rattle.model.proofs.Walks.Joins.{across}
 use Rattle.model.proofs.Walks.Trail.{trail-cons}
 use Rattle.model.proofs.Walks.Ended.{trail-short}
 use Rattle.model.proofs.Walks.Places.{here, later, Off, off-cons, Once, once-cons}
-use Rattle.model.proofs.Labels.Relabellings.{relabelCount-bare, relabelCount-same}
+use Rattle.model.proofs.Labels.Relabellings.{moved, moved-old, relabelCount-bare, relabelCount-same}
 use Rattle.model.proofs.Labels.Inwards.{Inward, inward, trail-regular}
 use Rattle.model.proofs.Walks.Once.{at-once}
 use Rattle.agreement.proofs.Linked.{Linked, linked-old, off-ends, turn-agrees}
 use Rattle.agreement.proofs.Lockstep.{Shows}
 use Rattle.agreement.proofs.Passes.{AllBetween, all-old, between-ith, trail-between}
-use Rattle.agreement.proofs.Laying.{Everywhere, HoldsMarks, Turns, lay-counts, lay-kept, layIn, next-most, relabel-lays, turn-other}
+use Rattle.agreement.proofs.Laying.{Everywhere, Follow, HoldsMarks, Turns, follow, lay-counts, lay-kept, layIn, relabel-lays, turn-other}
+use Rattle.agreement.proofs.Reading.{count-lays}
 use Rattle.agreement.proofs.Extending.{HoldsLabelling, attach-none, attach-some, leaf-at, leaf-between}
 
 -- the tables hold labelling g; the count is that of the relabelled
@@ -149,49 +152,98 @@ module _ {es : List Edge} {n : Edge} {degrees sides ends labels : List ℕ} {m :
       ∙ turn-agrees es sides (m .lows) (s .at) (s .before) pr (sh .links (s .at) (sh .below (s .at) (s .before) (t .before-at))) (is-two es (s .at) (t .regular)) (t .before-at)
       ∙ t .forth
 
-  join-lays : (u : ℕ) → u ≡ far es dx x → isRegular es u ≡ true → joinIn degrees sides ends labels x y (length es) (length es) ≡ layIn (up u) (label u) path sides labels
-  unfolding joinPath layIn countAhead
-  join-lays u e c =
-      let u-below : u < maxVertices = sh .below u dx (rw e ((across es dx x pr ax) .at)) in
-      let q : Linked es sides (m .lows) u = sh .links u u-below in
-      let t : getD labels u 0 ≡ getD (m .labels) u 0 = ap (λ (l : List ℕ). getD l u 0) (k .labels-are) in
-      let s : getD labels u 0 + 8192 < most32 = k .small u in
-      let l₁ : ℕ = label u in
-      let l₂ : ℕ = next (up u) l₁ in
-      let l₃ : ℕ = next (up u) l₂ in
-      let b₁ : l₁ ≤ getD (m .labels) u 0 + 1 = next-most (up u) (getD (m .labels) u 0) in
-      let b₂ : l₂ ≤ l₁ + 1 = next-most (up u) l₁ in
-      let b₃ : l₃ ≤ l₂ + 1 = next-most (up u) l₂ in
-      let w₁ = labelVertexIn sides labels x l₁ dx (length es) (up u) in
-      let w₂ = labelVertexIn (w₁ .sides) (w₁ .labels) y l₂ (length es) dy (up u) in
-      let w₃ = layIn (up u) l₃ (inwards es y) (w₂ .sides) (w₂ .labels) in
-      sym (join-law degrees sides ends labels (w₁ .sides) (w₁ .labels) (w₂ .sides) (w₂ .labels) (w₃ .sides) (w₃ .labels) x y (length es) (length es) dx dy u (far es dy y)
-      (getD (m .labels) u 0) l₁ l₂ l₃ (w₁ .count) (w₂ .count) (w₃ .count) (up u)
-      (sym (side-is x lx (sh .below x dx ax)), e ∙ sym (sh .fars-are dx x (ax .inside))) (sym (side-is y ly (sh .below y dy ay)), sym (sh .fars-are dy y (ay .inside)))
-      (ap (λ (z : ℕ). not (eqb z dx)) (sym ((q .regular (is-two es u c)) .0))) (sym t) (sym (nextIn-is (up u) (getD (m .labels) u 0) (omega arith)))
-      (sym (nextIn-is (up u) l₁ (omega arith))) refl refl (sym (nextIn-is (up u) l₂ (omega arith)))
-      (sym (relabel-lays pr sh (up u) (length es) (w₂ .sides) (w₂ .labels) l₃ walk-at (iy .trail) (iy .singular) (omega (arith, walk-short))
-      (omega (arith, walk-short, k .room)) walk-once (turns l₁ l₂ (up u)))))
+  module _ (u : ℕ) (e : u ≡ far es dx x) (c : isRegular es u ≡ true) where
+    -- the labels of x, of y and of the first in y's chain
+    abbrev l₁ : ℕ
+    l₁ = label u
 
-  first-of : (ss : List Pass) → 0 < length ss → (u : Pass) × (us : List Pass) × (ss ≡ u ∷ us)
-  first-of [] h = absurd (omega arith)
-  first-of (u ∷ us) h = (u, us, refl)
+    abbrev l₂ : ℕ
+    l₂ = next (up u) (label u)
+
+    abbrev l₃ : ℕ
+    l₃ = next (up u) (next (up u) (label u))
+
+    wears : getD labels u 0 ≡ getD (m .labels) u 0
+    wears = ap (λ (l : List ℕ). getD l u 0) (k .labels-are)
+
+    f : Follow (up u) (getD (m .labels) u 0) (length (inwards es y))
+    f = follow (up u) (getD (m .labels) u 0) (length (inwards es y)) (omega (arith, k .small u, wears, walk-short, k .room))
+
+    rises : up u ≡ risesIn sides dx u
+    rises =
+        let q : Linked es sides (m .lows) u = sh .links u (sh .below u dx (rw e ((across es dx x pr ax) .at))) in
+        ap (λ (z : ℕ). not (eqb z dx)) (sym ((q .regular (is-two es u c)) .0))
+
+    side-x : (dx ≡ getD sides (2 * x) 0) × (u ≡ farIn ends dx x)
+    side-x = (sym (side-is x lx (sh .below x dx ax)), e ∙ sym (sh .fars-are dx x (ax .inside)))
+
+    side-y : (dy ≡ getD sides (2 * y) 0) × (far es dy y ≡ farIn ends dy y)
+    side-y = (sym (side-is y ly (sh .below y dy ay)), sym (sh .fars-are dy y (ay .inside)))
+
+    -- x and y labelled, and then y's chain
+    abbrev w₁ : MarksIn
+    w₁ = labelVertexIn sides labels x l₁ dx (length es) (up u)
+
+    abbrev w₂ : MarksIn
+    w₂ = labelVertexIn (w₁ .sides) (w₁ .labels) y l₂ (length es) dy (up u)
+
+    abbrev w₃ : MarksIn
+    w₃ = layIn (up u) l₃ (inwards es y) (w₂ .sides) (w₂ .labels)
+
+    join-lays : joinIn degrees sides ends labels x y (length es) (length es) ≡ layIn (up u) (label u) path sides labels
+    unfolding joinPath layIn countAhead
+    join-lays =
+        sym (join-law degrees sides ends labels (w₁ .sides) (w₁ .labels) (w₂ .sides) (w₂ .labels) (w₃ .sides) (w₃ .labels) x y (length es) (length es) dx dy u (far es dy y)
+        (getD (m .labels) u 0) l₁ l₂ l₃ (w₁ .count) (w₂ .count) (w₃ .count) (up u) side-x side-y rises (sym wears) (f .first) (f .second) refl refl (f .third)
+        (sym (relabel-lays pr sh (up u) (length es) (w₂ .sides) (w₂ .labels) l₃ walk-at (iy .trail) (iy .singular) (omega (arith, walk-short)) (f .room) walk-once (turns l₁ l₂ (up u)))))
+
+    -- what is read along y's chain; x and y wear no label, so that is all that is relabelled
+    read-first : joinCountIn degrees sides ends labels x y (length es) ≡ w₃ .count
+    unfolding labelVertexIn
+    read-first =
+        sym (join-count degrees sides ends labels x y (length es) dx dy u (far es dy y) (getD (m .labels) u 0) l₁ l₂ l₃ (w₃ .count) (up u) side-x side-y rises (sym wears) (f .first) (f .second) (f .third)
+        (sym (count-lays pr sh labels (up u) (length es) (w₂ .sides) (w₂ .labels) l₃ walk-at (iy .trail) (iy .singular) (omega (arith, walk-short)) (f .room) walk-once
+        (λ i s j. getD-set-other (w₁ .labels) y (s .at) l₂ 0 (walk-off y ly i s j) ∙ getD-set-other labels x (s .at) l₁ 0 (walk-off x lx i s j)))))
+
+    reads-from : getD labels x 0 ≡ 0 → getD labels y 0 ≡ 0
+        → joinCountIn degrees sides ends labels x y (length es) ≡ joinIn degrees sides ends labels x y (length es) (length es) .count
+    unfolding joinPath layIn countAhead labelVertexIn moved
+    reads-from zx zy =
+        let zy′ : getD (set labels x l₁) y 0 ≡ 0 = getD-set-other labels x y l₁ 0 (λ q. xy (sym q)) ∙ zy in
+        rw join-lays (omega (arith, read-first, moved-old (getD labels x 0) l₁ zx, moved-old (getD (set labels x l₁) y 0) l₂ zy′))
+
+  -- the nearest regular vertex of x's chain
+  record Nearest : Type 0 where
+    first : Pass
+    others : List Pass
+    are : inwards es x ≡ first ∷ others
+    at-far : first .at ≡ far es dx x
+    regular : isRegular es (first .at) ≡ true
+
+  nearest : 0 < length (inwards es x) → Nearest
+  nearest h = go (inwards es x) refl h
+    where
+      go : (ss : List Pass) → inwards es x ≡ ss → 0 < length ss → Nearest
+      go [] e l = absurd (omega arith)
+      go (u ∷ us) e l =
+          let hd = trail-cons (rw e at ((inward es pr x dx lx ax) .trail)) in
+          record { first = u; others = us; are = e; at-far = hd .0; regular = rw (hd .0) (hd .1) }
 
   pub joins : (blocks : ℕ) → 0 < length (inwards es x)
       → let j = joinIn degrees sides ends labels x y (length es) (length es) in
       ChangedAs new labels (changed (j .sides) (j .labels) blocks (j .count) false) (attach blocks dx (inwards es x) path m)
-  joins blocks h = go (first-of (inwards es x) h)
-    where
-      go : ((u : Pass) × (us : List Pass) × (inwards es x ≡ u ∷ us))
-          → let j = joinIn degrees sides ends labels x y (length es) (length es) in
-          ChangedAs new labels (changed (j .sides) (j .labels) blocks (j .count) false) (attach blocks dx (inwards es x) path m)
-      go (u, us, e) =
-          let hd = trail-cons (rw e at ((inward es pr x dx lx ax) .trail)) in
-          let c : isRegular es (u .at) ≡ true = rw (hd .0) (hd .1) in
-          rw (join-lays (u .at) (hd .0) c, e, attach-some blocks dx u us path m) (record {
-            holds = record { kept = laid-kept (up (u .at)) (label (u .at)); blocks-are = refl };
-            counts = laid-counts (up (u .at)) (label (u .at));
-          })
+  joins blocks h =
+      let n : Nearest = nearest h in
+      let u : Pass = n .first in
+      rw (join-lays (u .at) (n .at-far) (n .regular), n .are, attach-some blocks dx u (n .others) path m) (record {
+        holds = record { kept = laid-kept (up (u .at)) (label (u .at)); blocks-are = refl };
+        counts = laid-counts (up (u .at)) (label (u .at));
+      })
+
+  -- what is read before the join is what the join then counts
+  pub join-reads : 0 < length (inwards es x) → getD labels x 0 ≡ 0 → getD labels y 0 ≡ 0
+      → joinCountIn degrees sides ends labels x y (length es) ≡ joinIn degrees sides ends labels x y (length es) (length es) .count
+  join-reads h = let n : Nearest = nearest h in reads-from (n .first .at) (n .at-far) (n .regular)
 
   -- neither chain has any: a new block
   begin-lays : (i : ℕ) → inwards es y ≡ [] → let l = layIn true (base i) path sides labels in let w = beginIn sides labels x dx y dy (length es) i in

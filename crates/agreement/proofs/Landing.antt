@@ -111,7 +111,7 @@ module _ (r : Register) (e : Edge) (rings : Bool) (g : Reachable r) (warns : War
 -- ---- with every refusal, in its order
 
 -- what the code's check comes to, by the model's refusal
-abbrev checkedAs : Edge → Option ℕ → CheckIn
+abbrev pub checkedAs : Edge → Option ℕ → CheckIn
 checkedAs e (some x) = failed x
 checkedAs e none = passed (e .first) (e .second) (e .len) (e .volume)
 
@@ -127,7 +127,7 @@ landed-is count v few =
       | no h ↦ rw (le-ltb v count (omega arith)) (and-false (ltb v maxVertices))
     ]
 
-check-agrees : (r : Register) (e : Edge) → r .vertices ≤ maxVertices → checkIn (countsOf r) e ≡ checkedAs e (edgeRefusal r e)
+pub check-agrees : (r : Register) (e : Edge) → r .vertices ≤ maxVertices → checkIn (countsOf r) e ≡ checkedAs e (edgeRefusal r e)
 unfolding checkIn edgeRefusal countsOf
 check-agrees r e few =
     rw (landed-is (r .vertices) (e .first) few, landed-is (r .vertices) (e .second) few)

@@ -14,7 +14,7 @@ use Rattle.model.specs.Graph.{Edge, Pass, far, isRegular, turn}
 use Rattle.model.specs.Labels.{Marks, labelPath, mark, next, relabelCount}
 use Rattle.tables.specs.Steps.{most32, setPair, turnIn}
 use Rattle.labels.proofs.Labels.{nextIn-is, relabel-end, relabel-none, relabel-on}
-use Rattle.labels.specs.Labelling.{MarksIn, countAhead, labelVertexIn, marksIn, orientIn, relabelIn}
+use Rattle.labels.specs.Labelling.{MarksIn, countAhead, labelVertexIn, marksIn, nextIn, orientIn, relabelIn}
 use Rattle.model.proofs.Walks.Degree.{Proper, is-two}
 use Rattle.model.proofs.Walks.Turn.{At, Between}
 use Rattle.model.proofs.Walks.Trail.{Trail, done, pass, Next, next-edge}
@@ -132,6 +132,25 @@ pub next-most : (up : Bool) (label : ℕ) → next up label ≤ label + 1
 unfolding next
 next-most true label = omega arith
 next-most false label = omega arith
+
+-- three labels on from `label`, and then n more: the code, which stops at the largest number, steps as the definition does
+pub record Follow (up : Bool) (label n : ℕ) : Type 0 where
+  pub first : next up label ≡ nextIn up label
+  pub second : next up (next up label) ≡ nextIn up (next up label)
+  pub third : next up (next up (next up label)) ≡ nextIn up (next up (next up label))
+  pub room : next up (next up (next up label)) + n < most32
+
+pub follow : (up : Bool) (label n : ℕ) → label + 3 + n < most32 → Follow up label n
+follow up label n h =
+    let b₁ = next-most up label in
+    let b₂ = next-most up (next up label) in
+    let b₃ = next-most up (next up (next up label)) in
+    record {
+      first = sym (nextIn-is up label (omega arith));
+      second = sym (nextIn-is up (next up label) (omega (arith, b₁)));
+      third = sym (nextIn-is up (next up (next up label)) (omega (arith, b₁, b₂)));
+      room = omega (arith, b₁, b₂, b₃);
+    }
 
 -- ---- a walk that relabels
 

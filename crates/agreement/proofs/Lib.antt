@@ -6,9 +6,12 @@ pub mod Linked
 pub mod Lockstep
 pub mod Passes
 pub mod Laying
+pub mod Reading
+pub mod Renewing
 pub mod Ringing
 pub mod Meeting
 pub mod Splitting
+pub mod Clearing
 pub mod SplittingBoth
 pub mod Standing
 pub mod Opening
@@ -22,7 +25,7 @@ pub mod Placing
 pub mod Cases
 pub mod Inserting
 pub mod Landing
-pub mod Committing
+pub mod Quoting
 pub mod Chaining
 pub mod Rounds
 pub mod Ends

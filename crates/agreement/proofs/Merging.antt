@@ -20,6 +20,8 @@ use Rattle.counters.specs.Numbers.{vertexOf}
 use Rattle.labels.specs.Merging.{Changed, closeIn, keeperFor, keeperIn, mergeIn}
 use Rattle.labels.specs.declared.merging.Keeper.{Keeper}
 use Rattle.labels.specs.declared.merging.Keeper.the-variants.{Chain, Neither}
+use Rattle.counting.specs.Counting.{estimated, keeperCountIn, mergeCountIn}
+use Rattle.counting.proofs.Laws.{count-closes, count-kept}
 use Rattle.labels.proofs.Merges.{first-keeps, merge-closes, merge-kept, neither-keeps, second-keeps, tie-keeps}
 use Rattle.model.proofs.Walks.Degree.{Proper, leaf-singular}
 use Rattle.model.proofs.Walks.Turn.{At, onlyEdge-is}
@@ -28,7 +30,7 @@ use Rattle.model.proofs.Walks.Ended.{trail-short, trail-unique}
 use Rattle.model.proofs.Labels.Inwards.{Inward, inward}
 use Rattle.agreement.proofs.Lockstep.{Meets, Shows, lockstep-meets, shows-singular}
 use Rattle.agreement.proofs.Extending.{leaf-at}
-use Rattle.agreement.proofs.Joining.{Ground, ChangedAs, begins, joins}
+use Rattle.agreement.proofs.Joining.{Ground, ChangedAs, begins, join-reads, joins}
 use Rattle.model.proofs.Walks.Joins.{Across, across}
 
 -- ---- the ring
@@ -107,12 +109,15 @@ module _ {es : List Edge} {n : Edge} {degrees sides ends labels : List ℕ} {m :
   side-b : (db ≡ getD sides (2 * b) 0) × (far es db b ≡ farIn ends db b)
   side-b = (sym (((sh .links b (sh .below b db at-b)) .leaf lb) .0), sym (sh .fars-are db b (at-b .inside)))
 
-  pub merges-ring : closesRing es a b ≡ true → closeIn sides labels blocks a b (length es) da (far es da a) db (far es db b) ≡ merging
-  merges-ring c =
+  at-b-then : closesRing es a b ≡ true → met .first ≡ b
+  at-b-then c =
       let to : ia .to ≡ b = eqb-true (ia .to) b (sym (ring-is es a b la lb ia) ∙ c) in
       let even : length (inwards es a) ≡ length (inwards es b) = ring-even es a b pr la lb at-a ia ib to in
-      merge-closes degrees sides ends labels blocks a b (length es) (length es) da (far es da a) db (far es db b) met side-a side-b refl
-      (finds .first-ends (omega arith) ∙ to)
+      finds .first-ends (omega arith) ∙ to
+
+  pub merges-ring : closesRing es a b ≡ true → closeIn sides labels blocks a b (length es) da (far es da a) db (far es db b) ≡ merging
+  merges-ring c =
+      merge-closes degrees sides ends labels blocks a b (length es) (length es) da (far es da a) db (far es db b) met side-a side-b refl (at-b-then c)
 
   -- otherwise no walker ends at b
   no-end : ia .to ≢ b → met .first ≢ b
@@ -160,28 +165,69 @@ module _ {es : List Edge} {n : Edge} {degrees sides ends labels : List ℕ} {m :
   unfolding merge
   merge-second l = rw (lt-leb (length (inwards es b)) (length (inwards es a)) l)
 
-  pub merges : closesRing es a b ≡ false → blocks < most16 → getD labels a 0 ≡ 0 → getD labels b 0 ≡ 0 → ChangedAs new labels merging (merge es blocks a b m)
-  merges c bb za zb =
+  -- which chain keeps its labels
+  data Keeps : Type 0 where
+    keeps-first : Chain (vertexOf a) (vertexOf b) ≡ keeperFor degrees a b met → length (inwards es b) ≤ length (inwards es a) → 0 < length (inwards es a) → Keeps
+    keeps-second : Chain (vertexOf b) (vertexOf a) ≡ keeperFor degrees a b met → length (inwards es a) < length (inwards es b) → Keeps
+    keeps-neither : Neither ≡ keeperFor degrees a b met → inwards es a ≡ [] → inwards es b ≡ [] → Keeps
+
+  kept : Keeps
+  kept =
       go (decLt (length (inwards es a)) (length (inwards es b))) (decLt (length (inwards es b)) (length (inwards es a))) (ℕ-discrete (length (inwards es a)) 0)
     where
-      -- the keeper is the chain that keeps its labels
+      go : Dec (length (inwards es a) < length (inwards es b)) → Dec (length (inwards es b) < length (inwards es a)) → Dec (length (inwards es a) ≡ 0) → Keeps
+      go (yes l) r z = keeps-second (second-keeps degrees a b met (finds .second-on l)) l
+      go (no l) (yes r) z = keeps-first (first-keeps degrees a b met (second-off (omega arith)) (finds .first-on r)) (omega arith) (omega arith)
+      go (no l) (no r) (no z) =
+          keeps-first (tie-keeps degrees a b met (second-off (omega arith)) (first-off (omega arith)) (λ e. omega (arith, finds .steps))) (omega arith) (omega arith)
+      go (no l) (no r) (yes z) =
+          keeps-neither (neither-keeps degrees a b met (second-off (omega arith)) (first-off (omega arith)) (omega (arith, finds .steps)))
+          (no-pass (inwards es a) z) (no-pass (inwards es b) (omega arith))
+
+  pub merges : closesRing es a b ≡ false → blocks < most16 → getD labels a 0 ≡ 0 → getD labels b 0 ≡ 0 → ChangedAs new labels merging (merge es blocks a b m)
+  merges c bb za zb = go kept
+    where
       keeps : (keeper : Keeper) (g : Labelling) → keeper ≡ keeperFor degrees a b met → merge es blocks a b m ≡ g
           → ChangedAs new labels (keeperIn keeper degrees sides ends labels blocks a b (length es) (length es) da db) g → ChangedAs new labels merging (merge es blocks a b m)
       keeps keeper g p q j =
           rw (← merge-kept degrees sides ends labels blocks a b (length es) (length es) da (far es da a) db (far es db b) met side-a side-b refl keeper (off c) p, q) j
 
-      keeps-a : Chain (vertexOf a) (vertexOf b) ≡ keeperFor degrees a b met → length (inwards es b) ≤ length (inwards es a) → 0 < length (inwards es a) → ChangedAs new labels merging (merge es blocks a b m)
-      keeps-a p l h = keeps (Chain (vertexOf a) (vertexOf b)) _ p (merge-first l) (joins k a b la lb oa ob ab blocks h)
+      go : Keeps → ChangedAs new labels merging (merge es blocks a b m)
+      go (keeps-first p l h) = keeps (Chain (vertexOf a) (vertexOf b)) _ p (merge-first l) (joins k a b la lb oa ob ab blocks h)
+      go (keeps-second p l) = keeps (Chain (vertexOf b) (vertexOf a)) _ p (merge-second l) (joins k b a lb la ob oa (λ e. ab (sym e)) blocks (omega arith))
+      go (keeps-neither p na nb) =
+          keeps Neither _ p (merge-first (omega (arith, ap length na, ap length nb))) (rw (more16-is blocks bb) (begins k a b la lb oa ob ab blocks na nb za zb))
 
-      go : Dec (length (inwards es a) < length (inwards es b)) → Dec (length (inwards es b) < length (inwards es a)) → Dec (length (inwards es a) ≡ 0)
-          → ChangedAs new labels merging (merge es blocks a b m)
-      go (yes l) r z =
-          keeps (Chain (vertexOf b) (vertexOf a)) _ (second-keeps degrees a b met (finds .second-on l)) (merge-second l)
-          (joins k b a lb la ob oa (λ e. ab (sym e)) blocks (omega arith))
-      go (no l) (yes r) z = keeps-a (first-keeps degrees a b met (second-off (omega arith)) (finds .first-on r)) (omega arith) (omega arith)
-      go (no l) (no r) (no z) =
-          keeps-a (tie-keeps degrees a b met (second-off (omega arith)) (first-off (omega arith)) (λ e. omega (arith, finds .steps))) (omega arith) (omega arith)
-      go (no l) (no r) (yes z) =
-          keeps Neither _ (neither-keeps degrees a b met (second-off (omega arith)) (first-off (omega arith)) (omega (arith, finds .steps))) (merge-first (omega arith))
-          (rw (more16-is blocks bb)
-          (begins k a b la lb oa ob ab blocks (no-pass (inwards es a) z) (no-pass (inwards es b) (omega arith)) za zb))
+  -- ---- what is read before
+
+  closing-none : closesRing es a b ≡ true → merging .relabellings ≡ 0
+  unfolding closeIn
+  closing-none c = rw (← merges-ring c) (either-way (eqb (far es da a) b) _ _ refl refl)
+    where
+      either-way : (t : Bool) (x y : Changed) → x .relabellings ≡ 0 → y .relabellings ≡ 0 → (if t then x else y) .relabellings ≡ 0
+      either-way true x y p q = p
+      either-way false x y p q = q
+
+  -- the answer that is read tells a closing, and counts the vertices that the merge relabels
+  pub merge-reads : getD labels a 0 ≡ 0 → getD labels b 0 ≡ 0
+      → mergeCountIn degrees sides ends labels a b (length es)
+      ≡ estimated (closesRing es a b) (mergeIn degrees sides ends labels blocks a b (length es) (length es) .relabellings)
+  merge-reads za zb = go (closesRing es a b) refl
+    where
+      reads : (keeper : Keeper) → closesRing es a b ≡ false → keeper ≡ keeperFor degrees a b met
+          → keeperCountIn keeper degrees sides ends labels (length es) ≡ keeperIn keeper degrees sides ends labels blocks a b (length es) (length es) da db .relabellings
+          → mergeCountIn degrees sides ends labels a b (length es) ≡ estimated false (merging .relabellings)
+      reads keeper c p q =
+          rw (← merge-kept degrees sides ends labels blocks a b (length es) (length es) da (far es da a) db (far es db b) met side-a side-b refl keeper (off c) p)
+          (sym (count-kept degrees sides ends labels a b (length es) da (far es da a) db (far es db b) met side-a side-b refl keeper _ (off c) p (sym q)))
+
+      by : closesRing es a b ≡ false → Keeps → mergeCountIn degrees sides ends labels a b (length es) ≡ estimated false (merging .relabellings)
+      by c (keeps-first p l h) = reads (Chain (vertexOf a) (vertexOf b)) c p (join-reads k a b la lb oa ob ab h za zb)
+      by c (keeps-second p l) = reads (Chain (vertexOf b) (vertexOf a)) c p (join-reads k b a lb la ob oa (λ e. ab (sym e)) (omega arith) zb za)
+      by c (keeps-neither p na nb) = reads Neither c p refl
+
+      go : (t : Bool) → closesRing es a b ≡ t → mergeCountIn degrees sides ends labels a b (length es) ≡ estimated t (merging .relabellings)
+      go true c =
+          rw (closing-none c)
+          (sym (count-closes degrees sides ends labels a b (length es) da (far es da a) db (far es db b) met side-a side-b refl (at-b-then c)))
+      go false c = by c kept

@@ -107,16 +107,16 @@ module _ (r : Register) (e : Edge) (rings : Bool) (g : Reachable r) (warns : War
   sh : Shows es degrees sides ends (m .lows)
   sh = shows r g
 
-  whole : SplitAs es Nobody sides (r .labels) m
+  pub whole : SplitAs es Nobody sides (r .labels) m
   whole = whole-as sh refl (sides-long r) (lows-long r g)
 
   small : (v : ℕ) → getD (r .labels) v 0 < most32
   small v = omega (arith, labels-small r g v)
 
-  few-blocks : r .blocks ≤ 8192
+  pub few-blocks : r .blocks ≤ 8192
   few-blocks = omega (arith, blocks-small r g, room r g)
 
-  room-at : base (r .blocks + 1) + length es < most32
+  pub room-at : base (r .blocks + 1) + length es < most32
   unfolding base
   room-at = omega (arith, few-blocks, room r g)
 
@@ -317,7 +317,7 @@ module _ (r : Register) (e : Edge) (rings : Bool) (g : Reachable r) (warns : War
 
   -- ---- both are leaves
   module _ (leaf-a : degree es a ≡ 1) (leaf-b : degree es b ≡ 1) where
-    ground : Ground es e degrees sides ends (r .labels) m
+    pub ground : Ground es e degrees sides ends (r .labels) m
     ground = record {
       proper = proper r g;
       differ = df;
@@ -330,7 +330,7 @@ module _ (r : Register) (e : Edge) (rings : Bool) (g : Reachable r) (warns : War
       small = λ v. omega (arith, labels-small r g v);
     }
 
-    bare : (v : ℕ) → degree es v ≡ 1 → getD (r .labels) v 0 ≡ 0
+    pub bare : (v : ℕ) → degree es v ≡ 1 → getD (r .labels) v 0 ≡ 0
     bare v one = no-label r g v (λ q. omega arith)
 
     merged-as : (l : Labelling) (t : Bool) → ChangedAs new (r .labels) (mergeIn degrees sides ends (r .labels) (r .blocks) a b (length es) (length es)) l

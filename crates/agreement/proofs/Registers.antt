@@ -1,13 +1,14 @@
 -- What holds of every register that landing leaves, taken from model for the proofs over the tables.
 use mathlib.Core.Path.{_≡_}
 use mathlib.Core.Logic.{_≢_}
-use Prim.Native.Nat.{ℕ, _≤_, _<_}
+use Prim.Native.Nat.{ℕ, _+_, _≤_, _<_}
 use native.Mathlib.Omega.{arith}
 use mathlib.Core.List.{[], _∷_, _++_}
 use mathlib.Core.Option.{some}
 use lib.ListN.{length, getD}
 use Rattle.model.specs.Basics.{maxEdges, maxVertices}
 use Rattle.model.specs.Graph.{Edge, degree}
+use Rattle.model.specs.Labels.{base}
 use Rattle.model.specs.Register.{Register, lowEdgeOf, marksOf}
 use Rattle.model.specs.Tables.{held, storedOf}
 use Rattle.model.specs.Notions.{Reachable}
@@ -22,6 +23,7 @@ use Rattle.model.proofs.Registers.Sides as sides
 use Rattle.model.proofs.Registers.Kept.{kept-held}
 use Rattle.model.proofs.Registers.Lawful.{end-landed, ends-landed}
 use Rattle.model.proofs.Registers.Reachable as reachable
+use Rattle.agreement.proofs.Renewing.{AllOlder}
 
 module _ (r : Register) (g : Reachable r) where
   pub founded : Founded r
@@ -62,6 +64,11 @@ module _ (r : Register) (g : Reachable r) where
   pub no-label : (v : ℕ) → degree (r .edges) v ≢ 2 → getD (r .labels) v 0 ≡ 0
   unfolding marksOf
   no-label = (labelled.labelled r g) .bare
+
+  -- every regular vertex wears a label, below all of the next block
+  pub older : AllOlder (r .edges) (r .labels) (base (r .blocks + 1))
+  unfolding base
+  older v two = let f = labelled.label-facts r g in (f .not-zero v two, omega (arith, f .most v))
 
   -- every edge has landed ends and a length from 1 to 100,000
   pub lawful : AllLawful (r .vertices) (r .edges)

@@ -18,6 +18,7 @@ use Rattle.tables.proofs.Sums.{more16-is}
 use Rattle.labels.specs.Labelling.{MarksIn, countAhead, labelVertexIn, marksIn}
 use Rattle.labels.specs.Merging.{Changed}
 use Rattle.labels.specs.Splitting.{bareIn, splitBy, tapIn}
+use Rattle.counting.specs.Counting.{roundCount}
 use Rattle.model.proofs.Labels.Relabellings.{moved-new}
 use Rattle.model.proofs.Walks.Degree.{Proper, is-two}
 use Rattle.model.proofs.Walks.Turn.{At, Between}
@@ -32,6 +33,7 @@ use Rattle.agreement.proofs.Linked.{Linked, linked-other, turn-agrees}
 use Rattle.agreement.proofs.Lockstep.{Shows}
 use Rattle.agreement.proofs.Passes.{AllBetween, between-ith, trail-between}
 use Rattle.agreement.proofs.Laying.{HoldsMarks, Turns, lay-counts, lay-off, lay-within, layIn, relabel-all}
+use Rattle.agreement.proofs.Renewing.{AllOlder, Older, lay-renews}
 use Rattle.agreement.proofs.Ringing.{lower-at, lower-is}
 
 -- ---- lengths and sizes of labels along a path
@@ -136,6 +138,9 @@ module _ {es : List Edge} (pr : Proper es) {degrees sides₀ ends lows₀ : List
     pub rd-short : length (onceRound es (lowerNumbered es v) v) < length es
     rd-short = first-short es pr (x .at) (r .trail) (r .off)
 
+    pub rd-older : (labels : List ℕ) (label : ℕ) → AllOlder es labels label → Older labels label (onceRound es (lowerNumbered es v) v)
+    rd-older labels label h i s j = h (s .at) (is-two es (s .at) ((between-ith rd rd-between i s j) .regular))
+
     pub rd-off : Off (onceRound es (lowerNumbered es v) v) v
     rd-off = r .off
 
@@ -168,6 +173,10 @@ pub record SplitOne (es : List Edge) (S : ℕ → Type 0) (ts labels : List ℕ)
   pub long : length (g .labels) ≡ length labels
   pub small : ((u : ℕ) → getD labels u 0 < most32) → (u : ℕ) → getD (g .labels) u 0 < most32
   pub blocks-few : l .blocks ≤ blocks + 1
+  pub blocks-more : blocks ≤ l .blocks
+  -- round about a vertex on a ring all are relabelled if they wear older labels; that many are read before
+  pub reads : (vertexOnRing es v ≡ true → Older labels (base (blocks + 1)) (onceRound es (lowerNumbered es v) v))
+      → roundCount (byTest (vertexOnRing es v) (length (onceRound es (lowerNumbered es v) v))) ≡ g .relabellings
 
 module _ {es : List Edge} (pr : Proper es) {degrees sides₀ ends lows₀ : List ℕ} (sh : Shows es degrees sides₀ ends lows₀) (v w : ℕ) (two : degree es v ≡ 2)
     (S : ℕ → Type 0) (ts sides labels : List ℕ) (m : Marks) (blocks : ℕ) (k : SplitAs es S sides labels m) (nv : S v → ⊥)
@@ -194,6 +203,8 @@ module _ {es : List Edge} (pr : Proper es) {degrees sides₀ ends lows₀ : List
         long = length-set (l .labels) v 0 ∙ long;
         small = λ h. set-small (l .labels) v 0 most32 (omega arith) (lay-small (base (blocks + 1)) around sides labels most32 (omega (arith, rd-short pr sh v two t)) h);
         blocks-few = omega arith;
+        blocks-more = omega arith;
+        reads = λ older. rw t (sym (lay-renews (base (blocks + 1)) around sides labels (rd-once pr sh v two t) (older t)));
       })
     where
       l : MarksIn
@@ -205,9 +216,9 @@ module _ {es : List Edge} (pr : Proper es) {degrees sides₀ ends lows₀ : List
       o : PairAt (l .sides) v (getD sides (2 * v) 0) (getD sides (2 * v + 1) 0) × (getD (l .labels) v 0 ≡ getD labels v 0)
       o = lay-off true (base (blocks + 1)) around sides labels v (rd-off pr sh v two t)
 
-  splits-none : SplitOne es S ts labels v blocks (splitBy NoRing degrees sides ends labels blocks v w) (record { blocks = blocks; marks = split v m })
+  splits-none : vertexOnRing es v ≡ false → SplitOne es S ts labels v blocks (splitBy NoRing degrees sides ends labels blocks v w) (record { blocks = blocks; marks = split v m })
   unfolding bareIn
-  splits-none = record {
+  splits-none t = record {
     holds = bared-as es S sides labels m v (below-v pr sh v two) k;
     blocks-are = refl;
     counts = omega (arith, relabelled-set ts labels v 0 lt v-same, moved-new (getD labels v 0));
@@ -215,6 +226,8 @@ module _ {es : List Edge} (pr : Proper es) {degrees sides₀ ends lows₀ : List
     long = length-set labels v 0;
     small = λ h. set-small labels v 0 most32 (omega arith) h;
     blocks-few = omega arith;
+    blocks-more = omega arith;
+    reads = λ older. rw t;
   }
 
   pub splits-one : (vertexOnRing es v ≡ true → (u : ℕ) → S u → Off around u) → (vertexOnRing es v ≡ true → (i : ℕ) (s : Pass) → Ith s i around → getD labels (s .at) 0 ≡ getD ts (s .at) 0)
@@ -226,4 +239,4 @@ module _ {es : List Edge} (pr : Proper es) {degrees sides₀ ends lows₀ : List
           → SplitOne es S ts labels v blocks (splitBy (byTest b (length around)) degrees sides ends labels blocks v w)
           (if b then record { blocks = blocks + 1; marks = split v (labelPath true (base (blocks + 1)) around m) } else record { blocks = blocks; marks = split v m })
       go true t = splits-ring t (off t) (on-same t)
-      go false t = splits-none
+      go false t = splits-none t

@@ -1,35 +1,37 @@
--- The split of one end, whose other end is singular, and of both ends.
-use mathlib.Core.Path.{_≡_, refl, sym, ap, _∙_, subst}
+-- The split of one end, whose other end is singular, and of both ends; and the count that is read before.
+use mathlib.Core.Path.{_≡_, ap₂, refl, sym, _∙_, subst}
 use mathlib.Core.Logic.{_≢_, _⊎_, inl, inr}
-use Prim.Native.Nat.{ℕ, zero, suc, _+_, _*_, _≤_, _<_}
+use Prim.Native.Nat.{ℕ, _+_, _*_, _≤_, _<_}
 use native.Mathlib.Omega.{arith}
-use native.Mathlib.Decide.{ℕ-discrete}
 use mathlib.Core.Bool.{Bool, true, false}
-use mathlib.Core.List.{List, [], _∷_}
+use mathlib.Core.List.{List}
 use lib.ListN.{length, getD, set, length-set}
-use lib.Seq.{set-set, set-comm}
 use Rattle.model.specs.Basics.{maxVertices}
 use Rattle.model.specs.Graph.{Edge, Pass, degree, lowerNumbered, onceRound}
-use Rattle.model.specs.Labels.{Labelling, Marks, base, labelPath, next, onOneRing, passes, relabelCount, vertexOnRing, split, splitOrTap, splitTwo, tap}
+use Rattle.model.specs.Labels.{Labelling, Marks, base, labelPath, onOneRing, passes, relabelCount, vertexOnRing, split, splitOrTap, splitTwo, tap}
 use Rattle.tables.specs.Steps.{most16, most32, sum32}
 use Rattle.tables.specs.Rounds.{backIn, ringIn}
 use Rattle.tables.specs.declared.rings.Round.the-variants.{Shared}
 use Rattle.tables.proofs.Sums.{more16-is, sum32-is}
-use Rattle.labels.specs.Labelling.{MarksIn, countAhead, labelVertexIn, marksIn}
+use Rattle.labels.specs.Labelling.{MarksIn, marksIn}
 use Rattle.labels.specs.Merging.{Changed}
 use Rattle.labels.specs.Splitting.{bareIn, leftFor, splitBothIn, splitBy, splitIn, tapIn}
+use Rattle.labels.specs.declared.splitting.Splits.the-variants.{Both}
+use Rattle.counting.specs.Counting.{splitCountIn}
 use Rattle.model.proofs.Basics.Booleans.{and-true, true-or-false}
-use Rattle.model.proofs.Labels.Relabellings.{moved-new, moved-old, relabelCount-cons, relabelCount-same}
+use Rattle.model.proofs.Labels.Relabellings.{moved-new, relabelCount-same}
 use Rattle.model.proofs.Walks.Degree.{Proper, is-two}
 use Rattle.model.proofs.Walks.Turn.{Between}
-use Rattle.model.proofs.Walks.Places.{Ith, no-ith, InPath, Off, ith-split}
+use Rattle.model.proofs.Walks.Places.{Ith, InPath, Off}
 use Rattle.agreement.proofs.Relabelled.{relabelled-most, relabelled-set}
 use Rattle.agreement.proofs.Lockstep.{Shows}
 use Rattle.agreement.proofs.Passes.{between-ith}
 use Rattle.agreement.proofs.Laying.{lay-counts, lay-off, layIn}
+use Rattle.agreement.proofs.Clearing.{lay-over, lay-sides, swap-count}
+use Rattle.agreement.proofs.Renewing.{AllOlder, Older, lay-renews-less}
 use Rattle.agreement.proofs.Ringing.{ring-no, ring-yes}
 use Rattle.agreement.proofs.Meeting.{meets-back, not-passed, passed, passes-in, passes-off, ring-too, shares}
-use Rattle.agreement.proofs.Splitting.{Also, SplitAs, SplitOne, bared-as, below-v, byTest, laid-as, lay-long, rd-between, rd-off, rd-once, splits-one, tap-lays}
+use Rattle.agreement.proofs.Splitting.{Also, SplitAs, SplitOne, bared-as, below-v, byTest, laid-as, lay-long, rd-between, rd-off, rd-older, rd-once, splits-one, tap-lays}
 
 -- ---- the answer of the ring test
 
@@ -71,40 +73,6 @@ module _ {es : List Edge} (pr : Proper es) {degrees sides ends labels : List ℕ
   splits-single v w two sw few room =
       rw (by-test pr sh v w two (singular-off pr sh v w two sw))
       (splits-one pr sh v w two Nobody labels sides labels m blocks k (λ s. s) refl refl few room (λ t u s. absurd s) (λ t i s j. refl))
-
--- ---- a label that is cleared before, and one that is cleared after
-
-swap-count : (ts us : List ℕ) (w : ℕ) → length ts ≡ length us → relabelCount ts (set us w 0) ≡ relabelCount (set ts w 0) us
-swap-count [] [] w l = refl
-swap-count [] (u ∷ us) w l = absurd (omega arith)
-swap-count (t ∷ ts) [] w l = absurd (omega arith)
-swap-count (t ∷ ts) (u ∷ us) zero l = omega (arith, relabelCount-cons t 0 ts us, relabelCount-cons 0 u ts us, moved-new t, moved-old 0 u refl)
-swap-count (t ∷ ts) (u ∷ us) (suc w) l = omega (arith, relabelCount-cons t u ts (set us w 0), relabelCount-cons t u (set ts w 0) us, swap-count ts us w (omega arith))
-
--- sides do not depend on labels
-lay-sides : (up : Bool) (label : ℕ) (path : List Pass) (sides labels labels′ : List ℕ) → layIn up label path sides labels .sides ≡ layIn up label path sides labels′ .sides
-unfolding layIn countAhead labelVertexIn
-lay-sides up label [] sides labels labels′ = refl
-lay-sides up label (s ∷ ss) sides labels labels′ =
-    let w = labelVertexIn sides labels (s .at) label (s .before) (s .after) up in
-    lay-sides up (next up label) ss (w .sides) (set labels (s .at) label) (set labels′ (s .at) label)
-
--- what was at a vertex of the path does not matter
-lay-over : (up : Bool) (label : ℕ) (path : List Pass) (sides labels : List ℕ) (w a : ℕ) → InPath path w
-    → layIn up label path sides (set labels w a) .labels ≡ layIn up label path sides labels .labels
-unfolding layIn countAhead labelVertexIn
-lay-over up label [] sides labels w a f = absurd (no-ith (f .ith))
-lay-over up label (s ∷ ss) sides labels w a f =
-    go (ℕ-discrete (s .at) w) (λ g. lay-over up (next up label) ss _ (set labels (s .at) label) w a g) (ith-split (f .ith))
-  where
-    go : Dec (s .at ≡ w)
-        → (InPath ss w → layIn up (next up label) ss (labelVertexIn sides labels (s .at) label (s .before) (s .after) up .sides) (set (set labels (s .at) label) w a) .labels
-        ≡ layIn up (next up label) ss (labelVertexIn sides labels (s .at) label (s .before) (s .after) up .sides) (set labels (s .at) label) .labels)
-        → (f .pass-is ≡ s) ⊎ ((j : ℕ) × Ith (f .pass-is) j ss)
-        → layIn up label (s ∷ ss) sides (set labels w a) .labels ≡ layIn up label (s ∷ ss) sides labels .labels
-    go (yes e) ih i = rw (← e, set-set labels (s .at) a label)
-    go (no n) ih (inl q) = absurd (n (ap (λ (x : Pass). x .at) (sym q) ∙ f .at-is))
-    go (no n) ih (inr (i, j)) = rw (set-comm labels w (s .at) a label (λ q. n (sym q))) (ih (record { index = i; pass-is = f .pass-is; ith = j; at-is = f .at-is }))
 
 -- ---- both ends
 
@@ -161,6 +129,10 @@ module _ {es : List Edge} (pr : Proper es) {degrees sides ends labels : List ℕ
     q₁ : SplitOne es Nobody labels labels a blocks g₁ l₁
     q₁ = splits-one pr sh a b ca Nobody labels sides labels m blocks k (λ s. s) refl refl (omega arith) (base-small blocks (omega arith)) (λ t u s. absurd s) (λ t i s j. refl)
 
+    -- the round of b is as it was
+    on-same : vertexOnRing es b ≡ true → (i : ℕ) (s : Pass) → Ith s i rdb → getD (g₁ .labels) (s .at) 0 ≡ getD labels (s .at) 0
+    on-same t i s j = q₁ .same (s .at) (off-ba t i s j) (λ ta. off-each t ta (s .at) (record { index = i; pass-is = s; ith = j; at-is = refl }))
+
     abbrev g₂ : Changed
     g₂ = splitBy (byTest (vertexOnRing es b) (length rdb)) degrees (g₁ .sides) ends (g₁ .labels) (l₁ .blocks) b a
 
@@ -177,19 +149,30 @@ module _ {es : List Edge} (pr : Proper es) {degrees sides ends labels : List ℕ
         off-a t u (inl e) = rw e (off-ba t)
         off-a t u (inr s) = absurd s
 
-        on-same : vertexOnRing es b ≡ true → (i : ℕ) (s : Pass) → Ith s i rdb → getD (g₁ .labels) (s .at) 0 ≡ getD labels (s .at) 0
-        on-same t i s j = q₁ .same (s .at) (off-ba t i s j) (λ ta. off-each t ta (s .at) (record { index = i; pass-is = s; ith = j; at-is = refl }))
+    adds : relabelCount labels (g₂ .labels) ≡ g₁ .relabellings + g₂ .relabellings
+    adds = omega (arith, q₁ .counts, q₂ .counts, relabelCount-same labels)
 
-    sums : relabelCount labels (g₂ .labels) ≡ sum32 (g₁ .relabellings) (g₂ .relabellings)
-    sums =
-        let c : relabelCount labels (g₂ .labels) ≡ g₁ .relabellings + g₂ .relabellings = omega (arith, q₁ .counts, q₂ .counts, relabelCount-same labels) in
-        c ∙ sym (sum32-is (g₁ .relabellings) (g₂ .relabellings) (omega (arith, c, relabelled-most labels (g₂ .labels))))
+    sum-is : sum32 (g₁ .relabellings) (g₂ .relabellings) ≡ g₁ .relabellings + g₂ .relabellings
+    sum-is = sum32-is (g₁ .relabellings) (g₂ .relabellings) (omega (arith, adds, relabelled-most labels (g₂ .labels)))
 
     both-apart : SplitTwo es labels a b (splitBothIn degrees sides ends labels blocks a b (length es)) (splitTwo es blocks a b m)
     unfolding splitBothIn splitTwo
     both-apart =
         rw (by-test pr sh a b ca off-ab, by-test pr sh b a cb off-ba, left-test (vertexOnRing es b) (length rdb), q₁ .blocks-are, o)
-        (record { holds = q₂ .holds; blocks-are = q₂ .blocks-are; counts = sums })
+        (record { holds = q₂ .holds; blocks-are = q₂ .blocks-are; counts = adds ∙ sym sum-is })
+
+    older-b : AllOlder es labels (base (blocks + 1)) → vertexOnRing es b ≡ true → Older (g₁ .labels) (base (l₁ .blocks + 1)) rdb
+    unfolding base
+    older-b h t i s j =
+        let p = rd-older pr sh b cb t labels (base (blocks + 1)) h i s j in
+        (omega (arith, on-same t i s j, p .0), omega (arith, on-same t i s j, p .1, q₁ .blocks-more))
+
+    apart-reads : AllOlder es labels (base (blocks + 1))
+        → splitCountIn Both degrees sides ends a b (length es) true ≡ splitBothIn degrees sides ends labels blocks a b (length es) .relabellings
+    unfolding splitBothIn splitCountIn
+    apart-reads h =
+        rw (by-test pr sh a b ca off-ab, by-test pr sh b a cb off-ba, left-test (vertexOnRing es b) (length rdb), q₁ .blocks-are)
+        (ap₂ {C = ℕ} (λ (n p : ℕ). n + p) (q₁ .reads (λ t. rd-older pr sh a ca t labels (base (blocks + 1)) h)) (q₂ .reads (older-b h)) ∙ sym sum-is)
 
   -- ---- on one ring
   module _ (o : onOneRing es a b ≡ true) where
@@ -268,9 +251,27 @@ module _ {es : List Edge} (pr : Proper es) {degrees sides ends labels : List ℕ
         rw (by-shared pr sh a b ca ra on-a, by-shared pr sh b a cb rb on-b, more16-is blocks (omega arith), tapped, o, ra)
         (record { holds = held; blocks-are = refl; counts = last })
 
+    one-reads : AllOlder es labels (base (blocks + 1))
+        → splitCountIn Both degrees sides ends a b (length es) true ≡ splitBothIn degrees sides ends labels blocks a b (length es) .relabellings
+    unfolding splitBothIn splitCountIn leftFor
+    one-reads h =
+        let less = lay-renews-less (base (blocks + 1)) rda sides labels b (rd-once pr sh a ca ra) (rd-older pr sh a ca ra labels (base (blocks + 1)) h) on-a in
+        rw (by-shared pr sh a b ca ra on-a, by-shared pr sh b a cb rb on-b, more16-is blocks (omega arith), tapped)
+        (omega (arith, less, sum32-is (laid .count) 0 (omega (arith, count-most))))
+
   pub splits-both : SplitTwo es labels a b (splitBothIn degrees sides ends labels blocks a b (length es)) (splitTwo es blocks a b m)
   splits-both = go (true-or-false (onOneRing es a b))
     where
       go : (onOneRing es a b ≡ true) ⊎ (onOneRing es a b ≡ false) → SplitTwo es labels a b (splitBothIn degrees sides ends labels blocks a b (length es)) (splitTwo es blocks a b m)
       go (inl t) = both-one t
       go (inr t) = both-apart t
+
+  -- the count that is read before is the count of what both splits relabel
+  pub both-reads : AllOlder es labels (base (blocks + 1))
+      → splitCountIn Both degrees sides ends a b (length es) true ≡ splitBothIn degrees sides ends labels blocks a b (length es) .relabellings
+  both-reads h = go (true-or-false (onOneRing es a b))
+    where
+      go : (onOneRing es a b ≡ true) ⊎ (onOneRing es a b ≡ false)
+          → splitCountIn Both degrees sides ends a b (length es) true ≡ splitBothIn degrees sides ends labels blocks a b (length es) .relabellings
+      go (inl t) = one-reads t h
+      go (inr t) = apart-reads t h

@@ -18,7 +18,7 @@ use Rattle.tables.specs.Steps.{sum32}
 use Rattle.labels.specs.Splitting.{leftFor, splitBothIn, splitEndsIn, splitIn}
 use Rattle.counters.specs.Numbers.{vertexOf}
 use Rattle.labels.specs.declared.splitting.Splits.the-variants.{Both, One}
-use Rattle.model.proofs.Basics.Booleans.{or-false, true-or-false}
+use Rattle.model.proofs.Basics.Booleans.{not-both, or-false, true-or-false}
 use Rattle.model.proofs.Walks.Degree.{Proper}
 use Rattle.model.proofs.Walks.NewEdge.{length-new}
 use Rattle.model.proofs.Registers.Accepted.{accepted, added}

@@ -16,7 +16,7 @@ use Rattle.insertion.specs.Insertion.{AnswerIn, LandingIn, done, landingIn, ref
 use Rattle.insertion.specs.Committing.{commitIn}
 use Rattle.agreement.proofs.Standing.{warns-any}
 use Rattle.agreement.proofs.Landing.{ringsAfter, shownIn}
-use Rattle.agreement.proofs.Committing.{commit-agrees}
+use Rattle.agreement.proofs.Quoting.{commit-agrees}
 use Rattle.landing.specs.Records.{ReadingIn, landListIn}
 use Rattle.landing.proofs.ListAgrees.{shownRead, list-agrees}
 use Rattle.landing.proofs.Growing.{list-leaves}
@@ -88,7 +88,7 @@ module _ (t : Tables) (c : Counts) (s : Tables) (q : Quote) where
   pub commit-done : (t′ s′ : Tables) (c′ : Counts) (a : AnswerIn) (y : Reply) → none ≡ barred (lent t c s) → s′ ≡ scratchAfter (lent t c s)
       → landingIn t′ a ≡ commitIn t c true q → c′ ≡ countsAfter c a → y ≡ replyTo a
       → outcome t′ c′ s′ [] y ≡ step (commits q) (lent t c s)
-  unfolding outcomeOf effect
+  unfolding outcomeOf effect commitIn
   commit-done t′ s′ c′ a y h e l k m =
       let o = opened (lent t c s) h in
       let r = o .register in

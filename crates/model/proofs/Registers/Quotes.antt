@@ -73,7 +73,7 @@ quote-parts : {a a′ : Edge} {b b′ : Terms} {c c′ d d′ : ℕ} → a ≡ a
     → _≡_ {A = Quote} (record { asked = a; terms = b; vertices = c; edges = d }) (record { asked = a′; terms = b′; vertices = c′; edges = d′ })
 quote-parts p q r s = λ i. record { asked = p i; terms = q i; vertices = r i; edges = s i }
 
-pub quote-one : (q p : Quote) → eqQuote q p ≡ true → q ≡ p
+quote-one : (q p : Quote) → eqQuote q p ≡ true → q ≡ p
 unfolding eqQuote
 quote-one q p h =
     let h₃ = and-true _ (eqb (q .edges) (p .edges)) h in
