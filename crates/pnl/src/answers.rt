@@ -44,8 +44,8 @@ pub fn put_words(out: &mut [u8], at: usize, numbers: &[u32]) -> usize
     next
 }
 
-// One or four numbers, or 9 where the slice has no room for all of them.
-fn answer_numbers(answer: &mut [u8], numbers: &[u32]) -> i32
+// One, two or four numbers, or 9 where the slice has no room for all of them.
+pub fn answer_numbers(answer: &mut [u8], numbers: &[u32]) -> i32
     requires { ⌜ length (now numbers) ≤ 4 ⌝ }
     ensures { λ r. ⌜ returned (now (answer .exit)) r ≡ returnsNumbers (now (answer .entry)) (now (numbers .entry)) ⌝ }
 {
