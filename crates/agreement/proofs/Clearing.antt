@@ -15,7 +15,7 @@ use Rattle.model.proofs.Labels.Relabellings.{moved-new, moved-old, relabelCount
 use Rattle.model.proofs.Walks.Places.{Ith, no-ith, InPath, ith-split}
 use Rattle.agreement.proofs.Laying.{layIn}
 
--- what is counted is the same
+-- a label cleared after is counted as one that was not there before
 pub swap-count : (ts us : List ℕ) (w : ℕ) → length ts ≡ length us → relabelCount ts (set us w 0) ≡ relabelCount (set ts w 0) us
 swap-count [] [] w l = refl
 swap-count [] (u ∷ us) w l = absurd (omega arith)

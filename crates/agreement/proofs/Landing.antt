@@ -127,6 +127,7 @@ landed-is count v few =
       | no h ↦ rw (le-ltb v count (omega arith)) (and-false (ltb v maxVertices))
     ]
 
+-- the code's refusals are the model's, in their order
 pub check-agrees : (r : Register) (e : Edge) → r .vertices ≤ maxVertices → checkIn (countsOf r) e ≡ checkedAs e (edgeRefusal r e)
 unfolding checkIn edgeRefusal countsOf
 check-agrees r e few =

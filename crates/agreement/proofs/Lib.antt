@@ -1,4 +1,5 @@
 -- Landing, in the order of the argument: Lists .. Tables on the tables, Placing, Cases and Inserting for one edge, Landing with the refusals.
+-- Quotes: Reading and Renewing (counts that are read), Offering for one edge, Quoting with the refusals.
 -- Queries: Chaining (a walk), Rounds and Ends (a chain from one edge), Lowest (a name), Marking (marks), Sheeting, Finding.
 pub mod Lists
 pub mod Relabelled
@@ -25,6 +26,7 @@ pub mod Placing
 pub mod Cases
 pub mod Inserting
 pub mod Landing
+pub mod Offering
 pub mod Quoting
 pub mod Chaining
 pub mod Rounds

@@ -107,12 +107,14 @@ module _ (r : Register) (e : Edge) (rings : Bool) (g : Reachable r) (warns : War
   sh : Shows es degrees sides ends (m .lows)
   sh = shows r g
 
+  -- before the edge nothing is bare
   pub whole : SplitAs es Nobody sides (r .labels) m
   whole = whole-as sh refl (sides-long r) (lows-long r g)
 
   small : (v : ℕ) → getD (r .labels) v 0 < most32
   small v = omega (arith, labels-small r g v)
 
+  -- one more block, and its labels, stay within their types
   pub few-blocks : r .blocks ≤ 8192
   few-blocks = omega (arith, blocks-small r g, room r g)
 
@@ -317,6 +319,7 @@ module _ (r : Register) (e : Edge) (rings : Bool) (g : Reachable r) (warns : War
 
   -- ---- both are leaves
   module _ (leaf-a : degree es a ≡ 1) (leaf-b : degree es b ≡ 1) where
+    -- what the merge of two chains stands on
     pub ground : Ground es e degrees sides ends (r .labels) m
     ground = record {
       proper = proper r g;
@@ -330,6 +333,7 @@ module _ (r : Register) (e : Edge) (rings : Bool) (g : Reachable r) (warns : War
       small = λ v. omega (arith, labels-small r g v);
     }
 
+    -- a leaf wears no label
     pub bare : (v : ℕ) → degree es v ≡ 1 → getD (r .labels) v 0 ≡ 0
     bare v one = no-label r g v (λ q. omega arith)
 

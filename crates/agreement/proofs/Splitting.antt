@@ -138,6 +138,7 @@ module _ {es : List Edge} (pr : Proper es) {degrees sides₀ ends lows₀ : List
     pub rd-short : length (onceRound es (lowerNumbered es v) v) < length es
     rd-short = first-short es pr (x .at) (r .trail) (r .off)
 
+    -- if all regular vertices wear older labels, so do those of the round
     pub rd-older : (labels : List ℕ) (label : ℕ) → AllOlder es labels label → Older labels label (onceRound es (lowerNumbered es v) v)
     rd-older labels label h i s j = h (s .at) (is-two es (s .at) ((between-ith rd rd-between i s j) .regular))
 
