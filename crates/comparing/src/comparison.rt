@@ -57,12 +57,12 @@ pub fn compare_texts(right: &[u8], text: &[u8]) -> Comparison
     ensures { λ r. ⌜ asComparison r ≡ compareTexts (now (right .entry)) (now (text .entry)) ⌝ }
 {
     let same = common_bytes(right, text);
-    let ends = line_ends(right, same);
+    let line = 1 + line_ends(right, same);
     if same < right.len() {
-        return Comparison::Differ(1 + ends);
+        return Comparison::Differ(line);
     }
     if same < text.len() {
-        return Comparison::Differ(1 + ends);
+        return Comparison::Differ(line);
     }
     Comparison::Same
 }

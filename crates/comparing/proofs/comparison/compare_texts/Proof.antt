@@ -5,22 +5,15 @@ use borrow.Author.Needs.{needs}
 use Rattle.comparing.proofs.comparison.compare_texts.Statement.{statement}
 use Rattle.comparing.proofs.comparison.compare_texts.Tie as tie
 
-add-t7 : tie.Need-add-t7
-add-t7 c =
-    let at-args = c .before .before .before .before .before in
-    let small = ends-fit (at-args .args .right .now) (c .before .before .common-bytes .result) _ (c .before .line-ends .ensures) in
+add-line : tie.Need-add-line
+add-line c =
+    let small = ends-fit (c .before .before .before .before .args .right .now) (c .before .common-bytes .result) _ (c .line-ends .ensures) in
     omega (arith, small)
 
 returns : tie.Need-returns
 returns c =
     let at-args = c .before .before .before .before .before in
     right-longer (at-args .args .right .now) (at-args .args .text .now) (c .before .before .common-bytes .result) _ (c .before .before .common-bytes .ensures) (c .before .line-ends .ensures) (c .if1 .taken)
-
-add-t8 : tie.Need-add-t8
-add-t8 c =
-    let at-args = c .before .before .before .before .before .before in
-    let small = ends-fit (at-args .args .right .now) (c .before .before .before .common-bytes .result) _ (c .before .before .line-ends .ensures) in
-    omega (arith, small)
 
 returns-2 : tie.Need-returns-2
 returns-2 c =
@@ -39,8 +32,7 @@ compare-texts-spec =
     (tie.spec
     (λ c κs. search needs)
     (λ c κs. search needs)
-    add-t7
+    add-line
     returns
-    add-t8
     returns-2
     returns-3)
