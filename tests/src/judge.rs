@@ -1,0 +1,122 @@
+//! The verdict on a contractor's sheet (document 02, S-9), by lines.
+
+use std::fmt;
+
+use crate::print::Outcome;
+
+#[derive(Clone, Copy, Debug, PartialEq, Eq)]
+pub enum Verdict {
+    Agrees,
+    /// From 1.
+    WrongLine(usize),
+    /// The list's own record and refusal.
+    Stopped(usize, i32),
+    TooLong,
+}
+
+impl Verdict {
+    pub fn of(list: &[u8], sheet: &[u8]) -> Self {
+        let outcome = Outcome::of(list);
+        match &outcome {
+            Outcome::TooLong => Verdict::TooLong,
+            Outcome::Grown(_, Err(stop)) => {
+                Verdict::Stopped(stop.record(), stop.refusal().number())
+            }
+            Outcome::Grown(_, Ok(())) => compared(outcome.to_string().as_bytes(), sheet),
+        }
+    }
+}
+
+impl fmt::Display for Verdict {
+    fn fmt(&self, f: &mut fmt::Formatter) -> fmt::Result {
+        match self {
+            Verdict::Agrees => write!(f, "agrees"),
+            Verdict::WrongLine(line) => write!(f, "line {line}"),
+            Verdict::Stopped(record, refusal) => write!(f, "stopped {record} {refusal}"),
+            Verdict::TooLong => write!(f, "too long"),
+        }
+    }
+}
+
+fn compared(right: &[u8], sheet: &[u8]) -> Verdict {
+    let mut found = sheet.split_inclusive(|byte| *byte == b'\n');
+    let mut number = 0;
+    for expected in right.split_inclusive(|byte| *byte == b'\n') {
+        number += 1;
+        if found.next() != Some(expected) {
+            return Verdict::WrongLine(number);
+        }
+    }
+    match found.next() {
+        Some(_) => Verdict::WrongLine(number + 1),
+        None => Verdict::Agrees,
+    }
+}
+
+/// Sheets made from the right one: itself, with a byte changed, dropped or added, lines swapped,
+/// dropped or added, and cut ends. `draw` gives a number below its argument.
+pub fn sheets(right: &[u8], mut draw: impl FnMut(usize) -> usize) -> Vec<Vec<u8>> {
+    let mut sheets = vec![right.to_vec(), Vec::new()];
+    let mut with = |change: &dyn Fn(&mut Vec<u8>)| {
+        let mut sheet = right.to_vec();
+        change(&mut sheet);
+        sheets.push(sheet);
+    };
+    let size = right.len();
+    with(&|sheet| sheet.truncate(size - 1));
+    with(&|sheet| sheet.push(b'\n'));
+    with(&|sheet| sheet.push(b' '));
+    with(&|sheet| sheet.extend_from_slice(right));
+    with(&|sheet| sheet.resize(300_000, b'x'));
+    for byte in [b'\n', b'\r', b' ', b'0', b'9', 0, 255] {
+        let (at, to) = (draw(size), draw(size + 1));
+        with(&|sheet| sheet[at] = byte);
+        with(&|sheet| sheet.insert(to, byte));
+        with(&|sheet| {
+            sheet.remove(at);
+        });
+        with(&|sheet| sheet.truncate(at));
+    }
+    let lines: Vec<&[u8]> = right.split_inclusive(|byte| *byte == b'\n').collect();
+    let (first, second) = (draw(lines.len()), draw(lines.len()));
+    let mut swapped = lines.clone();
+    swapped.swap(first, second);
+    sheets.push(swapped.concat());
+    let mut fewer = lines.clone();
+    fewer.remove(first);
+    sheets.push(fewer.concat());
+    let mut more = lines;
+    more.insert(first, more[second]);
+    sheets.push(more.concat());
+    sheets
+}
+
+#[cfg(test)]
+mod tests {
+    use super::*;
+
+    const RIGHT: &[u8] = b"2 1 1 0\n0 0 1 0 5\n";
+
+    #[test]
+    fn the_first_wrong_line() {
+        assert_eq!(compared(RIGHT, RIGHT), Verdict::Agrees);
+        for (sheet, line) in [
+            (&b""[..], 1),
+            (b"2 1 1 0", 1),
+            (b"2 1 1 0\r\n0 0 1 0 5\n", 1),
+            (b"0 0 1 0 5\n2 1 1 0\n", 1),
+            (b"2 1 1 0\n", 2),
+            (b"2 1 1 0\n0 0 1 0 5", 2),
+            (b"2 1 1 0\n\n0 0 1 0 5\n", 2),
+            (b"2 1 1 0\n0 0 1 0 5\n\n", 3),
+            (b"2 1 1 0\n0 0 1 0 5\n ", 3),
+        ] {
+            assert_eq!(compared(RIGHT, sheet), Verdict::WrongLine(line));
+        }
+    }
+
+    #[test]
+    fn a_refused_list_is_told() {
+        assert_eq!(Verdict::of(b"PNL", RIGHT), Verdict::Stopped(0, 3));
+    }
+}
