@@ -29,12 +29,14 @@ pub fn right_text(list: &[u8], out: &mut [u8]) -> Right
     let mut sides = [0u16; SIDES];
     let mut ends = [0u16; ENDS];
     let mut lengths = [0u32; EDGES];
+    let mut volumes = [0u32; EDGES];
     let mut labels = [0u32; VERTICES];
     let reading = grow_list(
         &mut degrees,
         &mut sides,
         &mut ends,
         &mut lengths,
+        &mut volumes,
         &mut labels,
         list,
     );
@@ -47,6 +49,7 @@ pub fn right_text(list: &[u8], out: &mut [u8]) -> Right
                 &sides,
                 &ends,
                 &lengths,
+                &volumes,
                 reading.counts,
                 Stop::Whole,
             );

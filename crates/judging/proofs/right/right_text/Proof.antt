@@ -9,16 +9,16 @@ use Rattle.judging.proofs.right.right_text.Tie as tie
 returns : tie.Need-returns
 unfolding cleared
 returns c =
-    let at-enum-told = c .before .before .before .before .before .before .before .before in
-    let at-grow-list = at-enum-told .before .before .before .before .before .before .before in
-    let at-pre = at-grow-list .before .before .before .before .before .before .before .before in
+    let at-enum-told = c .before .before .before .before .before .before .before .before .before in
+    let at-grow-list = at-enum-told .before .before .before .before .before .before .before .before in
+    let at-pre = at-grow-list .before .before .before .before .before .before .before .before .before in
     text-given _ _ (at-grow-list .grow-list .ensures) _ _ (at-pre .pre) (sym (ap asStop (at-enum-told .enum-told .given .1))) (c .before .before .put-listing .ensures .0) (c .before .before .put-listing .ensures .1)
 
 returns-2 : tie.Need-returns-2
 unfolding cleared
 returns-2 c =
-    let at-grow-list = c .before .before .before .before .before .before .before .before in
-    let at-args = at-grow-list .before .before .before .before .before .before .before .before in
+    let at-grow-list = c .before .before .before .before .before .before .before .before .before in
+    let at-args = at-grow-list .before .before .before .before .before .before .before .before .before in
     stop-given _ _ (at-grow-list .grow-list .ensures) (at-args .args .out .now) _ _ (sym (ap asStop (c .before .stop .given .1)))
 
 -- the needs in the order of the code
@@ -31,7 +31,9 @@ right-text-spec =
     (λ c. search needs)
     (λ c. search needs)
     (λ c. search needs)
+    (λ c. search needs)
     (λ c κs. search needs)
+    (λ c. search needs)
     (λ c. search needs)
     (λ c. search needs)
     (λ c. search needs)
