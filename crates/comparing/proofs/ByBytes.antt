@@ -5,8 +5,8 @@ use Prim.Native.Nat.{ℕ, zero, suc, _+_, _≤_, _<_}
 use native.Mathlib.Omega.{arith}
 use native.Mathlib.Decide.{ℕ-discrete}
 use mathlib.Core.Bool.{Bool, true, false}
-use mathlib.Core.List.{List, [], _∷_}
-use lib.ListN.{length, take}
+use mathlib.Core.List.{List, [], _∷_, _++_}
+use lib.ListN.{length, take, length-append}
 use lib.Dec.{eqb}
 use borrow.Author.Tests.{eq-eqb, ne-eqb, eqb-true, eqb-false}
 use Rattle.model.specs.Basics.{if_then_else_}
@@ -154,3 +154,20 @@ right-longer right text c n e f h = text-differs right text c n e f (omega (arit
 pub text-longer : (right text : List ℕ) (c n : ℕ) → c ≡ common right text → n ≡ lineEnds (take c right) → c < length text
     → wrongLine (1 + n) ≡ compareTexts right text
 text-longer right text c n e f h = text-differs right text c n e f (omega (arith, e, h, common-le right text .0))
+
+-- ---- a text longer than the right one: what stands behind its beginning says nothing more
+
+common-more : (xs ys zs : List ℕ) → length xs ≤ length ys → common xs (ys ++ zs) ≡ common xs ys
+unfolding common
+common-more [] ys zs h = refl
+common-more (x ∷ xs) [] zs h = absurd (omega arith)
+common-more (x ∷ xs) (y ∷ ys) zs h = ap (λ (n : ℕ). elim (eqb x y) [ true ↦ suc n | false ↦ 0 ]) (common-more xs ys zs (omega arith))
+
+pub longer-same : (right text rest : List ℕ) → length right < length text → compareTexts right (text ++ rest) ≡ compareTexts right text
+unfolding compareTexts
+longer-same right text rest h =
+    let c = common-le right text .0 in
+    let d = common-le right (text ++ rest) .0 in
+    let n = length-append text rest in
+    let e : common right (text ++ rest) ≡ common right text = common-more right text rest (omega arith) in
+    differs 1 right (text ++ rest) (omega (arith, d, n)) ∙ rw e (sym (differs 1 right text (omega (arith, c))))
