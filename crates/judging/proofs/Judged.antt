@@ -2,7 +2,7 @@
 use mathlib.Core.Path.{_≡_, refl, sym, ap, subst, _∙_}
 use Prim.Native.Nat.{ℕ, _+_, _*_, _≤_, _<_}
 use native.Mathlib.Omega.{arith}
-use mathlib.Core.List.{List, _++_}
+use mathlib.Core.List.{List}
 use lib.ListN.{length, take}
 use Rattle.model.specs.Basics.{maxEdges}
 use Rattle.model.specs.Format.{Read, Stop, whole, stopped, growList}
@@ -19,7 +19,6 @@ use Rattle.streams.proofs.Input.{counted}
 use Rattle.text.specs.Pages.{Page, page, write}
 use Rattle.listing.specs.Listing.{listingIn, headBytes, rowBytes, stopBytes, roomBytes}
 use Rattle.listing.proofs.Whole.{lists}
-use Rattle.comparing.proofs.ByBytes.{longer-same}
 use Rattle.judging.specs.Right.{RightText, listed, stops, rightOf, asRight, sizeOf}
 use Rattle.judging.specs.declared.right.Right.{Right}
 
@@ -64,20 +63,11 @@ judged-by bs text = go ((growList bs) .stop) refl
     go whole e = ap (λ (t : RightText). judgedBy t text) (sym (right-whole (growList bs) e)) ∙ sym (whole-judged bs text e)
     go (stopped k x) e = ap (λ (t : RightText). judgedBy t text) (sym (right-stops (growList bs) k x e)) ∙ sym (refused-told bs text k x e)
 
--- the verdict on a text; and where this is longer than any listing, on each that begins with it
-abbrev Judges : List ℕ → List ℕ → Verdict → Type 0
-Judges bs text v = (v ≡ judge bs text) × ((rest : List ℕ) → roomBytes < length text → v ≡ judge bs (text ++ rest))
+pub text-judged : (bs right text : List ℕ) (v w : Verdict) → listed right ≡ rightOf (growList bs) → v ≡ w → w ≡ compareTexts right text → v ≡ judge bs text
+text-judged bs right text v w e f g = f ∙ g ∙ ap (λ (t : RightText). judgedBy t text) e ∙ judged-by bs text
 
-pub text-judged : (bs right text : List ℕ) (v w : Verdict) → listed right ≡ rightOf (growList bs) → length right ≤ roomBytes → v ≡ w
-    → w ≡ compareTexts right text → Judges bs text v
-text-judged bs right text v w e short f g =
-    let told : (t : List ℕ) → compareTexts right t ≡ judge bs t = λ t. ap (λ (z : RightText). judgedBy z t) e ∙ judged-by bs t in
-    (f ∙ g ∙ told text, λ rest h. f ∙ g ∙ sym (longer-same right text rest (omega arith)) ∙ told (text ++ rest))
-
-pub stop-judged : (bs text : List ℕ) (k x : ℕ) → stops k x ≡ rightOf (growList bs) → Judges bs text (notJudged k x)
-stop-judged bs text k x e =
-    let told : (t : List ℕ) → notJudged k x ≡ judge bs t = λ t. ap (λ (z : RightText). judgedBy z t) e ∙ judged-by bs t in
-    (told text, λ rest h. told (text ++ rest))
+pub stop-judged : (bs text : List ℕ) (k x : ℕ) → stops k x ≡ rightOf (growList bs) → notJudged k x ≡ judge bs text
+stop-judged bs text k x e = ap (λ (t : RightText). judgedBy t text) e ∙ judged-by bs text
 
 pub size-held : (r s : Right) (xs : List ℕ) → r ≡ s → Counted (sizeOf r) xs → Counted (sizeOf s) xs
 size-held r s xs e h = subst (λ (o : Right). Counted (sizeOf o) xs) e h

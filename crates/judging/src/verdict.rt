@@ -6,12 +6,8 @@ use comparing::comparison::compare_texts;
 use counters::refusals::Refusal;
 use listing::listing::ROOM;
 ghost use mathlib.Core.Path.{_≡_};
-ghost use mathlib.Core.List.{List, _++_};
-ghost use Prim.Native.Nat.{ℕ, _<_};
-ghost use lib.ListN.{length};
 ghost use Rattle.model.specs.Judging.{judge as judged};
 ghost use Rattle.comparing.specs.Beginnings.{asComparison};
-ghost use Rattle.listing.specs.Listing.{roomBytes};
 ghost use Rattle.judging.specs.Right.{asVerdict};
 
 // That the sheet agrees, its first wrong line (from 1), or the record and the refusal of a list that stops.
@@ -30,10 +26,8 @@ fn verdict_of(comparison: Comparison) -> Verdict
     }
 }
 
-// Of a text that is longer than any listing the beginning is enough: the verdict stands whatever follows it.
 pub fn judge(list: &[u8], text: &[u8]) -> Verdict
-    ensures { λ r. ⌜ (asVerdict r ≡ judged (now (list .entry)) (now (text .entry)))
-        × ((rest : List ℕ) → roomBytes < length (now (text .entry)) → asVerdict r ≡ judged (now (list .entry)) (now (text .entry) ++ rest)) ⌝ }
+    ensures { λ r. ⌜ asVerdict r ≡ judged (now (list .entry)) (now (text .entry)) ⌝ }
 {
     let mut out = [0u8; ROOM];
     let right = right_text(list, &mut out);

@@ -8,8 +8,8 @@ array-share-prefix-sheet c =
     let answer = c .before .before .before .before .read-from in
     bytes-held (answer .result) (c .before .read .given .0 .0) (answer .last .1 .0) (c .before .read .given .1) (answer .ensures) .0
 
-slice-aggregate-write-comparison : tie.Need-slice-aggregate-write-comparison
-slice-aggregate-write-comparison c =
+slice-aggregate-write-verdict : tie.Need-slice-aggregate-write-verdict
+slice-aggregate-write-verdict c =
     let answer = c .before .before .before .before .before .read-from in
     bytes-held (answer .result) (c .before .before .read .given .0 .0) (answer .last .1 .0) (c .before .before .read .given .1) (answer .ensures) .1
 
@@ -22,7 +22,7 @@ judge-sheet-spec =
     (λ c κs. search needs)
     (λ c. search needs)
     array-share-prefix-sheet
-    slice-aggregate-write-comparison
+    slice-aggregate-write-verdict
     (λ c κs. search needs)
     (λ c. search needs)
     (λ c. search needs)

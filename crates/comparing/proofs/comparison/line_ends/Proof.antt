@@ -7,9 +7,6 @@ use Rattle.comparing.specs.Beginnings.{lineEnds}
 use Rattle.comparing.proofs.Loops.{ends-more, ends-all, ends-there, end-small}
 use Rattle.comparing.proofs.comparison.line_ends.Statement.{statement}
 use Rattle.comparing.proofs.comparison.line_ends.Tie as tie
-use Rattle.comparing.proofs.comparison.line_ends.Reads as reads
-use Rattle.comparing.proofs.comparison.line_ends.Lts as lts
-use Rattle.comparing.proofs.comparison.end_at.Reads as end-at-reads
 
 abbrev Inv-loop : tie.InvT-loop
 Inv-loop text n i₀ ends₀ i ends = (i ≤ n) × ((i ≤ length text) × ((ends ≤ i) × (ends ≡ lineEnds (take i text))))
@@ -17,40 +14,23 @@ Inv-loop text n i₀ ends₀ i ends = (i ≤ n) × ((i ≤ length text) × ((end
 abbrev μ-loop : tie.MeasureT-loop
 μ-loop text n i₀ ends₀ i ends = n - i
 
--- src/comparison.rt:45:5
 loop-holds : tie.Need-loop-holds Inv-loop μ-loop
 unfolding lineEnds
 loop-holds c = (omega arith, (omega arith, (omega arith, refl)))
 
--- src/comparison.rt:47:13
 returns : tie.Need-returns Inv-loop μ-loop
 returns c =
     let at-args = c .before .before .before .before in
     ends-all (at-args .args .text .now) (c .before .before .loop .i) _ _ (c .before .before .loop .inv .1 .1 .1) (c .if1 .taken) (c .before .before .loop .inv .0)
 
--- src/comparison.rt:49:24
-shared-slice-read-end-at : tie.Need-shared-slice-read-end-at Inv-loop μ-loop
-shared-slice-read-end-at c = search needs
-
--- src/comparison.rt:49:17
-end-at-requires : tie.Need-end-at-requires Inv-loop μ-loop
-end-at-requires c κs = search needs
-
--- src/comparison.rt:49:9
 add-ends : tie.Need-add-ends Inv-loop μ-loop
 add-ends c =
     let small = end-small _ _ (c .end-at .ensures) in
     omega (arith, small)
 
--- src/comparison.rt:50:9
-add-i : tie.Need-add-i Inv-loop μ-loop
-add-i c = search needs
-
--- src/comparison.rt:45:5
 loop-less : tie.Need-loop-less Inv-loop μ-loop
 loop-less c = omega arith
 
--- src/comparison.rt:45:5
 loop-again : tie.Need-loop-again Inv-loop μ-loop
 loop-again c =
     let at-loop = c .before .before .before .before in
@@ -58,10 +38,10 @@ loop-again c =
     let small = end-small _ _ (c .end-at .ensures) in
     (omega arith, (omega arith, (omega (arith, small), ends-more (at-args .args .text .now) (at-loop .loop .i) _ _ (at-loop .loop .inv .1 .1 .1) (c .end-at .ensures) (omega arith))))
 
--- src/comparison.rt:40:1
 returns-2 : tie.Need-returns-2 Inv-loop μ-loop
 returns-2 c = ends-there (c .before .before .before .args .text .now) (c .before .loop .i) _ _ (c .before .loop .inv .1 .1 .1) (omega arith) (c .before .loop .inv .0)
 
+-- the needs in the order of the code
 pub line-ends-spec : {M : Type 1} → statement M
 line-ends-spec =
     tie.close
@@ -70,10 +50,10 @@ line-ends-spec =
     μ-loop
     loop-holds
     returns
-    shared-slice-read-end-at
-    end-at-requires
+    (λ c. search needs)
+    (λ c κs. search needs)
     add-ends
-    add-i
+    (λ c. search needs)
     loop-less
     loop-again
     returns-2)

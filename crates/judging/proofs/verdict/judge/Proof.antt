@@ -1,5 +1,3 @@
-use lib.ListN.{length-take}
-use native.Mathlib.Omega.{arith}
 use Rattle.judging.proofs.Judged.{size-held, right-held, text-judged, stop-judged}
 use borrow.Author.Needs.{needs}
 use Rattle.judging.proofs.verdict.judge.Statement.{statement}
@@ -16,7 +14,7 @@ returns : tie.Need-returns
 returns c =
     let at-right = c .before .before .before .before in
     let answer = at-right .before .before .before .right-text in
-    text-judged _ _ _ _ _ (right-held (answer .result) _ (answer .last .1 .0) _ (at-right .right .given .1) (answer .ensures .1)) (omega (arith, length-take (at-right .right .given .0 .0) (answer .last .1 .0), answer .kept)) (c .verdict-of .ensures) (c .before .compare-texts .ensures)
+    text-judged _ _ _ _ _ (right-held (answer .result) _ (answer .last .1 .0) _ (at-right .right .given .1) (answer .ensures .1)) (c .verdict-of .ensures) (c .before .compare-texts .ensures)
 
 returns-2 : tie.Need-returns-2
 returns-2 c =
