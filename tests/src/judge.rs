@@ -2,7 +2,11 @@
 
 use std::fmt;
 
+use crate::gen::random::Random;
 use crate::print::Outcome;
+
+/// No sheet that is printed has so many bytes.
+const LONGER_THAN_ANY: usize = 300_000;
 
 #[derive(Clone, Copy, Debug, PartialEq, Eq)]
 pub enum Verdict {
@@ -53,9 +57,30 @@ fn compared(right: &[u8], sheet: &[u8]) -> Verdict {
     }
 }
 
-/// Sheets made from the right one: itself, with a byte changed, dropped or added, lines swapped,
-/// dropped or added, and cut ends. `draw` gives a number below its argument.
-pub fn sheets(right: &[u8], mut draw: impl FnMut(usize) -> usize) -> Vec<Vec<u8>> {
+/// The right sheet with one byte changed, dropped or added, at each place.
+pub fn one_byte_off(right: &[u8]) -> Vec<Vec<u8>> {
+    let mut sheets = Vec::new();
+    let mut with = |change: &dyn Fn(&mut Vec<u8>)| {
+        let mut sheet = right.to_vec();
+        change(&mut sheet);
+        sheets.push(sheet);
+    };
+    for at in 0..right.len() {
+        with(&|sheet| sheet[at] ^= 1);
+        with(&|sheet| {
+            sheet.remove(at);
+        });
+    }
+    for at in 0..=right.len() {
+        with(&|sheet| sheet.insert(at, b'\n'));
+        with(&|sheet| sheet.insert(at, b'0'));
+    }
+    sheets
+}
+
+/// Sheets made from the right one: itself, none, cut and longer ones, one byte off somewhere, and
+/// lines swapped, dropped or added.
+pub fn sheets(random: &mut Random, right: &[u8]) -> Vec<Vec<u8>> {
     let mut sheets = vec![right.to_vec(), Vec::new()];
     let mut with = |change: &dyn Fn(&mut Vec<u8>)| {
         let mut sheet = right.to_vec();
@@ -67,9 +92,10 @@ pub fn sheets(right: &[u8], mut draw: impl FnMut(usize) -> usize) -> Vec<Vec<u8>
     with(&|sheet| sheet.push(b'\n'));
     with(&|sheet| sheet.push(b' '));
     with(&|sheet| sheet.extend_from_slice(right));
-    with(&|sheet| sheet.resize(300_000, b'x'));
+    with(&|sheet| sheet.resize(LONGER_THAN_ANY, b'x'));
+    with(&|sheet| sheet.resize(LONGER_THAN_ANY, b'\n'));
     for byte in [b'\n', b'\r', b' ', b'0', b'9', 0, 255] {
-        let (at, to) = (draw(size), draw(size + 1));
+        let (at, to) = (random.below(size), random.below(size + 1));
         with(&|sheet| sheet[at] = byte);
         with(&|sheet| sheet.insert(to, byte));
         with(&|sheet| {
@@ -78,7 +104,7 @@ pub fn sheets(right: &[u8], mut draw: impl FnMut(usize) -> usize) -> Vec<Vec<u8>
         with(&|sheet| sheet.truncate(at));
     }
     let lines: Vec<&[u8]> = right.split_inclusive(|byte| *byte == b'\n').collect();
-    let (first, second) = (draw(lines.len()), draw(lines.len()));
+    let (first, second) = (random.below(lines.len()), random.below(lines.len()));
     let mut swapped = lines.clone();
     swapped.swap(first, second);
     sheets.push(swapped.concat());
@@ -95,7 +121,7 @@ pub fn sheets(right: &[u8], mut draw: impl FnMut(usize) -> usize) -> Vec<Vec<u8>
 mod tests {
     use super::*;
 
-    const RIGHT: &[u8] = b"2 1 1 0\n0 0 1 0 5\n";
+    const RIGHT: &[u8] = b"2 1 1 0\n0 0 1 0 5 -\n";
 
     #[test]
     fn the_first_wrong_line() {
@@ -103,15 +129,28 @@ mod tests {
         for (sheet, line) in [
             (&b""[..], 1),
             (b"2 1 1 0", 1),
-            (b"2 1 1 0\r\n0 0 1 0 5\n", 1),
-            (b"0 0 1 0 5\n2 1 1 0\n", 1),
+            (b"2 1 1 0\r\n0 0 1 0 5 -\n", 1),
+            (b"0 0 1 0 5 -\n2 1 1 0\n", 1),
             (b"2 1 1 0\n", 2),
-            (b"2 1 1 0\n0 0 1 0 5", 2),
-            (b"2 1 1 0\n\n0 0 1 0 5\n", 2),
-            (b"2 1 1 0\n0 0 1 0 5\n\n", 3),
-            (b"2 1 1 0\n0 0 1 0 5\n ", 3),
+            (b"2 1 1 0\n0 0 1 0 5\n", 2),
+            (b"2 1 1 0\n0 0 1 0 5 0\n", 2),
+            (b"2 1 1 0\n0 0 1 0 5 -", 2),
+            (b"2 1 1 0\n\n0 0 1 0 5 -\n", 2),
+            (b"2 1 1 0\n0 0 1 0 5 -\n\n", 3),
+            (b"2 1 1 0\n0 0 1 0 5 -\n ", 3),
         ] {
             assert_eq!(compared(RIGHT, sheet), Verdict::WrongLine(line));
+        }
+    }
+
+    #[test]
+    fn one_byte_off_is_wrong_where_it_is() {
+        let sheets = one_byte_off(RIGHT);
+        assert_eq!(sheets.len(), 4 * RIGHT.len() + 2);
+        for sheet in sheets {
+            let alike = RIGHT.iter().zip(&sheet).take_while(|(a, b)| a == b);
+            let ends = alike.filter(|(byte, _)| **byte == b'\n').count();
+            assert_eq!(compared(RIGHT, &sheet), Verdict::WrongLine(1 + ends));
         }
     }
 
