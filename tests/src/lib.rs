@@ -8,6 +8,7 @@
 //! - [`calls`]: the same as calls from C answer them;
 //! - [`lent`]: the same over lent tables, and what the tables hold;
 //! - [`print`]: what the printing program prints;
+//! - [`judge`]: the verdict on a contractor's sheet;
 //! - [`valve`]: which recipe is at the valve;
 //! - [`plan`]: when a change of recipe can go through;
 //! - [`gen`]: lists of every kind, drawn from a seed;
@@ -21,6 +22,7 @@ pub mod cases;
 pub mod child;
 pub mod gen;
 pub mod house;
+pub mod judge;
 pub mod lent;
 pub mod list;
 pub mod plan;

@@ -65,14 +65,20 @@ printed-short : (bs : List ℕ) → length bs ≤ 65536 → listing (growList bs
 unfolding printed
 printed-short bs h = rw (le-ltb 65536 (length bs) h)
 
-pub prints : (bs out : List ℕ) (d : ReadingIn) (q : Page) → length bs ≤ 65536 → roomBytes ≤ length out → d ≡ landListIn cleared noCounts bs
+-- the listing of any list, with no regard to its length
+pub lists : (bs out : List ℕ) (d : ReadingIn) (q : Page) → roomBytes ≤ length out → d ≡ landListIn cleared noCounts bs
     → q ≡ write (listingIn (d .counts) (sheetOver (d .tables) (d .counts .edges) maxEdges) (d .stop)) (page out 0)
-    → q .at ≤ headBytes + rowBytes * d .counts .edges + stopBytes → Counted (q .at) (q .slice) × (take (q .at) (q .slice) ≡ printed bs)
-prints bs out d q h l e f b =
+    → q .at ≤ headBytes + rowBytes * d .counts .edges + stopBytes → Counted (q .at) (q .slice) × (take (q .at) (q .slice) ≡ listing (growList bs))
+lists bs out d q l e f b =
     let g : Reachable ((growList bs) .register) = reachable-grown bs in
     let i : d ≡ shownRead (growList bs) = e ∙ list-leaves bs in
     let k : d .counts .edges ≡ (countsOf ((growList bs) .register)) .edges = ap (λ (z : ReadingIn). z .counts .edges) i in
     let few : d .counts .edges ≤ maxEdges = omega (arith, k, edges-few ((growList bs) .register) g) in
     let x : listingIn (d .counts) (sheetOver (d .tables) (d .counts .edges) maxEdges) (d .stop) ≡ listing (growList bs) =
     ap (λ (z : ReadingIn). listingIn (z .counts) (sheetOver (z .tables) (z .counts .edges) maxEdges) (z .stop)) i ∙ listing-is (growList bs) g in
-    page-holds _ (printed bs) out q f (omega (arith, few)) (x ∙ printed-short bs h)
+    page-holds _ (listing (growList bs)) out q f (omega (arith, few)) x
+
+pub prints : (bs out : List ℕ) (d : ReadingIn) (q : Page) → length bs ≤ 65536 → roomBytes ≤ length out → d ≡ landListIn cleared noCounts bs
+    → q ≡ write (listingIn (d .counts) (sheetOver (d .tables) (d .counts .edges) maxEdges) (d .stop)) (page out 0)
+    → q .at ≤ headBytes + rowBytes * d .counts .edges + stopBytes → Counted (q .at) (q .slice) × (take (q .at) (q .slice) ≡ printed bs)
+prints bs out d q h l e f b = let w = lists bs out d q l e f b in (w .0, w .1 ∙ printed-short bs h)

@@ -102,7 +102,7 @@ fn put_stop(out: &mut [u8], at: usize, stop: Stop) -> usize
 }
 
 // The four numbers, the sheet, and the stop. The number of chains comes first, so they are counted, over marks of their own.
-fn put_listing(
+pub fn put_listing(
     out: &mut [u8],
     degrees: &[u16],
     sides: &[u16],

@@ -31,14 +31,14 @@ fn step_after(done: usize, got: isize) -> ReadStep
     ReadStep::Stop(ReadAnswer::Bytes(done))
 }
 
-// Reads until the slice is full, the input ends or a read fails. Which bytes a read gives, and what it answers, no contract can say: so
-// what an answer means is all in `step_after`, and here it is only handed on.
-pub fn read_list(list: &mut [u8]) -> ReadAnswer
+// Reads from a descriptor until the slice is full, the input ends or a read fails. Which bytes a read gives, and what it answers, no contract
+// can say: so what an answer means is all in `step_after`, and here it is only handed on.
+pub fn read_from(source: i32, list: &mut [u8]) -> ReadAnswer
     ensures { λ r. ⌜ Held r (now (list .exit)) ⌝ }
 {
     let mut done = 0;
     while done < list.len() {
-        let got = libc::read(libc::STDIN_FILENO, &mut list[done..]);
+        let got = libc::read(source, &mut list[done..]);
         let step = step_after(done, got);
         match step {
             ReadStep::More(count) => done += count,
@@ -46,4 +46,11 @@ pub fn read_list(list: &mut [u8]) -> ReadAnswer
         }
     }
     ReadAnswer::Bytes(done)
+}
+
+// The same from standard input.
+pub fn read_list(list: &mut [u8]) -> ReadAnswer
+    ensures { λ r. ⌜ Held r (now (list .exit)) ⌝ }
+{
+    read_from(libc::STDIN_FILENO, list)
 }

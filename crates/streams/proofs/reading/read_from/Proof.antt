@@ -4,16 +4,16 @@ use mathlib.Core.Path.{_≡_, sym, _∙_}
 use lib.ListN.{length}
 use native.Mathlib.Omega.{arith}
 use borrow.Author.Needs.{needs, sfits-of}
-use Rattle.streams.proofs.reading.read_list.Statement.{statement}
-use Rattle.streams.proofs.reading.read_list.Tie as tie
+use Rattle.streams.proofs.reading.read_from.Statement.{statement}
+use Rattle.streams.proofs.reading.read_from.Tie as tie
 
 -- what was read stands in the slice, whose length no read changes
 abbrev Inv-loop : tie.InvT-loop
-Inv-loop list₀ done₀ list done = (done ≤ length list) × (length list ≡ length list₀)
+Inv-loop source list₀ done₀ list done = (done ≤ length list) × (length list ≡ length list₀)
 
 -- the room that is left
 abbrev μ-loop : tie.MeasureT-loop
-μ-loop list₀ done₀ list done = length list - done
+μ-loop source list₀ done₀ list done = length list - done
 
 add-done : tie.Need-add-done Inv-loop μ-loop
 add-done c =
@@ -46,8 +46,8 @@ returns-2 : tie.Need-returns-2 Inv-loop μ-loop
 returns-2 c = counted _ _ (omega arith)
 
 -- the needs in the order of the code
-pub read-list-spec : {M : Type 1} → statement M
-read-list-spec =
+pub read-from-spec : {M : Type 1} → statement M
+read-from-spec =
     tie.close
     (tie.spec
     Inv-loop

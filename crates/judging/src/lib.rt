@@ -1,0 +1,3 @@
+// The verdict on a contractor's sheet (document 02, S-9).
+pub mod right;
+pub mod verdict;
