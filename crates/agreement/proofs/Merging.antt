@@ -33,6 +33,7 @@ use Rattle.model.proofs.Walks.Joins.{Across, across}
 
 -- ---- the ring
 
+-- a ring is closed just if the walk from a inwards ends at b
 pub ring-is : (es : List Edge) (a b : ℕ) → degree es a ≡ 1 → degree es b ≡ 1 → (i : Inward es a (onlyEdge es a) (inwards es a)) → closesRing es a b ≡ eqb (i .to) b
 unfolding closesRing isLeaf endOnwards inwards
 ring-is es a b la lb i =
@@ -107,6 +108,7 @@ module _ {es : List Edge} {n : Edge} {degrees sides ends labels : List ℕ} {m :
   side-b : (db ≡ getD sides (2 * b) 0) × (far es db b ≡ farIn ends db b)
   side-b = (sym (((sh .links b (sh .below b db at-b)) .leaf lb) .0), sym (sh .fars-are db b (at-b .inside)))
 
+  -- where a ring is closed, the merging over the tables is a closing
   pub merges-ring : closesRing es a b ≡ true → closeIn sides labels blocks a b (length es) da (far es da a) db (far es db b) ≡ merging
   merges-ring c =
       let to : ia .to ≡ b = eqb-true (ia .to) b (sym (ring-is es a b la lb ia) ∙ c) in
@@ -138,6 +140,7 @@ module _ {es : List Edge} {n : Edge} {degrees sides ends labels : List ℕ} {m :
       no-closing Neither = refl
       no-closing (Chain x y) = refl
 
+  -- .. and it says so
   pub merging-closes : closesRing es a b ≡ true → merging .ring ≡ true
   unfolding closeIn
   merging-closes c = rw (← merges-ring c) (either-way (eqb (far es da a) b) _ _ refl refl)
@@ -160,6 +163,7 @@ module _ {es : List Edge} {n : Edge} {degrees sides ends labels : List ℕ} {m :
   unfolding merge
   merge-second l = rw (lt-leb (length (inwards es b)) (length (inwards es a)) l)
 
+  -- where none is, what is left is what `merge` says
   pub merges : closesRing es a b ≡ false → blocks < most16 → getD labels a 0 ≡ 0 → getD labels b 0 ≡ 0 → ChangedAs new labels merging (merge es blocks a b m)
   merges c bb za zb =
       go (decLt (length (inwards es a)) (length (inwards es b))) (decLt (length (inwards es b)) (length (inwards es a))) (ℕ-discrete (length (inwards es a)) 0)
