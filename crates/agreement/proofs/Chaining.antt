@@ -35,7 +35,7 @@ use Rattle.agreement.proofs.Registers.{lawful, proper, room}
 
 -- ---- what the tables say of an edge
 
--- its length and its volume
+-- the length and the volume of an edge stand in the tables
 pub length-is : (r : Register) (d : ℕ) → d < length (r .edges) → getD ((tablesOf r) .lengths) d 0 ≡ lengthAt (r .edges) d
 unfolding lengthAt
 length-is r d h = length-read r d h
@@ -116,7 +116,7 @@ module _ (r : Register) (g : Reachable r) (home d v : ℕ) (a : At (r .edges) v 
 
 -- what a walk passes before it is home, by its first step
 module _ (home n : ℕ) (es : List Edge) (d v : ℕ) where
-  -- nothing at a singular vertex, nothing at home, and else the vertex and what follows
+  -- what a walk passes before it is home: nothing at a singular vertex or at home, else the vertex and what follows
   pub before-none : isRegular es v ≡ false → until home (walk (suc n) es d v) ≡ []
   unfolding until
   before-none q = rw (walk-stop (suc n) es d v q)
@@ -134,7 +134,7 @@ pub data First (r : Register) (home v : ℕ) : Type 0 where
   at-home : isRegular (r .edges) v ≡ true → v ≡ home → First r home v
   onward : isRegular (r .edges) v ≡ true → v ≢ home → First r home v
 
--- every first step is one of them
+-- at every vertex it is one of the three
 pub first-step : (r : Register) (home v : ℕ) → First r home v
 first-step r home v = go (true-or-false (isRegular (r .edges) v)) (ℕ-discrete v home)
   where
@@ -240,7 +240,7 @@ abbrev pub volumeOver : Tables → ℕ → ℕ → ℕ → ℕ → ℕ → ℕ
 volumeOver t = walkVolumeIn (t .degrees) (t .sides) (t .ends) (t .volumes)
 
 module _ (r : Register) (g : Reachable r) (home : ℕ) where
-  -- it is that of the edges passed, where their sum fits
+  -- the volume along a walk over the tables is that of the edges passed, where their sum fits
   pub walk-volumes : (n known d v : ℕ) → At (r .edges) v d → known + sum (passed (r .edges) (until home (walk n (r .edges) d v))) ≤ most32
       → volumeOver (tablesOf r) home n known d v ≡ volumeOnto known (passed (r .edges) (until home (walk n (r .edges) d v)))
   unfolding walk until volumeOnto sum afterOf

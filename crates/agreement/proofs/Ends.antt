@@ -41,7 +41,7 @@ pub record Ends (r : Register) (d : ℕ) : Type 0 where
   pub ring : edgeOnRing (r .edges) d ≡ true → Around r d
   pub chain : edgeOnRing (r .edges) d ≡ false → Both r d
 
--- so they do for every landed edge
+-- the walks of every landed edge come out so, on a ring and on a chain
 pub chain-ends : (r : Register) → Reachable r → (d : ℕ) → d < length (r .edges) → Ends r d
 unfolding onwards onceRound endOnwards
 chain-ends r g d h = record { ring = around; chain = both }

@@ -102,7 +102,7 @@ module _ (es : List Edge) (n : Edge) (pr : Proper es) (v : ℕ) (z : endsAt v n 
   unfolding onlyEdge incident
   onlyEdge-old = rw (incidentFrom-old 0 es n v pr z)
 
-  -- such a vertex is linked with the edge if it was without
+  -- a vertex that is neither end is linked with the edge if it was without
   pub linked-old : (sides lows : List ℕ) → Linked es sides lows v → Linked (es ++ (n ∷ [])) sides lows v
   linked-old sides lows k =
       record {

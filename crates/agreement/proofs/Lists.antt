@@ -17,7 +17,7 @@ use Rattle.model.proofs.Registers.ReadBack.{length-ends, length-lengths, length
 
 -- ---- a map of 0, 1, ..
 
--- it has n elements, and g i at place i
+-- a map of the numbers below n has n elements, and g i at place i
 pub length-mapped : (g : ℕ → ℕ) (n : ℕ) → length (map g (upTo n)) ≡ n
 length-mapped g n = length-map (upTo n) g ∙ length-upTo n
 

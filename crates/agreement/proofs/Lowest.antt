@@ -117,7 +117,7 @@ lowest-agrees r g home (suc n) x d v a = go (first-step r home v) (λ c at. lowe
 abbrev pub nameOver : Tables → ℕ → ℕ → ℕ
 nameOver t = nameIn (t .degrees) (t .sides) (t .ends)
 
--- it is the name of the edge's chain or ring
+-- the name of an edge by the tables is that of its chain or ring
 pub name-agrees : (r : Register) → Reachable r → (d : ℕ) → d < length (r .edges) → nameOver (tablesOf r) (length (r .edges)) d ≡ nameOf (r .edges) d
 unfolding nameIn
 name-agrees r g d h = go (chain-ends r g d h)

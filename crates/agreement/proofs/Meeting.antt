@@ -20,7 +20,7 @@ use Rattle.agreement.proofs.Ringing.{lower-at}
 
 -- ---- the test
 
--- it holds of those on the path, and of no other
+-- the test holds of those on the path, and of no other
 pub passed : (v : ℕ) (ss : List Pass) → passes v ss ≡ true → InPath ss v
 unfolding passes
 passed v [] e = absurd (not-both _ e refl)

@@ -140,7 +140,7 @@ module _ {es : List Edge} {n : Edge} {degrees sides ends labels : List ℕ} {m :
       no-closing Neither = refl
       no-closing (Chain x y) = refl
 
-  -- .. and it says so
+  -- where a ring is closed, the merging over the tables says so
   pub merging-closes : closesRing es a b ≡ true → merging .ring ≡ true
   unfolding closeIn
   merging-closes c = rw (← merges-ring c) (either-way (eqb (far es da a) b) _ _ refl refl)

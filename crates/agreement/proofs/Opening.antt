@@ -135,7 +135,7 @@ module _ (es : List Edge) (n : Edge) (pr : Proper es) (df : n .first ≢ n .seco
   still z o one (inr e) =
       rw e ((left-y (λ q. omega (arith, rw e at one, q))) .0 ∙ ((k .kept .links y ly (λ s. omega (arith, (only y s) .1, rw e at one))) .leaf (rw e at one)) .0)
 
-  -- so they are, whichever end is opened first
+  -- opening both ends leaves the tables so, whichever comes first
   pub opened-both : OpenedBoth es n (meetIn degrees (meetIn degrees sides x (length es)) y (length es)) labels m
   opened-both = record {
     kept = record {

@@ -15,14 +15,14 @@ abbrev pub AllBetween : List Edge → List Pass → Type 0
 AllBetween es [] = Unit {0}
 AllBetween es (s ∷ ss) = Between es (s .at) (s .before) (s .after) × AllBetween es ss
 
--- so it is on a trail
+-- every vertex of a trail lies between the two edges of its pass
 pub trail-between : {es : List Edge} {d v c w : ℕ} {ss : List Pass} → Proper es → At es v d → Trail es d v ss c w → AllBetween es ss
 trail-between pr a done = tt
 trail-between {es} {d} {v} pr a (pass t r e u) =
     let x : Next es d v t = next-edge es d v t pr a r e in
     (record { regular = r; before-at = a; after-at = x .at; forth = e; back = x .again }, trail-between pr (x .across .at) u)
 
--- .. and so at each of its places
+-- the i-th vertex of such a path does
 pub between-ith : {es : List Edge} (ss : List Pass) → AllBetween es ss → (i : ℕ) (s : Pass) → Ith s i ss → Between es (s .at) (s .before) (s .after)
 between-ith [] b i s j = absurd (no-ith j)
 between-ith (t ∷ ss) b zero s here = b .0

@@ -214,13 +214,13 @@ module _ (r : Register) (e : Edge) (rings : Bool) (g : Reachable r) (warns : War
         none v t (inl q) = na (rw q at t)
         none v t (inr q) = nb (rw q at t)
 
-    -- a new chain
+    -- a new chain stands
     pub new-stands : degree es a ≢ 1 → degree es b ≢ 1
         → Stands new (r .labels) (openIn Neither Nothing degrees sides ends (r .labels) (r .blocks) a b (length es) rings) (labelling (r .blocks) m) false
     unfolding openedIn
     new-stands la lb = opens Nobody uncut (labelling (r .blocks) m) no-cut la lb
 
-    -- an extension
+    -- an extension stands
     pub extend-stands : (z w : ℕ) → endsAt z e ≡ 1 → endsAt w e ≡ 1 → z ≢ w → degree es z ≡ 1 → degree es w ≢ 1
         → Stands new (r .labels) (openIn Neither (Leaf (vertexOf z)) degrees sides ends (r .labels) (r .blocks) a b (length es) rings) (extend es new (r .blocks) z m) false
     unfolding openedIn
@@ -262,13 +262,13 @@ module _ (r : Register) (e : Edge) (rings : Bool) (g : Reachable r) (warns : War
         is-v u t (inl i) = i
         is-v u t (inr i) = absurd (nw (rw i at t))
 
-    -- .. w is no leaf: a split
+    -- a split stands, where w is no leaf
     pub split-stands : degree es a ≢ 1 → degree es b ≢ 1
         → Stands new (r .labels) (openIn (One (vertexOf v) (vertexOf w)) Nothing degrees sides ends (r .labels) (r .blocks) a b (length es) rings) left false
     unfolding openedIn
     split-stands la lb = opens (Also v Nobody) c left one-cut la lb
 
-    -- .. w is a leaf: a split and an extension
+    -- a split with an extension stands, where w is a leaf
     pub split-extend-stands : degree es w ≡ 1
         → Stands new (r .labels) (openIn (One (vertexOf v) (vertexOf w)) (Leaf (vertexOf w)) degrees sides ends (r .labels) (r .blocks) a b (length es) rings) (extend es new (left .blocks) w (left .marks)) false
     unfolding openedIn
@@ -316,7 +316,7 @@ module _ (r : Register) (e : Edge) (rings : Bool) (g : Reachable r) (warns : War
         among v (inl i) = inr (inl i)
         among v (inr i) = inl i
 
-    -- two splits
+    -- two splits stand
     pub both-stands : Stands new (r .labels) (openIn Both Nothing degrees sides ends (r .labels) (r .blocks) a b (length es) rings) left-both false
     unfolding openedIn
     both-stands = opens (Also b (Also a Nobody)) d left-both both-cut (λ q. omega arith) (λ q. omega arith)
@@ -345,14 +345,14 @@ module _ (r : Register) (e : Edge) (rings : Bool) (g : Reachable r) (warns : War
     unfolding mergedIn
     merged-as l t k i = record { long = raised-long; degrees-are = raised-are; holds = k .holds; counts = k .counts; ring-is = i }
 
-    -- of two chains: a merge
+    -- a merge of two chains stands
     pub merge-stands : closesRing es a b ≡ false → Stands new (r .labels) (mergedIn degrees sides ends (r .labels) (r .blocks) a b (length es)) (merge es (r .blocks) a b m) false
     merge-stands t =
         merged-as (merge es (r .blocks) a b m) false
         (merges ground a b leaf-a leaf-b oa ob df (r .blocks) t (omega (arith, few-blocks)) (bare a leaf-a) (bare b leaf-b))
         (merging-open ground a b leaf-a leaf-b oa ob df (r .blocks) t)
 
-    -- of one chain: a closing
+    -- a closing stands, where it is one chain
     pub close-stands : closesRing es a b ≡ true → Stands new (r .labels) (mergedIn degrees sides ends (r .labels) (r .blocks) a b (length es)) (close es (r .blocks) a b m) true
     close-stands t =
         merged-as (close es (r .blocks) a b m) true

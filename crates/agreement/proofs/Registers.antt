@@ -76,6 +76,6 @@ module _ (r : Register) (g : Reachable r) where
   pub stored-held : held (storedOf r) ≡ some r
   stored-held = kept-held r (reachable.kept r g)
 
-  -- it grows again from its own vertices and edges
+  -- every register that landing leaves grows again from its own vertices and edges
   pub regrows : GrowsAgain r
   regrows = (reachable.kept r g) .regrows

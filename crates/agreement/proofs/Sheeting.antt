@@ -226,7 +226,7 @@ module _ (r : Register) (g : Reachable r) where
 abbrev pub sheetOver : Tables → ℕ → ℕ → List (List ℕ)
 sheetOver t n m = sheetIn (t .degrees) (t .sides) (t .ends) (t .lengths) (t .volumes) n (replicate m 0)
 
--- it is the sheet of the definitions
+-- the sheet over the tables is that of the definitions
 pub sheet-agrees : (r : Register) → Reachable r → (m : ℕ) → maxEdges ≤ m → sheetOver (tablesOf r) ((countsOf r) .edges) m ≡ sheet r
 unfolding sheetIn namesIn sheet upTo countsOf
 sheet-agrees r g m h = swept r g (length (r .edges)) (replicate m 0) 0 (omega arith) (unmarked r g m h)

@@ -73,7 +73,7 @@ pub record SplitAs (es : List Edge) (S : ℕ → Type 0) (sides labels : List �
 abbrev pub Also : ℕ → (ℕ → Type 0) → ℕ → Type 0
 Also x S v = (v ≡ x) ⊎ S v
 
--- one vertex more is bared
+-- one vertex more is bared, in the tables and in the marks
 pub bared-as : (es : List Edge) (S : ℕ → Type 0) (sides labels : List ℕ) (m : Marks) (x : ℕ) → x < maxVertices → SplitAs es S sides labels m
     → SplitAs es (Also x S) (bareIn sides labels x .sides) (bareIn sides labels x .labels) (split x m)
 unfolding bareIn split mark
@@ -99,7 +99,7 @@ bared-as es S sides labels m x l k =
         go (yes e) = rw e at-x
         go (no n) = let p = pair-other sides x v 0 0 n in let q = k .off v b s in (p .0 ∙ q .0, p .1 ∙ q .1)
 
--- a path is labelled, off the bare vertices
+-- a path off the bare vertices is labelled, in the tables and in the marks
 pub laid-as : (es : List Edge) → ((v d : ℕ) → At es v d → v < maxVertices) → (S : ℕ → Type 0) (sides labels : List ℕ) (m : Marks) (label : ℕ) (path : List Pass)
     → AllBetween es path → ((v : ℕ) → S v → Off path v) → SplitAs es S sides labels m
     → SplitAs es S (layIn true label path sides labels .sides) (layIn true label path sides labels .labels) (labelPath true label path m)

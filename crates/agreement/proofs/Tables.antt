@@ -47,7 +47,7 @@ sides-read : (r : Register) (v : ℕ) → v < maxVertices → PairAt ((tablesOf 
 unfolding tablesOf
 sides-read r v h = sidesOf-read r maxVertices v h
 
--- it has two places for each vertex
+-- the table of sides has two places for each vertex
 pub sides-long : (r : Register) → length ((tablesOf r) .sides) ≡ 2 * maxVertices
 unfolding tablesOf
 sides-long r = omega (arith, length-sides r (upTo maxVertices), length-upTo maxVertices)
@@ -80,7 +80,7 @@ linked-sides r sides l k =
 
 -- ---- degrees
 
--- the table has the degree of each vertex, and no other table of that size has
+-- the table of degrees has the degree of each vertex, and no other of that size has
 pub degrees-read : (r : Register) (v : ℕ) → v < maxVertices → getD ((tablesOf r) .degrees) v 0 ≡ degree (r .edges) v
 unfolding tablesOf
 degrees-read r v h = getD-upTo (λ w. degree (r .edges) w) maxVertices v h

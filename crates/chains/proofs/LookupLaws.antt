@@ -40,7 +40,7 @@ module _ (ds ss es : List ℕ) (n e a b v x : ℕ) (f : a ≡ getD es (2 * e) 0)
   unfolding nameIn
   name-round i = rw (← f, ← s, ← h, eq-eqb _ _ i)
 
-  -- on a chain the second walk does, from where the first one ended
+  -- on a chain the second walk finds it, from where the first one ended
   pub name-both : (getD ds v 0 ≡ 2 → ⊥) → (u y : ℕ) → lowEnd u y ≡ lowestIn ds ss es v n x e a → y ≡ nameIn ds ss es n e
   unfolding nameIn
   name-both i u y j = rw (← f, ← s, ← h, ne-eqb _ _ i, ← j)

@@ -12,7 +12,7 @@ use Rattle.model.specs.Basics.{if_then_else_}
 use Rattle.tables.specs.Steps.{farIn, turnIn, sum32}
 use Rattle.chains.specs.Chains.{goesOnIn, plusVolume32, walkVolumeIn}
 
--- unknown if one of them is, else their sum
+-- two volumes together: unknown if one of them is, else their sum
 pub unknown-first : (v w : ℕ) → v ≡ 0 → v ≡ plusVolume32 v w
 unfolding plusVolume32
 unknown-first v w z = rw z

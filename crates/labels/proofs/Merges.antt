@@ -42,7 +42,7 @@ begin-law s l s₁ l₁ s₂ l₂ a before b after between k low up m₁ m₂ f 
 
 -- which chain keeps its labels, the walks having met at m
 module _ (degrees : List ℕ) (a b : ℕ) (m : Met) where
-  -- the second's is longer; the first's is; neither has a vertex; they are as long
+  -- the second, if its chain is longer; the first, if its is, or on a tie; neither, where there are no regular vertices
   pub second-keeps : getD degrees (m .second) 0 ≡ 2 → Chain (vertexOf b) (vertexOf a) ≡ keeperFor degrees a b m
   unfolding keeperFor
   second-keeps h = rw (eq-eqb _ _ h)
@@ -85,7 +85,7 @@ module _ (degrees s ends l s′ l′ : List ℕ) (blocks a b e n da db blocks′
 
 -- a ring is closed
 module _ (s l s′ l′ : List ℕ) (blocks a b e da ua db ub blocks′ m′ : ℕ) (ring : Bool) where
-  -- its two vertices begin a block, or each end goes on from its neighbour
+  -- both ends begin a block, or each goes on from its neighbour
   pub closes-begun : (k : ℕ) → ua ≡ b → k ≡ more16 blocks → marksIn s′ l′ 0 ≡ beginIn s l a e b e da k
       → (blocks′ ≡ k) × (m′ ≡ 0) × (ring ≡ true) → changed s′ l′ blocks′ m′ ring ≡ closeIn s l blocks a b e da ua db ub
   unfolding closeIn

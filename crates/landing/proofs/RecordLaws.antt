@@ -18,7 +18,7 @@ use Rattle.landing.specs.Records.{StepIn, ended, wentOn, stoppedIn, Step
 -- ---- one record
 
 module _ (t : Tables) (c : Counts) (rings : Bool) (d : RecordAt) where
-  -- no record; a vertex; an edge; a record that cannot be read
+  -- one record: none is left, a vertex, an edge, one that cannot be read
   pub record-ends : ends ≡ d → steppedIn t ended ≡ landRecordIn t c rings d
   unfolding landRecordIn
   record-ends e = rw (← e)

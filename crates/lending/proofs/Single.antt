@@ -87,7 +87,7 @@ module _ (R : RattleType) where
     value = λ x. sliceVal (ptr x) (length (now x));
   }
 
-  -- .. and of a shared slice
+  -- what a walk has to know of a shared slice
   pub shared-told : Told shared
   shared-told = record {
     tells = λ k κs. shr-slice-tells (named k) (κs .0) R;

@@ -74,7 +74,7 @@ module _ (volume flow minute : ℕ) (ws : List Window) where
     unfolding plan
     plan-unknown o h = rw (e, o, eq-eqb _ _ h)
 
-    -- else the earliest minute, or none
+    -- any other: the earliest minute, or none
     pub plan-found : (n : ℕ) (r : Reply) → ordered 0 ws ≡ true → (volume ≡ 0 → ⊥) → n ≡ transit volume flow → r ≡ replyOf (earliest ws n minute)
         → r ≡ plan volume flow minute ws
     unfolding plan

@@ -34,7 +34,7 @@ pub measure-agrees : (r : Register) (v w : ℕ) → measureIn (tablesOf r) (coun
 unfolding measureIn measure countsOf
 measure-agrees r v w = rw (edges-read r)
 
--- so a measurement is answered
+-- a measurement over the tables of a register is answered
 pub measure-answers : (t : Tables) (c : Counts) (v w : ℕ) (a : Reply) → a ≡ measureIn t c v w → Answers (measures v w) t c [] a
 unfolding effect answer answers
 measure-answers t c v w a q r k =

@@ -36,7 +36,7 @@ filled-but distances distances′ goal i l q b f =
     })
 
 module _ (ends lengths : List ℕ) (m goal : ℕ) where
-  -- such distances are grounded
+  -- the distances at the start are grounded
   pub started : {n : ℕ} (distances : List ℕ) → Searchable ends lengths m → maxVertices ≤ n → length distances ≡ n → Started distances goal
       → Grounded ends lengths m goal distances
   started distances h b k s = record {

@@ -41,7 +41,7 @@ store-le l i v k h g = go (ℕ-discrete k i)
     go (yes e) = rw e (rw (getD-set-same l i v 0 h) g)
     go (no e) = omega (arith, getD-set-other l i k v 0 e)
 
--- distances keep what they are grounded on, and so one change after the other
+-- distances that are not changed keep what they are grounded on; so do two changes, one after the other
 pub keeps-same : {ends lengths : List ℕ} {m : ℕ} {distances : List ℕ} → Bounded ends lengths m distances → Keeps ends lengths m distances distances
 keeps-same b = record { bounded = b; grounded = λ goal g. g }
 

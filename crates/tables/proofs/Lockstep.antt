@@ -24,7 +24,7 @@ unfolding stepsAhead
 ahead-twice j k m = rw add-assoc
 
 module _ (degrees sides ends : List ℕ) where
-  -- no step is left, the first walk is at its end, the second is
+  -- the walks stop where no step is left, where the first is at its end, and where the second is
   pub lockstep-none : (n d v c w : ℕ) → n ≤ 0 → lockstepIn degrees sides ends n d v c w ≡ met v w 0
   unfolding lockstepIn
   lockstep-none zero d v c w l = refl

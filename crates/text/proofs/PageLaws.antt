@@ -39,7 +39,7 @@ pub record Written (bs xs : List ℕ) (at : ℕ) (q : Page) : Type 0 where
   pub front : take (q .at) (q .slice) ≡ take at bs ++ xs
   pub long : length (q .slice) ≡ length bs
 
--- so it is with every text that fits
+-- every text that fits is written whole
 pub write-fits : (xs bs : List ℕ) (at : ℕ) → at + length xs ≤ length bs → Written bs xs at (write xs (page bs at))
 unfolding write put
 write-fits [] bs at l = record { next = omega arith; front = sym (append-nil (take at bs)); long = refl }
@@ -53,7 +53,7 @@ write-fits (x ∷ xs) bs at l =
       long = w .long ∙ length-set bs at x;
     })
 
--- by one byte at most for each
+-- a byte moves the position by one at most
 put-at : (x : ℕ) (p : Page) → (put x p) .at ≤ p .at + 1
 unfolding put
 put-at x p = go (ltb (p .at) (length (p .slice)))

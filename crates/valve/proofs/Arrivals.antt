@@ -188,7 +188,7 @@ unfolding makes
 keeps-call (arrival r) w rs k = keeps-arrival w rs k r
 keeps-call (question v) w rs k = keeps-question w rs k v
 
--- every series of calls keeps it
+-- after every series of calls a window keeps the last that arrived
 pub keeps-series : (cs : List Call) (w : Window) (rs : List Record) → Keeps w rs → Keeps (series cs w) (arrivals cs rs)
 unfolding series arrivals
 keeps-series [] w rs k = k

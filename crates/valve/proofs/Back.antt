@@ -21,7 +21,7 @@ module _ (v : ℕ) (r : Record) (rs : List Record) where
 
 -- ---- older exactly if the records hold at most v ml
 
--- if they do, the answer is "older", and only then
+-- the answer is "older" exactly if the records hold at most v ml
 pub older-only : (v : ℕ) (rs : List Record) → total rs ≤ v → atValve v rs ≡ older
 unfolding total atValve
 older-only v [] h = refl

@@ -58,7 +58,7 @@ unfoldable pub backBy : ℕ → ℕ → ℕ
 backBy zero i = i
 backBy (suc n) i = backBy n (before i)
 
--- as far as there are slots before it, by two ways one after the other, and by one slot first
+-- n slots back: where there are so many before it, n and m one after the other, one and then n
 pub back-some : (n i : ℕ) → n ≤ i → backBy n i ≡ i - n
 unfolding backBy
 back-some zero i h = omega arith

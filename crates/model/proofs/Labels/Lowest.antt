@@ -179,7 +179,7 @@ module _ (r : Register) (pr : Proper (r .edges)) where
         go (inl q) = lowest (λ w n. omega (arith, all w n, ap (labelOf r) q, first-label)) (inr (t, highest vs refl q))
         go (inr n) = on (behind (suc (up .lowest)) (up .last) (is .path) other-labels other-lows v n)
 
-    -- so it is with every regular vertex of a chain or ring
+    -- a regular vertex of a chain or ring wears its lowest label, or its neighbour over the low edge the label before
     pub low-neighbour : (v : ℕ) → isRegular es v ≡ true → Mem v ((chainOf es d) .inner) → LowNeighbour d v
     unfolding reversed
     low-neighbour v reg m = go (true-or-false (edgeOnRing es d))

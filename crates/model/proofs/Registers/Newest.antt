@@ -29,7 +29,7 @@ use Rattle.model.proofs.Registers.Answers.{find-none, find-own}
 
 -- ---- a label among some
 
--- the test tells whether it is among them
+-- the test tells whether a label is among some
 pub has-mem : (label : ℕ) (xs : List ℕ) → has label xs ≡ true → Mem label xs
 unfolding has
 has-mem label [] e = absurd (not-both false e refl)
@@ -215,7 +215,7 @@ module _ (r : Register) (pr : Proper (r .edges)) where
   unfolding chainAt
   own-is d v h n m = only-chain (r .edges) pr v (inner-regular d v h m) d (record { inside = h; names = n; has = m })
 
-  -- none of them wears a lower label than the lowest
+  -- no vertex of the chain wears a lower label than its lowest
   pub lowest-most : (d v : ℕ) → Mem v ((chainOf (r .edges) d) .inner) → lowestLabel r d ≤ labelOf r v
   unfolding lowestLabel innerLabels lowestOf
   lowest-most d v m = go (map (labelOf r) ((chainOf (r .edges) d) .inner)) (Memᴰ·map (labelOf r) m)
@@ -249,7 +249,7 @@ module _ (r : Register) (f : Founded r) (l : LabelFacts r) where
   pr : Proper (r .edges)
   pr = f .proper
 
-  -- those of a register, newest first
+  -- the chains and rings of a register that have labels, newest first
   abbrev pub newest : List ℕ
   newest = newestFirst r (upTo (length (r .edges)))
 

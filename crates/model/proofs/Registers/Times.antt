@@ -88,13 +88,13 @@ module _ (r : Register) (k : Reachable r) (v : ℕ) where
   abbrev es : List Edge
   es = r .edges
 
-  -- on a ring: fewer than the logarithm of its number of edges
+  -- a vertex on a ring: fewer times than the logarithm of the ring's number of edges
   pub times-on-ring : (d : ℕ) → At es v d → edgeOnRing es d ≡ true → timesRelabelled v (history k) < floorLog (length (onceRound es d v) + 1)
   times-on-ring d a t =
       let u = ring-tour es ((founded r k) .proper) d v t a in
       floorLog-most (length (onceRound es d v) + 1) _ ((room-times r k v) .on-ring d (u .0) (onceRound es d v) (u .1))
 
-  -- on a chain with a leaf: fewer than that of the edges up to the leaf times all edges
+  -- a vertex on a chain with a leaf: fewer than that of the edges up to the leaf times all edges
   pub times-near-leaf : (d : ℕ) → isRegular es v ≡ true → At es v d → isLeaf es (endOnwards es d (far es d v)) ≡ true
       → timesRelabelled v (history k) < floorLog (leafRoom (length (onwards es d (far es d v))) (length es))
   times-near-leaf d c a h =
@@ -102,7 +102,7 @@ module _ (r : Register) (k : Reachable r) (v : ℕ) where
       subst (λ (ss : List Pass). timesRelabelled v (history k) < floorLog (leafRoom (length ss) (length es))) is
       (floorLog-most (leafRoom (length (l .passes)) (length es)) _ ((room-times r k v) .to-leaf d (is-two es v c) a l))
 
-  -- on a chain between two leaves: fewer than that of its number of edges
+  -- a vertex on a chain between two leaves: fewer than that of the chain's number of edges
   pub times-between-leaves : (c d : ℕ) → incident es v ≡ c ∷ d ∷ [] → isLeaf es (endOnwards es c (far es c v)) ≡ true → isLeaf es (endOnwards es d (far es d v)) ≡ true
       → timesRelabelled v (history k) < floorLog (length (onwards es c (far es c v)) + length (onwards es d (far es d v)) + 2)
   unfolding incident

@@ -139,7 +139,7 @@ pub list-long : (n : ℕ) (es : List Edge) → length (listOf n es) ≡ 5 + n + 
 unfolding listOf
 list-long n es = omega (arith, header-long (replicate n 0x46 ++ edgeRecords es), behind n es)
 
--- so has the list that is written of a register
+-- the list that is written of a register has as many
 pub written-length : (r : Register) → length (written r) ≡ 5 + r .vertices + 13 * length (r .edges)
 unfolding written
 written-length r = list-long (r .vertices) (r .edges)

@@ -138,7 +138,7 @@ module _ (es : List Edge) (p : Edge) (pr : Proper es) (ne : p .first ≢ p .seco
       let o : Round es e v = returns-round es pr e v a b in
       (o .last, _, record { two = c; d-at = a; trail = o .trail; off = o .off })
 
-  -- it was a round, or a chain between two leaves
+  -- the round was one before the edge too, or a chain between two leaves
   pub was : Was
   was = go (ends-or-returns es pr d (far es d v) (xd .at)) (ends-or-returns es pr q (far es q v) (xq .at))
     where
