@@ -382,6 +382,14 @@ fn merging_keeps_the_tags_of_more_couplings() {
     assert_eq!(house.tags(), tags);
     assert_eq!(house.re_hung(), 1);
     assert_eq!(queries::find_at(&house, 5), Ok(found(0, 5, 1, 5)));
+    // Three against two: the two follow in path order.
+    let longer = [(0, 1), (1, 2), (2, 3), (3, 4)];
+    let house = joined(
+        9,
+        &[&longer[..], &[(5, 6), (6, 7), (7, 8), (4, 5)]].concat(),
+    );
+    let tags = [0, 8192, 8193, 8194, 8195, 8196, 8197, 8198, 0];
+    assert_eq!((house.tags(), house.re_hung()), (&tags[..], 2));
 }
 
 #[test]

@@ -24,9 +24,11 @@ module _ (t : Tables) (c : Counts) (s : Tables) where
   unfolding barred scratchAfter allFit
   sizes-refused h = (rw (h, barred), rw h)
 
+  -- tables of wrong sizes: 25, and scratch is left
   pub gate-tables : fits t ≡ false → (some 25 ≡ barred (lent t c s)) × (s ≡ scratchAfter (lent t c s))
   gate-tables h = sizes-refused (rw h)
 
+  -- scratch of wrong sizes: the same
   pub gate-scratch : fits t ≡ true → fits s ≡ false → (some 25 ≡ barred (lent t c s)) × (s ≡ scratchAfter (lent t c s))
   gate-scratch h k = sizes-refused (rw (h, k))
 
@@ -51,12 +53,14 @@ module _ (t : Tables) (c : Counts) (s : Tables) where
     unfolding barred allFit
     held-some r e = rw (h, k, barred) (rw e)
 
+    -- tables that their own edges do not leave: 21, and scratch is all zero
     pub gate-not-grown : (s′ : Tables) (r : Bool) → s′ ≡ zeroed s → Regrows r t c (zeroed s) → r ≡ false
         → (some 21 ≡ barred (lent t c s)) × (s′ ≡ scratchAfter (lent t c s))
     gate-not-grown s′ r b g e =
         let k = regrows-cleared r g in
         (held-none (replay-none t c (λ q. not-both r (k .true-if q) e)), scratch-is s′ b)
 
+    -- any other call is let in, and scratch is all zero
     pub gate-open : (s′ : Tables) (r : Bool) → s′ ≡ zeroed s → Regrows r t c (zeroed s) → r ≡ true
         → (none ≡ barred (lent t c s)) × (s′ ≡ scratchAfter (lent t c s))
     gate-open s′ r b g e =
@@ -86,6 +90,7 @@ pub record Open (l : Lent) : Type 0 where
   pub holds : held (l .stored) ≡ some register
   pub is : HeldOf (l .stored) register
 
+-- where nothing bars a call, its gate is open
 pub opened : (l : Lent) → none ≡ barred l → Open l
 unfolding barred
 opened l h = go (allFit l) refl (held (l .stored)) refl

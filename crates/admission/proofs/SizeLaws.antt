@@ -13,6 +13,7 @@ use Rattle.tables.specs.Steps.{zeroed}
 
 -- ---- a comparison, number by number
 
+-- one pair of numbers differs: so do the lists; they are equal: the rest decides
 pub list-differs : (x y : ℕ) (xs ys : List ℕ) → x ≢ y → false ≡ eqList (x ∷ xs) (y ∷ ys)
 unfolding eqList
 list-differs x y xs ys h = rw (ne-eqb x y h, eqList)
@@ -21,6 +22,7 @@ pub list-on : (x y : ℕ) (xs ys : List ℕ) → x ≡ y → eqList xs ys ≡ eq
 unfolding eqList
 list-on x y xs ys e = rw (eq-eqb x y e, eqList)
 
+-- the last pair decides alone
 pub list-last : (x y : ℕ) → eqb x y ≡ eqList (x ∷ []) (y ∷ [])
 unfolding eqList
 list-last x y = go (eqb x y)

@@ -28,6 +28,7 @@ class-regular (suc (suc zero)) = refl
 class-regular (suc (suc (suc n))) = ne-eqb (suc (suc (suc n))) 2 (λ z. omega arith)
 
 module _ (degrees sides ends labels : List ℕ) (blocks a b e : ℕ) (rings : Bool) where
+  -- what is done for an edge, by the four tests
   abbrev pub byEnds : Bool → Bool → Bool → Bool → Placed
   byEnds la lb ra rb =
       if la
@@ -58,5 +59,6 @@ module _ (degrees sides ends labels : List ℕ) (blocks a b e : ℕ) (rings : Bo
   place-class branch regular = refl
   place-class branch branch = refl
 
+  -- an insertion does what the four tests say
   pub place-ends : (p q : ℕ) → placeIn (caseOf (classOf p) (classOf q)) degrees sides ends labels blocks a b e rings ≡ byEnds (eqb p 1) (eqb q 1) (eqb p 2) (eqb q 2)
   place-ends p q = rw (class-leaf p, class-leaf q, class-regular p, class-regular q) (place-class (classOf p) (classOf q))

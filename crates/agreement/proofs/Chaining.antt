@@ -35,6 +35,7 @@ use Rattle.agreement.proofs.Registers.{lawful, proper, room}
 
 -- ---- what the tables say of an edge
 
+-- the length and the volume of an edge stand in the tables
 pub length-is : (r : Register) (d : ℕ) → d < length (r .edges) → getD ((tablesOf r) .lengths) d 0 ≡ lengthAt (r .edges) d
 unfolding lengthAt
 length-is r d h = length-read r d h
@@ -76,6 +77,7 @@ module _ (r : Register) (g : Reachable r) (d v : ℕ) (a : At (r .edges) v d) wh
   reachable-shows : Shows (r .edges) ((tablesOf r) .degrees) ((tablesOf r) .sides) ((tablesOf r) .ends) (r .lows)
   reachable-shows = shows r g
 
+  -- over a regular vertex the tables lead one step on
   pub steps : isRegular (r .edges) v ≡ true → Step r d v
   steps q =
       let es : List Edge = r .edges in
@@ -89,11 +91,13 @@ module _ (r : Register) (g : Reachable r) (d v : ℕ) (a : At (r .edges) v d) wh
         at = x .across .at;
       }
 
+  -- at a singular vertex the table has no degree 2
   pub stops : isRegular (r .edges) v ≡ false → getD ((tablesOf r) .degrees) v 0 ≢ 2
   stops q = shows-singular reachable-shows a q
 
 -- a walker that is not home goes on
 module _ (r : Register) (g : Reachable r) (home d v : ℕ) (a : At (r .edges) v d) where
+  -- a walker stops at a singular vertex, and at home; over any other regular one it goes on
   pub goes-not : isRegular (r .edges) v ≡ false → goesOnIn ((tablesOf r) .degrees) home v ≡ false
   unfolding goesOnIn
   goes-not q = rw (ne-eqb _ _ (stops r g d v a q))
@@ -112,6 +116,7 @@ module _ (r : Register) (g : Reachable r) (home d v : ℕ) (a : At (r .edges) v 
 
 -- what a walk passes before it is home, by its first step
 module _ (home n : ℕ) (es : List Edge) (d v : ℕ) where
+  -- what a walk passes before it is home: nothing at a singular vertex or at home, else the vertex and what follows
   pub before-none : isRegular es v ≡ false → until home (walk (suc n) es d v) ≡ []
   unfolding until
   before-none q = rw (walk-stop (suc n) es d v q)
@@ -129,6 +134,7 @@ pub data First (r : Register) (home v : ℕ) : Type 0 where
   at-home : isRegular (r .edges) v ≡ true → v ≡ home → First r home v
   onward : isRegular (r .edges) v ≡ true → v ≢ home → First r home v
 
+-- at every vertex it is one of the three
 pub first-step : (r : Register) (home v : ℕ) → First r home v
 first-step r home v = go (true-or-false (isRegular (r .edges) v)) (ℕ-discrete v home)
   where
@@ -163,6 +169,7 @@ walk-sum r g home n d v =
 
 -- ---- the least of x and the numbers of a list, x compared last
 
+-- the least of some numbers and x
 unfoldable pub lower : List ℕ → ℕ → ℕ
 lower [] x = x
 lower (y ∷ ys) x = min y (lower ys x)
@@ -178,6 +185,7 @@ abbrev pub walkedBy : List Edge → ℕ → ℕ → List Pass → WalkEnd
 walkedBy es home v ss = walkEnd (endOf es v ss) (length ss) (sum (lengthsOf es (map afterOf ss))) (lower (map atOf ss) home)
 
 module _ (r : Register) (g : Reachable r) (home : ℕ) where
+  -- a walk over the tables comes to what the walk over the edges comes to
   pub walks : (n d v : ℕ) → n ≤ maxEdges → At (r .edges) v d → walkOver (tablesOf r) home n d v ≡ walkedBy (r .edges) home v (until home (walk n (r .edges) d v))
   unfolding walkIn walkAhead walk until endOf sum lengthsOf afterOf atOf lower
   walks zero d v m a = refl
@@ -227,10 +235,12 @@ plus-most v w = go (eqb v 0 || eqb w 0)
     go true = omega arith
     go false = omega arith
 
+-- the volume along a walk over the tables
 abbrev pub volumeOver : Tables → ℕ → ℕ → ℕ → ℕ → ℕ → ℕ
 volumeOver t = walkVolumeIn (t .degrees) (t .sides) (t .ends) (t .volumes)
 
 module _ (r : Register) (g : Reachable r) (home : ℕ) where
+  -- the volume along a walk over the tables is that of the edges passed, where their sum fits
   pub walk-volumes : (n known d v : ℕ) → At (r .edges) v d → known + sum (passed (r .edges) (until home (walk n (r .edges) d v))) ≤ most32
       → volumeOver (tablesOf r) home n known d v ≡ volumeOnto known (passed (r .edges) (until home (walk n (r .edges) d v)))
   unfolding walk until volumeOnto sum afterOf

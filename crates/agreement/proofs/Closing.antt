@@ -229,6 +229,7 @@ module _ {es : List Edge} {n : Edge} {degrees sides ends labels : List ℕ} {m :
         )
         (record { holds = record { kept = second-kept; blocks-are = refl }; counts = on-count })
 
+  -- what the tables are left with is what `close` says
   pub closes : ChangedAs (es ++ (n ∷ [])) labels (mergeIn degrees sides ends labels blocks a b (length es) (length es)) (close es blocks a b m)
   closes = rw (← merges-ring k a b la lb oa ob ab blocks c) (go (inwards es a) (inwards es b) refl refl)
     where

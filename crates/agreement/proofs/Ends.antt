@@ -36,10 +36,12 @@ pub record Both (r : Register) (d : ℕ) : Type 0 where
   pub back : until (endOnwards (r .edges) d (secondOf r d)) (walk (length (r .edges)) (r .edges) d (firstOf r d)) ≡ onwards (r .edges) d (firstOf r d)
   pub back-ends : endOf (r .edges) (firstOf r d) (onwards (r .edges) d (firstOf r d)) ≡ endOnwards (r .edges) d (firstOf r d)
 
+-- how the walks of edge d come out, on a ring and on a chain
 pub record Ends (r : Register) (d : ℕ) : Type 0 where
   pub ring : edgeOnRing (r .edges) d ≡ true → Around r d
   pub chain : edgeOnRing (r .edges) d ≡ false → Both r d
 
+-- the walks of every landed edge come out so, on a ring and on a chain
 pub chain-ends : (r : Register) → Reachable r → (d : ℕ) → d < length (r .edges) → Ends r d
 unfolding onwards onceRound endOnwards
 chain-ends r g d h = record { ring = around; chain = both }

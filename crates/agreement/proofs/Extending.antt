@@ -28,9 +28,11 @@ use Rattle.agreement.proofs.Opening.{OpenedBoth}
 
 -- ---- attaching: the two cases of the definition
 
+-- a number of blocks and some marks
 abbrev pub labelling : ℕ → Marks → Labelling
 labelling blocks m = record { blocks = blocks; marks = m }
 
+-- a chain without regular vertices: a new block; else the labels go on from the nearest
 pub attach-none : (blocks d : ℕ) (path : List Pass) (m : Marks) → attach blocks d [] path m ≡ labelling (blocks + 1) (labelPath true (base (blocks + 1)) path m)
 unfolding attach
 attach-none blocks d path m = refl
@@ -43,11 +45,13 @@ attach-some blocks d u us path m = refl
 
 -- ---- a leaf of before becomes regular
 
+-- the one edge of a leaf lies at it
 pub leaf-at : (es : List Edge) → Proper es → (x : ℕ) → degree es x ≡ 1 → At es x (onlyEdge es x)
 leaf-at es pr x one =
     let e : OneEdge es x = one-edge es x pr one in
     rw (onlyEdge-is es x (e .edge) pr one (e .at)) (e .at)
 
+-- a leaf that the new edge meets lies between its edge and the new one
 pub leaf-between : (es : List Edge) (n : Edge) → Proper es → n .first ≢ n .second → (x : ℕ) → degree es x ≡ 1 → endsAt x n ≡ 1
     → Between (es ++ (n ∷ [])) x (onlyEdge es x) (length es)
 leaf-between es n pr df x one o = new-turn es n pr df x (onlyEdge es x) o one (leaf-at es pr x one)
@@ -78,6 +82,7 @@ module _ (es : List Edge) (n : Edge) (pr : Proper es) (df : n .first ≢ n .seco
   off-path : (v : ℕ) → Off path v → endsAt v n ≡ 1 → degree es v ≢ 1
   off-path v f = apart v (λ e. f 0 _ here (sym e))
 
+  -- what the tables are left with is what `extend` says
   pub extended : (sides labels : List ℕ) (blocks : ℕ) (m : Marks) → OpenedBoth es n sides labels m → blocks < most16 → ((v : ℕ) → getD labels v 0 < most32)
       → let w = extendIn degrees sides ends labels blocks x (length es) in HoldsLabelling new (w .sides) (w .labels) (w .count) (extend es new blocks x m)
   unfolding extend onwards layIn countAhead

@@ -109,6 +109,7 @@ module _ (r : Register) (e : Edge) (rings : Bool) (g : Reachable r) (warns : War
       go (no p) (no q) (no s) (no t) =
           rw (ne-eqb (degree es a) 1 p, ne-eqb (degree es b) 1 q, ne-eqb (degree es a) 2 s, ne-eqb (degree es b) 2 t) (new-stands r e rings g warns fa fb df s t p q)
 
+  -- the tables stand as the labelling of the edge says
   pub stands : Stands (r .edges ++ (e ∷ [])) (r .labels) (placedBy (tablesOf r) (countsOf r) rings e) (labelEdge (r .edges) e (r .blocks) (marksOf r))
       (closesRing (r .edges) (e .first) (e .second))
   unfolding isLeaf isRegular marksOf

@@ -229,6 +229,7 @@ module _ {es : List Edge} {n : Edge} {degrees sides ends labels : List ℕ} {m :
           let hd = trail-cons (rw e at ((inward es pr x dx lx ax) .trail)) in
           record { first = u; others = us; are = e; at-far = hd .0; regular = rw (hd .0) (hd .1) }
 
+  -- the chain of x has regular vertices: what is left is what `attach` says of the whole path
   pub joins : (blocks : ℕ) → 0 < length (inwards es x)
       → let j = joinIn degrees sides ends labels x y (length es) (length es) in
       ChangedAs new labels (changed (j .sides) (j .labels) blocks (j .count) false) (attach blocks dx (inwards es x) path m)
@@ -255,6 +256,7 @@ module _ {es : List Edge} {n : Edge} {degrees sides ends labels : List ℕ} {m :
   unfolding beginIn labelVertexIn
   begin-counts i zx zy = omega (arith, relabelCount-bare labels (set labels x (base i)) y (base i + 1) zy, relabelCount-bare labels labels x (base i) zx, relabelCount-same labels)
 
+  -- neither chain has regular vertices: what is left is the new block that `attach` says
   pub begins : (blocks : ℕ) → inwards es x ≡ [] → inwards es y ≡ [] → getD labels x 0 ≡ 0 → getD labels y 0 ≡ 0
       → let w = beginIn sides labels x dx y dy (length es) (blocks + 1) in
       ChangedAs new labels (changed (w .sides) (w .labels) (blocks + 1) 0 false) (attach blocks dx (inwards es x) path m)

@@ -28,15 +28,18 @@ use Rattle.model.proofs.Labels.Relabellings.{moved}
 
 -- ---- tables that hold what the marks say, where X holds
 
+-- the labels are the marks', and where X holds so are the sides
 pub record HoldsMarks (es : List Edge) (X : ℕ → Type 0) (sides labels : List ℕ) (m : Marks) : Type 0 where
   pub labels-are : labels ≡ m .labels
   pub links : (v : ℕ) → v < maxVertices → X v → Linked es sides (m .lows) v
   pub sides-long : length sides ≡ 2 * maxVertices
   pub lows-long : length (m .lows) ≡ maxVertices
 
+-- at every vertex
 abbrev pub Everywhere : ℕ → Type 0
 Everywhere v = Unit {0}
 
+-- what holds where X does holds where less is asked
 pub kept-where : {es : List Edge} {X : ℕ → Type 0} {sides labels : List ℕ} {m : Marks} (Y : ℕ → Type 0) → ((v : ℕ) → Y v → X v)
     → HoldsMarks es X sides labels m → HoldsMarks es Y sides labels m
 kept-where Y h k = record { labels-are = k .labels-are; links = λ v l y. k .links v l (h v y); sides-long = k .sides-long; lows-long = k .lows-long }
@@ -59,6 +62,7 @@ module _ (es : List Edge) (X Y : ℕ → Type 0) (sides labels : List ℕ) (m : 
       go v b y (yes q) = rw q (linked-here es sides (m .lows) x low high (omega (arith, k .sides-long)) (omega (arith, k .lows-long)) (is-two es x c) a e)
       go v b y (no n) = linked-other es sides (m .lows) v x low high low n (k .links v b (wider v y n))
 
+  -- a vertex that is labelled in the tables wears what `mark` says
   pub kept-label : (c d : ℕ) (up : Bool) → Between es x c d
       → HoldsMarks es Y (labelVertexIn sides labels x label c d up .sides) (labelVertexIn sides labels x label c d up .labels) (mark x label (if up then c else d) m)
   unfolding labelVertexIn orientIn
@@ -82,6 +86,7 @@ layIn up label (s ∷ ss) sides labels =
     let w = labelVertexIn sides labels (s .at) label (s .before) (s .after) up in
     countAhead (w .count) (layIn up (next up label) ss (w .sides) (w .labels))
 
+-- tables in which a path is labelled hold what `labelPath` says
 pub lay-kept : (es : List Edge) → ((v d : ℕ) → At es v d → v < maxVertices) → (up : Bool) (label : ℕ) (path : List Pass) (sides labels : List ℕ) (m : Marks)
     → AllBetween es path → HoldsMarks es (Off path) sides labels m
     → HoldsMarks es Everywhere (layIn up label path sides labels .sides) (layIn up label path sides labels .labels) (labelPath up label path m)
@@ -115,6 +120,7 @@ lay-off up label (s ∷ ss) sides labels v o =
     let q = vertex-off up sides labels (s .at) label (s .before) (s .after) v (λ e. o 0 s here (sym e)) in
     ((ih .0 .0 ∙ q .0 .0, ih .0 .1 ∙ q .0 .1), ih .1 ∙ q .1)
 
+-- the count of a path that is labelled is that of the relabelled
 pub lay-counts : (ts : List ℕ) (up : Bool) (label : ℕ) (path : List Pass) (sides labels : List ℕ) → length ts ≡ length labels → Once path
     → ((i : ℕ) (s : Pass) → Ith s i path → getD labels (s .at) 0 ≡ getD ts (s .at) 0)
     → relabelCount ts (layIn up label path sides labels .labels) ≡ relabelCount ts labels + layIn up label path sides labels .count
@@ -128,6 +134,7 @@ lay-counts ts up label (s ∷ ss) sides labels l o h =
 
 -- ---- the next label
 
+-- the next label is at most one more
 pub next-most : (up : Bool) (label : ℕ) → next up label ≤ label + 1
 unfolding next
 next-most true label = omega arith
@@ -158,6 +165,7 @@ follow up label n h =
 abbrev pub Turns : List ℕ → List Pass → Type 0
 Turns sides path = (i : ℕ) (s : Pass) → Ith s i path → turnIn sides (s .before) (s .at) ≡ s .after
 
+-- a vertex that is labelled leaves the turns at others
 pub turn-other : (sides labels : List ℕ) (v label c d : ℕ) (up : Bool) (e w : ℕ) → w ≢ v
     → turnIn (labelVertexIn sides labels v label c d up .sides) e w ≡ turnIn sides e w
 unfolding turnIn labelVertexIn orientIn
@@ -165,6 +173,7 @@ turn-other sides labels v label c d true e w n = let p = pair-other sides v w c 
 turn-other sides labels v label c d false e w n = let p = pair-other sides v w d c n in rw (p .0, p .1)
 
 module _ {es : List Edge} (pr : Proper es) {degrees sides₀ ends lows : List ℕ} (sh : Shows es degrees sides₀ ends lows) (up : Bool) where
+  -- a walk that relabels lays the labels along its trail
   pub relabel-lays : {d v c w : ℕ} {ss : List Pass} (k : ℕ) (sides labels : List ℕ) (label : ℕ) → At es v d → Trail es d v ss c w → isRegular es w ≡ false
       → length ss ≤ k → label + length ss < most32 → Once ss → Turns sides ss
       → relabelIn degrees ends up k sides labels d v label ≡ layIn up label ss sides labels

@@ -18,6 +18,7 @@ use Rattle.model.proofs.Walks.Snoc.{turn-old, incidentFrom-old}
 use Rattle.model.proofs.Walks.NewEdge.{at-new}
 use Rattle.agreement.proofs.Lists.{PairAt, pair-here, pair-other}
 
+-- at v the sides are the low edge and the other one; a leaf has its one edge, any other vertex none
 pub record Linked (es : List Edge) (sides lows : List ℕ) (v : ℕ) : Type 0 where
   pub low-at : degree es v ≡ 2 → At es v (getD lows v 0)
   pub regular : degree es v ≡ 2 → PairAt sides v (getD lows v 0) (turn es (getD lows v 0) v)
@@ -26,6 +27,7 @@ pub record Linked (es : List Edge) (sides lows : List ℕ) (v : ℕ) : Type 0 wh
 
 -- ---- reading
 
+-- a turn by the sides is the turn at the vertex
 pub turn-agrees : (es : List Edge) (sides lows : List ℕ) (v d : ℕ) → Proper es → Linked es sides lows v → degree es v ≡ 2 → At es v d
     → turnIn sides d v ≡ turn es d v
 unfolding turnIn
@@ -40,6 +42,7 @@ turn-agrees es sides lows v d pr k two a = go (ℕ-discrete (getD lows v 0) d)
         rw (ne-eqb (getD sides (2 * v) 0) d (λ e. n (sym low ∙ e)))
         (low ∙ sym (turn-between es v d (getD lows v 0) (two-edges es v pr two) a (k .low-at two) (λ e. n (sym e))))
 
+-- a far end by the table of ends is the edge's
 pub far-agrees : (es : List Edge) (ends : List ℕ) (d v : ℕ) → PairAt ends d ((edgeAt es d) .first) ((edgeAt es d) .second)
     → farIn ends d v ≡ far es d v
 unfolding farIn far
@@ -99,6 +102,7 @@ module _ (es : List Edge) (n : Edge) (pr : Proper es) (v : ℕ) (z : endsAt v n 
   unfolding onlyEdge incident
   onlyEdge-old = rw (incidentFrom-old 0 es n v pr z)
 
+  -- a vertex that is neither end is linked with the edge if it was without
   pub linked-old : (sides lows : List ℕ) → Linked es sides lows v → Linked (es ++ (n ∷ [])) sides lows v
   linked-old sides lows k =
       record {

@@ -17,6 +17,7 @@ use Rattle.model.proofs.Registers.ReadBack.{length-ends, length-lengths, length
 
 -- ---- a map of 0, 1, ..
 
+-- a map of the numbers below n has n elements, and g i at place i
 pub length-mapped : (g : ℕ → ℕ) (n : ℕ) → length (map g (upTo n)) ≡ n
 length-mapped g n = length-map (upTo n) g ∙ length-upTo n
 
@@ -35,6 +36,7 @@ is-map g n xs e h =
 abbrev pub PairAt : List ℕ → ℕ → ℕ → ℕ → Type 0
 PairAt xs i a b = (getD xs (2 * i) 0 ≡ a) × (getD xs (2 * i + 1) 0 ≡ b)
 
+-- a stored pair leaves the length, stands where it was stored, and leaves the others
 pub length-pair : (xs : List ℕ) (i a b : ℕ) → length (setPair xs i a b) ≡ length xs
 unfolding setPair
 length-pair xs i a b = simp length-set
@@ -83,6 +85,7 @@ sidesFrom-read r at (suc n) (suc i) h =
     let ih = sidesFrom-read r (suc at) n i (omega arith) in
     (rw (even, z) (ih .0), rw (odd, z) (ih .1))
 
+-- the table of sides has the two sides of each vertex
 pub sidesOf-read : (r : Register) (n v : ℕ) → v < n → PairAt (sidesOf r (upTo n)) v (lowSide r v) (highSide r v)
 unfolding upTo
 sidesOf-read r n v h =
@@ -115,6 +118,7 @@ unfolding edgeVolumes
 volumes-snoc [] e = refl
 volumes-snoc (d ∷ es) e = ap (λ (l : List ℕ). d .volume ∷ l) (volumes-snoc es e)
 
+-- one edge more is stored behind the others: its ends, its length, its volume
 pub ends-stored : (es : List Edge) (e : Edge) → length es < maxEdges
     → setPair (padded (2 * maxEdges) (endsOf es)) (length es) (e .first) (e .second) ≡ padded (2 * maxEdges) (endsOf (es ++ (e ∷ [])))
 unfolding setPair

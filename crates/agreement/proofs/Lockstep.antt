@@ -24,12 +24,14 @@ pub record Shows (es : List Edge) (degrees sides ends lows : List ℕ) : Type 0 
   pub below : (v d : ℕ) → At es v d → v < maxVertices
 
 module _ {es : List Edge} {degrees sides ends lows : List ℕ} (sh : Shows es degrees sides ends lows) where
+  -- a regular vertex has degree 2 in the table, a singular one has not
   pub shows-regular : {v d : ℕ} → At es v d → isRegular es v ≡ true → getD degrees v 0 ≡ 2
   shows-regular {v} {d} a c = sh .degrees-are v (sh .below v d a) ∙ is-two es v c
 
   pub shows-singular : {v d : ℕ} → At es v d → isRegular es v ≡ false → getD degrees v 0 ≢ 2
   shows-singular {v} {d} a c h = not-two es v c (sym (sh .degrees-are v (sh .below v d a)) ∙ h)
 
+  -- a turn by the sides is the turn at a regular vertex
   pub shows-turn : {v d c : ℕ} → Proper es → At es v d → isRegular es v ≡ true → turn es d v ≡ c → turnIn sides d v ≡ c
   shows-turn {v} {d} pr a r e = turn-agrees es sides lows v d pr (sh .links v (sh .below v d a)) (is-two es v r) a ∙ e
 
@@ -42,6 +44,7 @@ pub record Meets (degrees : List ℕ) (x : Met) (m n v w : ℕ) : Type 0 where
   pub second-on : m < n → getD degrees (x .second) 0 ≡ 2
 
 module _ {es : List Edge} (pr : Proper es) {degrees sides ends lows : List ℕ} (sh : Shows es degrees sides ends lows) where
+  -- two walks in lockstep stop where the shorter one ends
   pub lockstep-meets : {d v d₂ v₂ c w c₂ w₂ : ℕ} {ss ts : List Pass} (n : ℕ) → At es v d → At es w c → Trail es d v ss d₂ v₂ → Trail es c w ts c₂ w₂
       → isRegular es v₂ ≡ false → isRegular es w₂ ≡ false → min (length ss) (length ts) ≤ n
       → Meets degrees (lockstepIn degrees sides ends n d v c w) (length ss) (length ts) v₂ w₂

@@ -37,6 +37,7 @@ unfolding lower
 lower-most [] x = omega arith
 lower-most (y ∷ ys) x = omega (arith, lower-most ys x)
 
+-- the least, by either of the two definitions
 pub least-lower : (x : ℕ) (ys : List ℕ) → least x ys ≡ lower ys x
 unfolding least lower
 least-lower x [] = refl
@@ -112,9 +113,11 @@ lowest-agrees r g home (suc n) x d v a = go (first-step r home v) (λ c at. lowe
           lower-min (map afterOf (until home (walk n es c (far es c v)))) x c,
         )
 
+-- the name of an edge by the tables
 abbrev pub nameOver : Tables → ℕ → ℕ → ℕ
 nameOver t = nameIn (t .degrees) (t .sides) (t .ends)
 
+-- the name of an edge by the tables is that of its chain or ring
 pub name-agrees : (r : Register) → Reachable r → (d : ℕ) → d < length (r .edges) → nameOver (tablesOf r) (length (r .edges)) d ≡ nameOf (r .edges) d
 unfolding nameIn
 name-agrees r g d h = go (chain-ends r g d h)

@@ -234,6 +234,7 @@ module _ (r : Register) (g : Reachable r) (d : ℕ) (h : d < length (r .edges)) 
   named-in : (e : ℕ) → e < length es → nameOf es e ≡ d → Mem e ((chainOf es d) .edges)
   named-in e l q = chain-back es (proper r g) d e l (subst (λ (x : ℕ). Mem x ((chainOf es e) .edges)) q (name-in-chain es e))
 
+  -- past an edge without a mark, whose chain is marked, the marks are as they should be
   pub marks-on : getD ms d 0 ≡ 0 → MarksAt es (suc d) (markChainOver (tablesOf r) (length es) ms d)
   marks-on z =
       let m : ChainMarked ((chainOf es d) .edges) ms d (markChainOver (tablesOf r) (length es) ms d) = chain-marked r g ms d h in
@@ -257,6 +258,7 @@ module _ (r : Register) (g : Reachable r) (d : ℕ) (h : d < length (r .edges)) 
               go₁ (yes c) = c
               go₁ (no c) = absurd (n (omega arith))
 
+  -- past an edge with a mark they are so as they stand
   pub marks-stay : getD ms d 0 ≢ 0 → MarksAt es (suc d) ms
   marks-stay n =
       record {

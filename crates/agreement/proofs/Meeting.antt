@@ -20,6 +20,7 @@ use Rattle.agreement.proofs.Ringing.{lower-at}
 
 -- ---- the test
 
+-- the test holds of those on the path, and of no other
 pub passed : (v : ℕ) (ss : List Pass) → passes v ss ≡ true → InPath ss v
 unfolding passes
 passed v [] e = absurd (not-both _ e refl)
@@ -83,8 +84,10 @@ module _ (es : List Edge) (pr : Proper es) (a b : ℕ) (ca : degree es a ≡ 2) 
     unfolding vertexOnRing
     tour-b = ring-tour es pr (lowerNumbered es b) b rb (lower-at es pr b cb)
 
+    -- if a lies on the round of b, then b lies on that of a
     pub meets-back : InPath (onceRound es (lowerNumbered es b) b) a → InPath (onceRound es (lowerNumbered es a) a) b
     meets-back f = is-inner (tours-share pr (tour-a .1) (tour-b .1) a (is-x refl) f)
 
+    -- if a vertex lies on both, then b lies on that of a
     pub shares : (z : ℕ) → InPath (onceRound es (lowerNumbered es a) a) z → InPath (onceRound es (lowerNumbered es b) b) z → InPath (onceRound es (lowerNumbered es a) a) b
     shares z f g = is-inner (tours-share pr (tour-a .1) (tour-b .1) z (is-of f) g)

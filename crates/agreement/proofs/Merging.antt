@@ -35,6 +35,7 @@ use Rattle.model.proofs.Walks.Joins.{Across, across}
 
 -- ---- the ring
 
+-- a ring is closed just if the walk from a inwards ends at b
 pub ring-is : (es : List Edge) (a b : ℕ) → degree es a ≡ 1 → degree es b ≡ 1 → (i : Inward es a (onlyEdge es a) (inwards es a)) → closesRing es a b ≡ eqb (i .to) b
 unfolding closesRing isLeaf endOnwards inwards
 ring-is es a b la lb i =
@@ -115,6 +116,7 @@ module _ {es : List Edge} {n : Edge} {degrees sides ends labels : List ℕ} {m :
       let even : length (inwards es a) ≡ length (inwards es b) = ring-even es a b pr la lb at-a ia ib to in
       finds .first-ends (omega arith) ∙ to
 
+  -- where a ring is closed, the merging over the tables is a closing
   pub merges-ring : closesRing es a b ≡ true → closeIn sides labels blocks a b (length es) da (far es da a) db (far es db b) ≡ merging
   merges-ring c =
       merge-closes degrees sides ends labels blocks a b (length es) (length es) da (far es da a) db (far es db b) met side-a side-b refl (at-b-then c)
@@ -143,6 +145,7 @@ module _ {es : List Edge} {n : Edge} {degrees sides ends labels : List ℕ} {m :
       no-closing Neither = refl
       no-closing (Chain x y) = refl
 
+  -- where a ring is closed, the merging over the tables says so
   pub merging-closes : closesRing es a b ≡ true → merging .ring ≡ true
   unfolding closeIn
   merging-closes c = rw (← merges-ring c) (either-way (eqb (far es da a) b) _ _ refl refl)
@@ -184,6 +187,7 @@ module _ {es : List Edge} {n : Edge} {degrees sides ends labels : List ℕ} {m :
           keeps-neither (neither-keeps degrees a b met (second-off (omega arith)) (first-off (omega arith)) (omega (arith, finds .steps)))
           (no-pass (inwards es a) z) (no-pass (inwards es b) (omega arith))
 
+  -- where none is, what is left is what `merge` says
   pub merges : closesRing es a b ≡ false → blocks < most16 → getD labels a 0 ≡ 0 → getD labels b 0 ≡ 0 → ChangedAs new labels merging (merge es blocks a b m)
   merges c bb za zb = go kept
     where

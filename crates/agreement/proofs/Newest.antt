@@ -609,6 +609,7 @@ module _ (r : Register) (g : Reachable r) where
   Wearer label none o = o ≡ none
   Wearer label (some v) o = (isRegular es₁ v ≡ true) × ((labelOf r v ≡ label) × (o ≡ some (chainAt r v)))
 
+  -- as many are taken, and the wearer is of the chain that is named
   pub record Agrees (label : ℕ) (s : Sought) (q : Searched) : Type 0 where
     pub taken-is : s .taken ≡ q .taken
     pub wearer-is : Wearer label (s .wearer) (q .holder)
@@ -696,6 +697,7 @@ module _ (r : Register) (g : Reachable r) where
       small : (d : ℕ) → Taken r d → lowestLabel r d < noBound
       small d k = omega (arith, k .wears, labels-small r g (k .vertex))
 
+  -- the search over the tables agrees with that of model
   pub search-agrees : (label : ℕ) → Agrees label (searchIn (t₁ .degrees) (t₁ .sides) (t₁ .ends) (t₁ .labels) n (length es₁) label) (search r label)
   unfolding searchIn search
   search-agrees label =

@@ -44,6 +44,7 @@ module _ (degrees sides : List ℕ) (x e : ℕ) where
 
 -- ---- both ends
 
+-- the tables after both ends of edge n are opened
 pub record OpenedBoth (es : List Edge) (n : Edge) (sides labels : List ℕ) (m : Marks) : Type 0 where
   -- all is as the new list says, but for a leaf of before, which is as the old list says
   pub kept : HoldsMarks (es ++ (n ∷ [])) (λ v. endsAt v n ≡ 1 → degree es v ≢ 1) sides labels m
@@ -134,6 +135,7 @@ module _ (es : List Edge) (n : Edge) (pr : Proper es) (df : n .first ≢ n .seco
   still z o one (inr e) =
       rw e ((left-y (λ q. omega (arith, rw e at one, q))) .0 ∙ ((k .kept .links y ly (λ s. omega (arith, (only y s) .1, rw e at one))) .leaf (rw e at one)) .0)
 
+  -- opening both ends leaves the tables so, whichever comes first
   pub opened-both : OpenedBoth es n (meetIn degrees (meetIn degrees sides x (length es)) y (length es)) labels m
   opened-both = record {
     kept = record {

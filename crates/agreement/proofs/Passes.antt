@@ -10,16 +10,19 @@ use Rattle.model.proofs.Walks.Snoc.{regular-old, turn-old}
 use Rattle.model.proofs.Walks.NewEdge.{at-new}
 use Rattle.model.proofs.Walks.Places.{Ith, here, later, no-ith}
 
+-- every vertex of the path lies between the two edges of its pass
 abbrev pub AllBetween : List Edge → List Pass → Type 0
 AllBetween es [] = Unit {0}
 AllBetween es (s ∷ ss) = Between es (s .at) (s .before) (s .after) × AllBetween es ss
 
+-- every vertex of a trail lies between the two edges of its pass
 pub trail-between : {es : List Edge} {d v c w : ℕ} {ss : List Pass} → Proper es → At es v d → Trail es d v ss c w → AllBetween es ss
 trail-between pr a done = tt
 trail-between {es} {d} {v} pr a (pass t r e u) =
     let x : Next es d v t = next-edge es d v t pr a r e in
     (record { regular = r; before-at = a; after-at = x .at; forth = e; back = x .again }, trail-between pr (x .across .at) u)
 
+-- the i-th vertex of such a path does
 pub between-ith : {es : List Edge} (ss : List Pass) → AllBetween es ss → (i : ℕ) (s : Pass) → Ith s i ss → Between es (s .at) (s .before) (s .after)
 between-ith [] b i s j = absurd (no-ith j)
 between-ith (t ∷ ss) b zero s here = b .0
@@ -38,6 +41,7 @@ module _ (es : List Edge) (n : Edge) (pr : Proper es) (apart : (v : ℕ) → deg
         back = turn-old es n v d pr z ∙ b .back;
       }
 
+  -- a path of the old list is one of the longer list
   pub all-old : (ss : List Pass) → AllBetween es ss → AllBetween (es ++ (n ∷ [])) ss
   all-old [] b = tt
   all-old (s ∷ ss) b = (between-old (s .at) (s .before) (s .after) (b .0), all-old ss (b .1))

@@ -56,6 +56,7 @@ split-open (Shared n) degrees sides ends labels blocks v w = refl
 
 -- ---- the tables that change, as the labelling says, and whether a ring is closed
 
+-- degrees, sides, labels, blocks and the count of relabellings are those of labelling g, and whether a ring is closed
 pub record Stands (es : List Edge) (labels : List ℕ) (p : Placed) (g : Labelling) (ring : Bool) : Type 0 where
   pub long : length (p .degrees) ≡ maxVertices
   pub degrees-are : (v : ℕ) → v < maxVertices → getD (p .degrees) v 0 ≡ degree es v
@@ -215,11 +216,13 @@ module _ (r : Register) (e : Edge) (rings : Bool) (g : Reachable r) (warns : War
         none v t (inl q) = na (rw q at t)
         none v t (inr q) = nb (rw q at t)
 
+    -- a new chain stands
     pub new-stands : degree es a ≢ 1 → degree es b ≢ 1
         → Stands new (r .labels) (openIn Neither Nothing degrees sides ends (r .labels) (r .blocks) a b (length es) rings) (labelling (r .blocks) m) false
     unfolding openedIn
     new-stands la lb = opens Nobody uncut (labelling (r .blocks) m) no-cut la lb
 
+    -- an extension stands
     pub extend-stands : (z w : ℕ) → endsAt z e ≡ 1 → endsAt w e ≡ 1 → z ≢ w → degree es z ≡ 1 → degree es w ≢ 1
         → Stands new (r .labels) (openIn Neither (Leaf (vertexOf z)) degrees sides ends (r .labels) (r .blocks) a b (length es) rings) (extend es new (r .blocks) z m) false
     unfolding openedIn
@@ -261,11 +264,13 @@ module _ (r : Register) (e : Edge) (rings : Bool) (g : Reachable r) (warns : War
         is-v u t (inl i) = i
         is-v u t (inr i) = absurd (nw (rw i at t))
 
+    -- a split stands, where w is no leaf
     pub split-stands : degree es a ≢ 1 → degree es b ≢ 1
         → Stands new (r .labels) (openIn (One (vertexOf v) (vertexOf w)) Nothing degrees sides ends (r .labels) (r .blocks) a b (length es) rings) left false
     unfolding openedIn
     split-stands la lb = opens (Also v Nobody) c left one-cut la lb
 
+    -- a split with an extension stands, where w is a leaf
     pub split-extend-stands : degree es w ≡ 1
         → Stands new (r .labels) (openIn (One (vertexOf v) (vertexOf w)) (Leaf (vertexOf w)) degrees sides ends (r .labels) (r .blocks) a b (length es) rings) (extend es new (left .blocks) w (left .marks)) false
     unfolding openedIn
@@ -313,6 +318,7 @@ module _ (r : Register) (e : Edge) (rings : Bool) (g : Reachable r) (warns : War
         among v (inl i) = inr (inl i)
         among v (inr i) = inl i
 
+    -- two splits stand
     pub both-stands : Stands new (r .labels) (openIn Both Nothing degrees sides ends (r .labels) (r .blocks) a b (length es) rings) left-both false
     unfolding openedIn
     both-stands = opens (Also b (Also a Nobody)) d left-both both-cut (λ q. omega arith) (λ q. omega arith)
@@ -343,12 +349,14 @@ module _ (r : Register) (e : Edge) (rings : Bool) (g : Reachable r) (warns : War
     unfolding mergedIn
     merged-as l t k i = record { long = raised-long; degrees-are = raised-are; holds = k .holds; counts = k .counts; ring-is = i }
 
+    -- a merge of two chains stands
     pub merge-stands : closesRing es a b ≡ false → Stands new (r .labels) (mergedIn degrees sides ends (r .labels) (r .blocks) a b (length es)) (merge es (r .blocks) a b m) false
     merge-stands t =
         merged-as (merge es (r .blocks) a b m) false
         (merges ground a b leaf-a leaf-b oa ob df (r .blocks) t (omega (arith, few-blocks)) (bare a leaf-a) (bare b leaf-b))
         (merging-open ground a b leaf-a leaf-b oa ob df (r .blocks) t)
 
+    -- a closing stands, where it is one chain
     pub close-stands : closesRing es a b ≡ true → Stands new (r .labels) (mergedIn degrees sides ends (r .labels) (r .blocks) a b (length es)) (close es (r .blocks) a b m) true
     close-stands t =
         merged-as (close es (r .blocks) a b m) true

@@ -26,6 +26,7 @@ use Rattle.model.proofs.Registers.Reachable as reachable
 use Rattle.agreement.proofs.Renewing.{AllOlder}
 
 module _ (r : Register) (g : Reachable r) where
+  -- edges are lawful; they are at most 4,096, as are the vertices
   pub founded : Founded r
   founded = reachable.founded r g
 
@@ -38,6 +39,7 @@ module _ (r : Register) (g : Reachable r) where
   pub few : r .vertices ≤ maxVertices
   few = founded .few
 
+  -- a vertex at an edge is below 4,096
   pub landed-below : (v d : ℕ) → At (r .edges) v d → v < maxVertices
   landed-below v d a = omega (arith, ends-landed (r .vertices) (r .edges) (founded .lawful) v d a, few)
 
@@ -51,16 +53,19 @@ module _ (r : Register) (g : Reachable r) where
           let at′ : At (r .edges ++ (e ∷ [])) v (length (r .edges)) = rw i at at in
           omega (arith, end-landed (r .vertices) e v a b (last-at (r .edges) e at′), few)
 
+  -- labels and low edges have a place for each vertex
   pub labels-long : length (r .labels) ≡ maxVertices
   labels-long = founded .labels-long
 
   pub lows-long : length (r .lows) ≡ maxVertices
   lows-long = founded .lows-long
 
+  -- the low edge of a regular vertex lies at it
   pub low-at : (v : ℕ) → degree (r .edges) v ≡ 2 → At (r .edges) v (lowEdgeOf r v)
   unfolding lowAt marksOf
   low-at = (sides.sided r g) .low-at
 
+  -- a singular vertex wears 0
   pub no-label : (v : ℕ) → degree (r .edges) v ≢ 2 → getD (r .labels) v 0 ≡ 0
   unfolding marksOf
   no-label = (labelled.labelled r g) .bare
@@ -78,5 +83,6 @@ module _ (r : Register) (g : Reachable r) where
   pub stored-held : held (storedOf r) ≡ some r
   stored-held = kept-held r (reachable.kept r g)
 
+  -- every register that landing leaves grows again from its own vertices and edges
   pub regrows : GrowsAgain r
   regrows = (reachable.kept r g) .regrows

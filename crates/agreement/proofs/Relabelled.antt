@@ -7,6 +7,7 @@ use lib.ListN.{length, getD, set}
 use Rattle.model.specs.Labels.{relabelCount, relabelled, relabelledFrom}
 use Rattle.model.proofs.Labels.Relabellings.{moved, moved-le, moved-old, moved-same, relabelCount-cons}
 
+-- one store adds 1 where it changes a label to another
 pub relabelled-set : (ts us : List ℕ) (v label : ℕ) → length ts ≡ length us → getD us v 0 ≡ getD ts v 0
     → relabelCount ts (set us v label) ≡ relabelCount ts us + moved (getD us v 0) label
 unfolding relabelCount relabelled relabelledFrom
@@ -19,6 +20,7 @@ relabelled-set (t ∷ ts) (u ∷ us) zero label l e =
 relabelled-set (t ∷ ts) (u ∷ us) (suc v) label l e =
     omega (arith, relabelCount-cons t u ts us, relabelCount-cons t u ts (set us v label), relabelled-set ts us v label (omega arith) e)
 
+-- at most all are relabelled
 pub relabelled-most : (ts us : List ℕ) → relabelCount ts us ≤ length ts
 unfolding relabelCount relabelled relabelledFrom
 relabelled-most [] us = omega arith

@@ -34,6 +34,7 @@ low-first : (es : List Edge) (v : ℕ) (t : TwoEdges es v) → lowerNumbered es 
 unfolding lowerNumbered
 low-first es v t = rw (t .list)
 
+-- the lower-numbered edge lies at the vertex, and the sides tell it
 pub lower-at : (es : List Edge) → Proper es → (v : ℕ) → degree es v ≡ 2 → At es v (lowerNumbered es v)
 lower-at es pr v two = let t : TwoEdges es v = two-edges es v pr two in rw (low-first es v t) (t .low-at)
 
@@ -122,6 +123,7 @@ module _ {es : List Edge} (pr : Proper es) {degrees sides ends lows : List ℕ} 
     by-lower =
         rw (lower-is es pr sides lows v two (sh .links v (sh .below v d at-v)), shows-turn sh pr at-v regular refl, sh .fars-are d v (at-v .inside), sh .fars-are (turn es d v) v (nx .at .inside))
 
+    -- a vertex on a ring: the walkers tell how many others it has, and whether w is one of them
     pub ring-yes : vertexOnRing es v ≡ true → ringIn degrees sides ends v w (length es) ≡ backIn (length (onceRound es (lowerNumbered es v) v)) (passes w (onceRound es (lowerNumbered es v) v))
     unfolding vertexOnRing
     ring-yes e =
@@ -134,6 +136,7 @@ module _ {es : List Edge} (pr : Proper es) {degrees sides ends lows : List ℕ} 
         (sym (length-backwards (onceRound es d v))) (r .off) (first-short es pr (x .at) (r .trail) (r .off))
         ∙ ap (λ (n : ℕ). backIn n (passes w (onceRound es d v))) z
 
+    -- a vertex on no ring: they tell that
     pub ring-no : vertexOnRing es v ≡ false → ringIn degrees sides ends v w (length es) ≡ NoRing
     unfolding vertexOnRing
     ring-no e = sym by-lower ∙ sym (ends-first (length es) 0 false (turn es d v) (far es (turn es d v) v) (x .at) (en .trail) (en .singular) (off (meets-or v (en .trail))))

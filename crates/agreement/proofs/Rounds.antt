@@ -36,6 +36,7 @@ module _ (es : List Edge) (pr : Proper es) (d v : ℕ) (a : At es v d) where
   ends : edgeOnRing es d ≡ false → Onwards es d (far es d v)
   ends f = onwards-ends es pr d (far es d v) (x .at) (off-ring es pr d (a .inside) f (far es d v) (x .at))
 
+  -- on a chain the walk until it is home is the whole walk, and ends where that ends, at a singular vertex
   pub round-open : edgeOnRing es d ≡ false → onceRound es d v ≡ onwards es d (far es d v)
   unfolding onceRound
   round-open f = until-off v (onwards es d (far es d v)) (go (meets-or v ((ends f) .trail)))
@@ -55,6 +56,7 @@ module _ (es : List Edge) (pr : Proper es) (d v : ℕ) (a : At es v d) where
   pub open-onto : edgeOnRing es d ≡ false → ℕ
   open-onto f = (ends f) .onto
 
+  -- that end lies at the edge on which the walk comes there
   pub open-at : (f : edgeOnRing es d ≡ false) → At es (endOnwards es d (far es d v)) (open-onto f)
   unfolding open-onto ends
   open-at f = let o = ends f in subst (λ (w : ℕ). At es w (o .onto)) (sym (o .ends-at)) (trail-at pr (x .at) (o .trail))
@@ -67,6 +69,7 @@ module _ (es : List Edge) (pr : Proper es) (d v : ℕ) (a : At es v d) where
   pub round-end : edgeOnRing es d ≡ true → (endOf es (far es d v) (onceRound es d v) ≡ v) × (isRegular es v ≡ true)
   round-end t = let k : Round es d v = ring-round es pr d v t a in (trail-endOf (k .trail), k .regular)
 
+-- the far end from the first end is the second, and back
 pub far-first : (es : List Edge) (d : ℕ) → far es d ((edgeAt es d) .first) ≡ (edgeAt es d) .second
 unfolding far
 far-first es d = rw (eq-eqb ((edgeAt es d) .first) ((edgeAt es d) .first) refl)

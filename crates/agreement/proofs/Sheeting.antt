@@ -226,10 +226,12 @@ module _ (r : Register) (g : Reachable r) where
 abbrev pub sheetOver : Tables → ℕ → ℕ → List (List ℕ)
 sheetOver t n m = sheetIn (t .degrees) (t .sides) (t .ends) (t .lengths) (t .volumes) n (replicate m 0)
 
+-- the sheet over the tables is that of the definitions
 pub sheet-agrees : (r : Register) → Reachable r → (m : ℕ) → maxEdges ≤ m → sheetOver (tablesOf r) ((countsOf r) .edges) m ≡ sheet r
 unfolding sheetIn namesIn sheet upTo countsOf
 sheet-agrees r g m h = swept r g (length (r .edges)) (replicate m 0) 0 (omega arith) (unmarked r g m h)
 
+-- as many names are counted as the sheet has rows
 pub names-counted : (r : Register) → Reachable r → (m : ℕ) → maxEdges ≤ m
     → length (namesIn ((tablesOf r) .degrees) ((tablesOf r) .sides) ((tablesOf r) .ends) ((countsOf r) .edges) (replicate m 0)) ≡ length (sheet r)
 names-counted r g m h =

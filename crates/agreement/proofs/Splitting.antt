@@ -38,6 +38,7 @@ use Rattle.agreement.proofs.Ringing.{lower-at, lower-is}
 
 -- ---- lengths and sizes of labels along a path
 
+-- labels laid along a path leave the table's length
 pub lay-long : (up : Bool) (label : ℕ) (path : List Pass) (sides labels : List ℕ) → length (layIn up label path sides labels .labels) ≡ length labels
 unfolding layIn countAhead labelVertexIn
 lay-long up label [] sides labels = refl
@@ -65,13 +66,16 @@ lay-small label (s ∷ ss) sides labels n l h v =
 
 -- ---- some vertices are bare, all others as the marks say
 
+-- the vertices of S have no sides, all others are as the marks say
 pub record SplitAs (es : List Edge) (S : ℕ → Type 0) (sides labels : List ℕ) (m : Marks) : Type 0 where
   pub kept : HoldsMarks es (λ v. S v → ⊥) sides labels m
   pub off : (v : ℕ) → v < maxVertices → S v → PairAt sides v 0 0
 
+-- x, and who is in S
 abbrev pub Also : ℕ → (ℕ → Type 0) → ℕ → Type 0
 Also x S v = (v ≡ x) ⊎ S v
 
+-- one vertex more is bared, in the tables and in the marks
 pub bared-as : (es : List Edge) (S : ℕ → Type 0) (sides labels : List ℕ) (m : Marks) (x : ℕ) → x < maxVertices → SplitAs es S sides labels m
     → SplitAs es (Also x S) (bareIn sides labels x .sides) (bareIn sides labels x .labels) (split x m)
 unfolding bareIn split mark
@@ -97,6 +101,7 @@ bared-as es S sides labels m x l k =
         go (yes e) = rw e at-x
         go (no n) = let p = pair-other sides x v 0 0 n in let q = k .off v b s in (p .0 ∙ q .0, p .1 ∙ q .1)
 
+-- a path off the bare vertices is labelled, in the tables and in the marks
 pub laid-as : (es : List Edge) → ((v d : ℕ) → At es v d → v < maxVertices) → (S : ℕ → Type 0) (sides labels : List ℕ) (m : Marks) (label : ℕ) (path : List Pass)
     → AllBetween es path → ((v : ℕ) → S v → Off path v) → SplitAs es S sides labels m
     → SplitAs es S (layIn true label path sides labels .sides) (layIn true label path sides labels .labels) (labelPath true label path m)
@@ -118,6 +123,7 @@ module _ {es : List Edge} (pr : Proper es) {degrees sides₀ ends lows₀ : List
   at-v : At es v d
   at-v = lower-at es pr v two
 
+  -- the vertex is below 4,096
   pub below-v : v < maxVertices
   below-v = sh .below v d at-v
 
@@ -129,6 +135,7 @@ module _ {es : List Edge} (pr : Proper es) {degrees sides₀ ends lows₀ : List
     unfolding vertexOnRing
     r = ring-round es pr d v t at-v
 
+    -- once round from v: regular vertices, none twice, and not v
     pub rd-between : AllBetween es (onceRound es (lowerNumbered es v) v)
     rd-between = trail-between pr (x .at) (r .trail)
 
@@ -145,6 +152,7 @@ module _ {es : List Edge} (pr : Proper es) {degrees sides₀ ends lows₀ : List
     pub rd-off : Off (onceRound es (lowerNumbered es v) v) v
     rd-off = r .off
 
+    -- a tap over the tables lays labels round the ring, and bares the vertex
     pub tap-lays : (S : ℕ → Type 0) (sides lows labels : List ℕ) (k : ℕ) → ((u : ℕ) → u < maxVertices → (S u → ⊥) → Linked es sides lows u)
         → (S v → ⊥) → ((u : ℕ) → S u → Off (onceRound es (lowerNumbered es v) v) u) → base k + length es < most32
         → let l = layIn true (base k) (onceRound es (lowerNumbered es v) v) sides labels in
@@ -231,6 +239,7 @@ module _ {es : List Edge} (pr : Proper es) {degrees sides₀ ends lows₀ : List
     reads = λ older. rw t;
   }
 
+  -- one end split over the tables: the sides, labels and counts that `splitOrTap` says
   pub splits-one : (vertexOnRing es v ≡ true → (u : ℕ) → S u → Off around u) → (vertexOnRing es v ≡ true → (i : ℕ) (s : Pass) → Ith s i around → getD labels (s .at) 0 ≡ getD ts (s .at) 0)
       → SplitOne es S ts labels v blocks (splitBy (byTest (vertexOnRing es v) (length (onceRound es (lowerNumbered es v) v))) degrees sides ends labels blocks v w) (splitOrTap es blocks v m)
   unfolding splitOrTap tap

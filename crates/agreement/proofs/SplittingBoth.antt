@@ -55,6 +55,7 @@ module _ {es : List Edge} (pr : Proper es) {degrees sides ends lows : List ℕ} 
       let b : Between es (s .at) (s .before) (s .after) = between-ith (onceRound es (lowerNumbered es v) v) (rd-between pr sh v two t) i s j in
       n (subst (λ (u : ℕ). degree es u ≡ 2) e (is-two es (s .at) (b .regular)))
 
+-- no vertex
 abbrev pub Nobody : ℕ → Type 0
 Nobody v = ⊥
 
@@ -67,6 +68,7 @@ whole-as sh e ls ll = record { kept = record { labels-are = e; links = λ v b n.
 
 module _ {es : List Edge} (pr : Proper es) {degrees sides ends labels : List ℕ} {m : Marks} (sh : Shows es degrees sides ends (m .lows)) (k : SplitAs es Nobody sides labels m)
     (blocks : ℕ) where
+  -- one end: the tables are left with what `splitOrTap` says
   pub splits-single : (v w : ℕ) → degree es v ≡ 2 → degree es w ≢ 2 → blocks < most16 → base (blocks + 1) + length es < most32
       → SplitOne es Nobody labels labels v blocks (splitIn degrees sides ends labels blocks v w (length es)) (splitOrTap es blocks v m)
   unfolding splitIn
@@ -76,6 +78,7 @@ module _ {es : List Edge} (pr : Proper es) {degrees sides ends labels : List ℕ
 
 -- ---- both ends
 
+-- what the split of both ends leaves
 pub record SplitTwo (es : List Edge) (ts : List ℕ) (a b : ℕ) (g : Changed) (l : Labelling) : Type 0 where
   pub holds : SplitAs es (Also b (Also a Nobody)) (g .sides) (g .labels) (l .marks)
   pub blocks-are : g .blocks ≡ l .blocks
@@ -259,6 +262,7 @@ module _ {es : List Edge} (pr : Proper es) {degrees sides ends labels : List ℕ
         rw (by-shared pr sh a b ca ra on-a, by-shared pr sh b a cb rb on-b, more16-is blocks (omega arith), tapped)
         (omega (arith, less, sum32-is (laid .count) 0 (omega (arith, count-most))))
 
+  -- both ends: the tables are left with what `splitTwo` says
   pub splits-both : SplitTwo es labels a b (splitBothIn degrees sides ends labels blocks a b (length es)) (splitTwo es blocks a b m)
   splits-both = go (true-or-false (onOneRing es a b))
     where

@@ -42,6 +42,7 @@ warns-any es f = absurd (not-both true refl f)
 pub warns-first : (es : List Edge) → Warns (ltb 0 (length es)) es
 warns-first es f d l = absurd (omega (arith, ltb-false 0 (length es) f))
 
+-- a vertex more leaves true what `rings` tells
 pub warns-vertex : (r r′ : Register) (rings : Bool) → landVertex r ≡ landed r′ → Warns rings (r .edges) → Warns rings (r′ .edges)
 unfolding withVertex
 warns-vertex r r′ rings h k = subst (λ (s : Register). Warns rings (s .edges)) ((added r r′ h) .1) k
@@ -61,6 +62,7 @@ closes-none r e r′ g h k c = subst (λ (s : Register). RingFree (s .edges)) (a
         let i : d < length (r .edges) = omega (arith, length-new (r .edges) e) in
         (theorem-1 r g) .still-ends e d (a .0) c i (k d i)
 
+-- `rings` after an edge: true where it was, or where a ring was closed
 pub warns-edge : (r : Register) (e : Edge) (r′ : Register) (rings : Bool) → Reachable r → landEdge r e ≡ landed r′ → Warns rings (r .edges)
     → Warns (rings || closesRing (r .edges) (e .first) (e .second)) (r′ .edges)
 warns-edge r e r′ rings g h k f =
@@ -75,6 +77,7 @@ module _ {es : List Edge} (pr : Proper es) {degrees sides ends lows : List ℕ} 
   unfolding vertexOnRing
   off v two f = k f (lowerNumbered es v) ((lower-at es pr v two) .inside)
 
+  -- a split that looks for a ring only where one may stand is a split
   pub one-as : (v w : ℕ) → degree es v ≡ 2
       → splitEndsIn (One (vertexOf v) (vertexOf w)) degrees sides ends labels blocks a b (length es) rings ≡ splitIn degrees sides ends labels blocks v w (length es)
   unfolding splitIn
@@ -85,6 +88,7 @@ module _ {es : List Edge} (pr : Proper es) {degrees sides ends lows : List ℕ} 
       go (inl t) = rw t
       go (inr f) = rw (f, ring-no pr sh v w two (off v two f))
 
+  -- the same of the splits of both ends
   pub both-as : degree es a ≡ 2 → degree es b ≡ 2
       → splitEndsIn Both degrees sides ends labels blocks a b (length es) rings ≡ splitBothIn degrees sides ends labels blocks a b (length es)
   unfolding splitBothIn leftFor sum32

@@ -47,6 +47,7 @@ sides-read : (r : Register) (v : ℕ) → v < maxVertices → PairAt ((tablesOf 
 unfolding tablesOf
 sides-read r v h = sidesOf-read r maxVertices v h
 
+-- the table of sides has two places for each vertex
 pub sides-long : (r : Register) → length ((tablesOf r) .sides) ≡ 2 * maxVertices
 unfolding tablesOf
 sides-long r = omega (arith, length-sides r (upTo maxVertices), length-upTo maxVertices)
@@ -79,6 +80,7 @@ linked-sides r sides l k =
 
 -- ---- degrees
 
+-- the table of degrees has the degree of each vertex, and no other of that size has
 pub degrees-read : (r : Register) (v : ℕ) → v < maxVertices → getD ((tablesOf r) .degrees) v 0 ≡ degree (r .edges) v
 unfolding tablesOf
 degrees-read r v h = getD-upTo (λ w. degree (r .edges) w) maxVertices v h
@@ -109,6 +111,7 @@ raise-read degrees x v l h = go (ℕ-discrete v x)
     go (yes e) = rw e (omega (arith, getD-set-same degrees x (min (getD degrees x 0 + 1) most16) 0 l, same-eq x x refl))
     go (no n) = omega (arith, getD-set-other degrees x v (min (getD degrees x 0 + 1) most16) 0 n, same-ne x v (λ e. n (sym e)))
 
+-- degrees that are raised are as many
 pub length-raised : (degrees : List ℕ) (a b : ℕ) → length (raiseBothIn degrees a b) ≡ length degrees
 unfolding raiseBothIn
 length-raised degrees a b = length-raise (raiseIn degrees a) b ∙ length-raise degrees a
@@ -133,9 +136,11 @@ raised es n degrees a b pr room long la lb ends h v l =
 
 -- ---- ends
 
+-- a far end by the table is the edge's
 pub far-is : (r : Register) (d v : ℕ) → d < length (r .edges) → farIn ((tablesOf r) .ends) d v ≡ far (r .edges) d v
 far-is r d v h = far-agrees (r .edges) ((tablesOf r) .ends) d v (first-read r d h, second-read r d h)
 
+-- the tables of a register show its edges
 pub shows : (r : Register) → Reachable r
     → Shows (r .edges) ((tablesOf r) .degrees) ((tablesOf r) .sides) ((tablesOf r) .ends) (r .lows)
 shows r g = record { degrees-are = degrees-read r; fars-are = far-is r; links = sides-linked r g; below = landed-below r g }

@@ -12,6 +12,7 @@ use Rattle.admission.proofs.GateLaws.{opened}
 use Rattle.questions.proofs.Answers.{Answers}
 use Rattle.model.proofs.Series.Calls.{outcomeOf, scratch-cleared, step-fits}
 
+-- such a call leaves and answers what `step` says
 pub query-answered : (c : Call) (l : Lent) (s : Tables) (xs : List ℕ) (a : Reply) → none ≡ barred l → s ≡ scratchAfter l
     → Answers c (l .stored .tables) (l .stored .counts) xs a
     → outcome (l .stored .tables) (l .stored .counts) s xs a ≡ step c l

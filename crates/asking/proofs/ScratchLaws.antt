@@ -46,6 +46,7 @@ module _ (t : Tables) (c : Counts) (s g : Tables) (h : none ≡ barred (lent t c
       let l : 2 * maxVertices ≤ length (g .sides) = rw (sides-are, length-replicate) (omega arith) in
       query-answered q (lent t c s) _ [] a h (u ∙ e) (f l)
 
+  -- the sheet leaves and answers what `step` says
   pub sheet-answered : (counting marks xs ys : List ℕ) (a : Reply) → answered ys a ≡ sheetedIn t c (g .degrees) (g .sides) xs
       → counting ≡ replicate (length (g .degrees)) 0 → marks ≡ replicate (length (g .sides)) 0
       → outcome t c (tables counting marks (g .ends) (g .lengths) (g .volumes) (g .labels)) ys a ≡ step (sheets xs) (lent t c s)

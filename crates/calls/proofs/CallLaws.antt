@@ -37,11 +37,13 @@ module _ (t : Tables) (c : Counts) (s : Tables) (bs : List ℕ) where
 
   -- ---- grow
 
+  -- tables or scratch of wrong sizes: a grow is refused with 25
   pub grow-refused : (t′ s′ : Tables) (r : Bool) → r ≡ (fits t && fits s) → t′ ≡ zeroedIf r t → s′ ≡ zeroedIf r s → r ≡ false
       → outcome t′ c s′ [] (refuses 25) ≡ step (grows bs) (lent t c s)
   unfolding allFit lentSlice
   grow-refused t′ s′ r f a b e = rw (a, b, e) (sym (step-refused (grows bs) (lent t c s) (sym f ∙ e)))
 
+  -- any other grow leaves what growing from the list leaves
   pub grow-done : (t′ s′ : Tables) (r : Bool) (d : ReadingIn) → r ≡ (fits t && fits s) → t′ ≡ zeroedIf r t
       → s′ ≡ zeroedIf r s → r ≡ true → d ≡ landListIn t′ noCounts bs
       → outcome (d .tables) (d .counts) s′ [] (read (d .stop)) ≡ step (grows bs) (lent t c s)
@@ -55,6 +57,7 @@ module _ (t : Tables) (c : Counts) (s : Tables) (bs : List ℕ) where
 
   -- ---- land
 
+  -- behind an open gate a land leaves what landing the list leaves
   pub land-done : (s′ : Tables) (d : ReadingIn) → none ≡ barred (lent t c s) → s′ ≡ scratchAfter (lent t c s)
       → d ≡ landListIn t c bs → outcome (d .tables) (d .counts) s′ [] (read (d .stop)) ≡ step (lands bs) (lent t c s)
   unfolding effect

@@ -33,6 +33,7 @@ page-holds give xs bs out q e h f =
     let w = write-held xs out q e h in
     (counted (q .at) (q .slice) (w .0), ap give (w .1) ∙ f)
 
+-- a list that is too long is told
 pub too-long : (bs out word : List ℕ) (q : Page) → 65536 < length bs → roomBytes ≤ length out → word ≡ ascii "too long\n" → q ≡ write word (page out 0)
     → Counted (q .at) (q .slice) × (tells (take (q .at) (q .slice)) ≡ canonical bs)
 unfolding canonical ascii
@@ -58,6 +59,7 @@ module _ (bs out : List ℕ) (d : ReadingIn) (short : length bs ≤ 65536) (long
   same-stop : (s : Stop) → s ≡ d .stop → (growList bs) .stop ≡ s
   same-stop s e = sym (e ∙ ap (λ (z : ReadingIn). z .stop) shown)
 
+  -- of a list that lands the canonical list is given
   pub whole-given : (q : Page) → whole ≡ d .stop → q ≡ write (listIn (d .tables .ends) (d .tables .lengths) (d .tables .volumes) (d .counts)) (page out 0)
       → Counted (q .at) (q .slice) × (gives (take (q .at) (q .slice)) ≡ canonical bs)
   unfolding canonical canonicalOf
@@ -70,11 +72,13 @@ module _ (bs out : List ℕ) (d : ReadingIn) (short : length bs ≤ 65536) (long
       let fits : length (listIn (d .tables .ends) (d .tables .lengths) (d .tables .volumes) (d .counts)) ≤ length out = omega (arith, v, n, list-bytes (d .tables .ends) (d .tables .lengths) (d .tables .volumes) (d .counts)) in
       page-holds gives _ bs out q e fits (rw (le-ltb 65536 (length bs) short, same-stop whole s) (ap gives w))
 
+  -- a stop is told
   pub stop-told : (k x : ℕ) (q : Page) → k < 18446744073709551616 → x < 4294967296 → stopped k x ≡ d .stop → q ≡ write (stopLine (stopped k x)) (page out 0)
       → Counted (q .at) (q .slice) × (tells (take (q .at) (q .slice)) ≡ canonical bs)
   unfolding canonical canonicalOf
   stop-told k x q hk hx s e =
       page-holds tells _ bs out q e (omega (arith, stop-length k x hk hx)) (rw (le-ltb 65536 (length bs) short, same-stop (stopped k x) s))
 
+-- the answer's size is counted
 pub size-held : (r s : Output) (xs : List ℕ) → r ≡ s → Counted (sizeOf r) xs → Counted (sizeOf s) xs
 size-held r s xs e h = subst (λ (o : Output). Counted (sizeOf o) xs) e h

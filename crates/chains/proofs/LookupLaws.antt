@@ -12,6 +12,7 @@ use Rattle.tables.specs.Steps.{farIn, turnIn}
 use Rattle.chains.specs.Chains.{goesOnIn, lowEnd, lowestIn, nameIn}
 
 module _ (ds ss es : List ℕ) (home : ℕ) where
+  -- no step is left, or the walker is at its end: the lowest so far
   pub lowest-none : (n x d v : ℕ) → n ≤ 0 → lowEnd v x ≡ lowestIn ds ss es home n x d v
   unfolding lowestIn
   lowest-none zero x d v h = refl
@@ -22,6 +23,7 @@ module _ (ds ss es : List ℕ) (home : ℕ) where
   lowest-stop zero x d v h = refl
   lowest-stop (suc n) x d v h = rw h
 
+  -- a step on, and the same as a turn of the loop
   pub lowest-on : (n x d v c w : ℕ) → goesOnIn ds home v ≡ true → turnIn ss d v ≡ c → farIn es c v ≡ w
       → lowestIn ds ss es home (suc n) x d v ≡ lowestIn ds ss es home n (min c x) c w
   unfolding lowestIn
@@ -33,10 +35,12 @@ module _ (ds ss es : List ℕ) (home : ℕ) where
   lowest-step (suc n) x y d v c w h g a b e = rw (sub-one, e) (lowest-on n x d v c w g (sym a) (sym b))
 
 module _ (ds ss es : List ℕ) (n e a b v x : ℕ) (f : a ≡ getD es (2 * e) 0) (s : b ≡ getD es (2 * e + 1) 0) (h : lowEnd v x ≡ lowestIn ds ss es a n e e b) where
+  -- in a ring one walk finds the name
   pub name-round : getD ds v 0 ≡ 2 → x ≡ nameIn ds ss es n e
   unfolding nameIn
   name-round i = rw (← f, ← s, ← h, eq-eqb _ _ i)
 
+  -- on a chain the second walk finds it, from where the first one ended
   pub name-both : (getD ds v 0 ≡ 2 → ⊥) → (u y : ℕ) → lowEnd u y ≡ lowestIn ds ss es v n x e a → y ≡ nameIn ds ss es n e
   unfolding nameIn
   name-both i u y j = rw (← f, ← s, ← h, ne-eqb _ _ i, ← j)

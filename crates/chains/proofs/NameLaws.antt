@@ -14,6 +14,7 @@ use Rattle.tables.specs.Steps.{farIn, turnIn}
 use Rattle.chains.specs.Chains.{goesOnIn, marked, markIn, markChainIn, namesIn, sweepIn, unmarkedFrom}
 
 module _ (ds ss es : List ℕ) (home : ℕ) where
+  -- no step is left, or the walker is at its end: the marks so far
   pub mark-none : (n : ℕ) (ms : List ℕ) (d v : ℕ) → n ≤ 0 → marked ms v ≡ markIn ds ss es home n ms d v
   unfolding markIn
   mark-none zero ms d v h = refl
@@ -24,6 +25,7 @@ module _ (ds ss es : List ℕ) (home : ℕ) where
   mark-stop zero ms d v h = refl
   mark-stop (suc n) ms d v h = rw h
 
+  -- a step on, and the same as a turn of the loop
   pub mark-on : (n : ℕ) (ms : List ℕ) (d v c w : ℕ) → goesOnIn ds home v ≡ true → turnIn ss d v ≡ c → farIn es c v ≡ w
       → markIn ds ss es home (suc n) ms d v ≡ markIn ds ss es home n (set ms c 1) c w
   unfolding markIn
@@ -36,10 +38,12 @@ module _ (ds ss es : List ℕ) (home : ℕ) where
 
 module _ (ds ss es : List ℕ) (n : ℕ) where
   module _ (ms : List ℕ) (e a b v : ℕ) (ns : List ℕ) (f : a ≡ getD es (2 * e) 0) (s : b ≡ getD es (2 * e + 1) 0) (h : marked ns v ≡ markIn ds ss es a n ms e b) where
+    -- in a ring one walk marks all
     pub chain-round : getD ds v 0 ≡ 2 → ns ≡ markChainIn ds ss es n ms e
     unfolding markChainIn
     chain-round i = rw (← f, ← s, ← h, eq-eqb _ _ i)
 
+    -- on a chain the second walk marks the rest
     pub chain-both : (getD ds v 0 ≡ 2 → ⊥) → (os : List ℕ) (u : ℕ) → marked os u ≡ markIn ds ss es v n ns e a → os ≡ markChainIn ds ss es n ms e
     unfolding markChainIn
     chain-both i os u j = rw (← f, ← s, ← h, ne-eqb _ _ i, ← j)
@@ -47,6 +51,7 @@ module _ (ds ss es : List ℕ) (n : ℕ) where
 -- ---- the next edge without a mark
 
 module _ (ms : List ℕ) (n : ℕ) where
+  -- there is none; it is this one; it is looked for further on
   pub unmarked-end : (e : ℕ) → n ≤ e → e ≡ unmarkedFrom (n - e) ms e
   unfolding unmarkedFrom
   unmarked-end e h =
@@ -114,6 +119,7 @@ pub record Sweeps (ds ss es : List ℕ) (n : ℕ) (ms₀ : List ℕ) (e : ℕ) (
   pub whole : found ++ sweepIn ds ss es n (n - e) ms e ≡ namesIn ds ss es n ms₀
 
 module _ (ds ss es : List ℕ) (n : ℕ) (ms₀ : List ℕ) where
+  -- the pass begins with no name
   pub sweep-start : (e : ℕ) → e ≡ unmarkedFrom (n - 0) ms₀ 0 → Sweeps ds ss es n ms₀ e ms₀ []
   unfolding namesIn
   sweep-start e q =
@@ -122,6 +128,7 @@ module _ (ds ss es : List ℕ) (n : ℕ) (ms₀ : List ℕ) where
       let s : Skips ds ss es n ms₀ n 0 e = rw u (skips ds ss es n ms₀ n 0 (omega arith)) in
       record { few = omega arith; within = s .within; unmarked = s .unmarked; as-long = refl; whole = sym (s .same) }
 
+  -- a name more, its chain marked, and on to the next edge without a mark
   pub sweep-on : (e e′ : ℕ) (ms ms′ found : List ℕ) → e < n → Sweeps ds ss es n ms₀ e ms found → ms′ ≡ markChainIn ds ss es n ms e
       → length ms′ ≡ length ms → e′ ≡ unmarkedFrom (n - (e + 1)) ms′ (e + 1) → Sweeps ds ss es n ms₀ e′ ms′ (found ++ (e ∷ []))
   unfolding sweepIn
@@ -140,6 +147,7 @@ module _ (ds ss es : List ℕ) (n : ℕ) (ms₀ : List ℕ) where
         whole = append-snoc found e _ ∙ ap (λ (xs : List ℕ). found ++ (e ∷ xs)) (sym (t .same) ∙ ap (λ (xs : List ℕ). sweepIn ds ss es n k xs (suc e)) m) ∙ w;
       }
 
+  -- at the end all names are found
   pub sweep-end : (e : ℕ) (ms found : List ℕ) → n ≤ e → Sweeps ds ss es n ms₀ e ms found → found ≡ namesIn ds ss es n ms₀
   unfolding sweepIn
   sweep-end e ms found h s =

@@ -17,10 +17,12 @@ use Rattle.chains.specs.Chains.{WalkEnd, namesIn, walkEnd, walkIn, walkV
 module _ (ds ss es ls vs : List ℕ) (n e a b v k l x own known more : ℕ) (f : a ≡ getD es (2 * e) 0) (s : b ≡ getD es (2 * e + 1) 0)
     (h : walkEnd v k l x ≡ walkIn ds ss es ls a n e b) (o : own ≡ getD ls e 0) (p : known ≡ getD vs e 0)
     (z : more ≡ walkVolumeIn ds ss es vs a n known e b) where
+  -- in a ring one walk gives the row
   pub row-round : (r : List ℕ) → getD ds v 0 ≡ 2 → r ≡ e ∷ x ∷ x ∷ (1 + k) ∷ sum32 own l ∷ more ∷ [] → r ≡ rowIn ds ss es ls vs n e
   unfolding rowIn
   row-round r i q = rw (← f, ← s, ← h, ← o, ← p, ← z, eq-eqb _ _ i) q
 
+  -- on a chain both walks give it
   pub row-both : (r : List ℕ) (u j m y all : ℕ) → (getD ds v 0 ≡ 2 → ⊥) → walkEnd u j m y ≡ walkIn ds ss es ls v n e a
       → all ≡ walkVolumeIn ds ss es vs v n more e a
       → r ≡ e ∷ min u v ∷ max u v ∷ (j + k) ∷ sum32 m (sum32 own l) ∷ all ∷ [] → r ≡ rowIn ds ss es ls vs n e
@@ -82,6 +84,7 @@ module _ (ds ss es ls vs : List ℕ) (n : ℕ) where
   rows-size [] = refl
   rows-size (x ∷ xs) = omega (arith, row-size x, length-append (rowIn ds ss es ls vs n x) (concat (map (rowIn ds ss es ls vs n) xs)), rows-size xs)
 
+  -- as many rows as names, and six numbers for each
   pub sheet-count : (ms : List ℕ) → length (sheetIn ds ss es ls vs n ms) ≡ length (namesIn ds ss es n ms)
   unfolding sheetIn
   sheet-count ms = rows-count (namesIn ds ss es n ms)

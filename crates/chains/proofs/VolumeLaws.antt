@@ -12,6 +12,7 @@ use Rattle.model.specs.Basics.{if_then_else_}
 use Rattle.tables.specs.Steps.{farIn, turnIn, sum32}
 use Rattle.chains.specs.Chains.{goesOnIn, plusVolume32, walkVolumeIn}
 
+-- two volumes together: unknown if one of them is, else their sum
 pub unknown-first : (v w : ℕ) → v ≡ 0 → v ≡ plusVolume32 v w
 unfolding plusVolume32
 unknown-first v w z = rw z
@@ -29,6 +30,7 @@ unfolding plusVolume32
 both-known v w x r e m n s = rw (← e, ne-eqb v 0 m, ne-eqb x 0 n) s
 
 module _ (ds ss es vs : List ℕ) (home : ℕ) where
+  -- no step is left, or the walker is at its end: what is known so far
   pub volume-none : (n known d v : ℕ) → n ≤ 0 → known ≡ walkVolumeIn ds ss es vs home n known d v
   unfolding walkVolumeIn
   volume-none zero known d v h = refl
@@ -39,6 +41,7 @@ module _ (ds ss es vs : List ℕ) (home : ℕ) where
   volume-stop zero known d v h = refl
   volume-stop (suc n) known d v h = rw h
 
+  -- a step on, and the same as a turn of the loop
   pub volume-on : (n known d v c w : ℕ) → goesOnIn ds home v ≡ true → turnIn ss d v ≡ c → farIn es c v ≡ w
       → walkVolumeIn ds ss es vs home (suc n) known d v ≡ walkVolumeIn ds ss es vs home n (plusVolume32 known (getD vs c 0)) c w
   unfolding walkVolumeIn

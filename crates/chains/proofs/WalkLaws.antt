@@ -12,6 +12,7 @@ use lib.Dec.{eqb}
 use Rattle.tables.specs.Steps.{farIn, turnIn, sum32}
 use Rattle.chains.specs.Chains.{WalkEnd, goesOnIn, walkEnd, walkIn, walkAhead}
 
+-- a sum that stops at 32 bits fits them
 pub sum32-most : (l m : ℕ) → sum32 l m ≤ 4294967295
 unfolding sum32
 sum32-most l m = omega arith
@@ -28,6 +29,7 @@ zero-sum32 : (l : ℕ) → l ≤ 4294967295 → sum32 0 l ≡ l
 unfolding sum32
 zero-sum32 l h = omega arith
 
+-- a walker does not go on over a singular vertex; over a regular one unless it is home
 pub goes-singular : (ds : List ℕ) (home v : ℕ) → (getD ds v 0 ≡ 2 → ⊥) → false ≡ goesOnIn ds home v
 unfolding goesOnIn
 goes-singular ds home v h = rw (ne-eqb _ _ h)
@@ -37,6 +39,7 @@ unfolding goesOnIn
 goes-regular ds home v h = rw (eq-eqb _ _ h)
 
 module _ (ds ss es ls : List ℕ) (home : ℕ) where
+  -- the walk at its end, and a step on
   pub walkIn-stop : (n d v : ℕ) → goesOnIn ds home v ≡ false → walkIn ds ss es ls home n d v ≡ walkEnd v 0 0 home
   unfolding walkIn
   walkIn-stop zero d v h = refl
@@ -67,6 +70,7 @@ module _ (ds ss es ls : List ℕ) (home : ℕ) where
       go true e ih = rw e (omega (arith, ih))
       go false e ih = rw e (omega arith)
 
+  -- nothing before: the walk itself
   pub walk-whole : (n d v : ℕ) → walkAhead 0 0 home (walkIn ds ss es ls home n d v) ≡ walkIn ds ss es ls home n d v
   unfolding walkAhead
   walk-whole n d v =
@@ -81,6 +85,7 @@ module _ (ds ss es ls : List ℕ) (home : ℕ) where
         let i : min x home ≡ x = omega arith in
         rw (add-zero, sum32-zero l m, i)
 
+    -- no step is left, or the walker is at its end: what was before
     pub walk-none : (n d v : ℕ) → n ≤ 0 → walkEnd v k l x ≡ walkAhead k l x (walkIn ds ss es ls home n d v)
     unfolding walkIn
     walk-none zero d v h = stopped v
@@ -89,6 +94,7 @@ module _ (ds ss es ls : List ℕ) (home : ℕ) where
     pub walk-stop : (n d v : ℕ) → goesOnIn ds home v ≡ false → walkEnd v k l x ≡ walkAhead k l x (walkIn ds ss es ls home n d v)
     walk-stop n d v h = rw (walkIn-stop n d v h) (stopped v)
 
+  -- a turn of the loop
   pub walk-step : (n d v c w k l x y z m : ℕ) → 0 < n → goesOnIn ds home v ≡ true → z ≡ min v x → c ≡ turnIn ss d v → w ≡ farIn es c v
       → y ≡ getD ls c 0 → m ≡ sum32 l y
       → walkAhead k l x (walkIn ds ss es ls home n d v) ≡ walkAhead (k + 1) m z (walkIn ds ss es ls home (n - 1) c w)

@@ -8,6 +8,7 @@ use Rattle.search.proofs.Relaxing.{keeps-same}
 use Rattle.search.proofs.Rounds.{round-settled}
 use Rattle.confirming.specs.Rounds.{FirstRound}
 
+-- the round over what was searched is the first one
 pub first-round : (ends lengths : List ℕ) (m goal from : ℕ) (searched distances : List ℕ) (best changes : ℕ) → Grounded ends lengths m goal searched
     → best ≡ getD searched from 0 → Round ends lengths m searched distances best changes → FirstRound ends lengths m goal from distances changes
 first-round ends lengths m goal from searched distances best changes g e r = record {

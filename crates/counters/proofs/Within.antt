@@ -9,6 +9,7 @@ use borrow.Author.Tests.{eq-eqb, ne-eqb, le-leb, lt-leb, leb-false, lt-ltb, le-l
 use Rattle.model.specs.Basics.{maxVertices, maxVolume}
 use Rattle.counters.specs.Numbers.{within, amongLanded, isLanded, known, unknown, outOfRange, volumeOf}
 
+-- a number within its bounds is told; below or above there is none
 pub within-yes : (low high n : ℕ) → low ≤ n → n ≤ high → some n ≡ within low high n
 unfolding within
 within-yes low high n l h = rw (le-leb low n l, le-leb n high h)
@@ -22,6 +23,7 @@ unfolding within
 within-above low high n l h = rw (le-leb low n l, lt-leb n high h)
 
 module _ (count n : ℕ) where
+  -- a number above all vertices is not landed; any other is if it is below the count
   pub landed-above : maxVertices ≤ n → none ≡ amongLanded count n
   unfolding amongLanded
   landed-above h = rw (le-ltb n maxVertices h)
@@ -35,6 +37,7 @@ module _ (count n : ℕ) where
     unfolding amongLanded
     landed-no g = rw (lt-ltb n maxVertices h, le-ltb n count g)
 
+-- what is told is the number; where nothing is, it is above
 pub within-is : (low high n v : ℕ) → some v ≡ within low high n → v ≡ n
 unfolding within
 within-is low high n v e = go (leb low n && leb n high) refl
@@ -51,6 +54,7 @@ within-none high n e = go (leb n high) refl
     go true q = absurd (Option·some-ne-none n (sym (rw (le-leb 0 n (omega arith), q) at e)))
     go false q = leb-false n high q
 
+-- the same of a landed vertex
 pub landed-is : (count n v : ℕ) → some v ≡ amongLanded count n → (isLanded count n ≡ true) × (v ≡ n)
 unfolding amongLanded
 landed-is count n v e = go (isLanded count n) refl
@@ -69,6 +73,7 @@ landed-none count n e = go (isLanded count n) refl
 
 -- ---- a volume
 
+-- 0 is unknown, up to the greatest it is known, above it is out of range
 pub volume-unknown : (n : ℕ) → n < 1 → unknown ≡ volumeOf n
 unfolding volumeOf
 volume-unknown n h = rw (eq-eqb n 0 (omega arith))

@@ -7,8 +7,6 @@ use Rattle.model.specs.Basics.{if_then_else_, maxVertices, maxVolume}
 use Rattle.counters.specs.declared.numbers.Vertex.{Vertex}
 use Rattle.counters.specs.declared.numbers.CheckedVertex.{CheckedVertex}
 use Rattle.counters.specs.declared.numbers.CheckedVertex.the-variants as vertex
-use Rattle.counters.specs.declared.numbers.CheckedEdge.{CheckedEdge}
-use Rattle.counters.specs.declared.numbers.CheckedEdge.the-variants as edge
 use Rattle.counters.specs.declared.numbers.CheckedLabel.{CheckedLabel}
 use Rattle.counters.specs.declared.numbers.CheckedLabel.the-variants as label
 use Rattle.counters.specs.declared.numbers.CheckedMillimetres.{CheckedMillimetres}
@@ -33,10 +31,6 @@ amongLanded count n = if isLanded count n then some n else none
 abbrev pub asVertex : CheckedVertex → Option ℕ
 asVertex (vertex.Is v) = some (v .0)
 asVertex vertex.OutOfRange = none
-
-abbrev pub asEdge : CheckedEdge → Option ℕ
-asEdge (edge.Is e) = some (e .0)
-asEdge edge.OutOfRange = none
 
 abbrev pub asLabel : CheckedLabel → Option ℕ
 asLabel (label.Is l) = some (l .0)

@@ -1,10 +1,11 @@
-// A fitting number, a tag, a length in millimetres and a volume in millilitres: four types, so that none stands where another is expected; and a pipe's number.
-// Each has its bounds, and a constructor that tests them, on a number that is wide enough to be out of them. What a list or a caller says
-// becomes one of them by such a constructor alone. What is read from a lent table is of the kind that the table holds (tables::kinds).
+// A fitting number, a tag, a length in millimetres and a volume in millilitres: four types, so that none stands where another is expected;
+// and a pipe's number. Each of the four has its bounds, and a constructor that tests them, on a number that is wide enough to be out of
+// them. What a list or a caller says becomes one of them by such a constructor alone. What is read from a lent table is of the kind that
+// the table holds (tables::kinds).
 ghost use mathlib.Core.Path.{_≡_};
 ghost use Prim.Native.Nat.{_-_, _^_};
-ghost use Rattle.counters.specs.Numbers.{within, amongLanded, volumeOf, asVertex, asEdge, asLabel, asMillimetres, asMillilitres};
-ghost use Rattle.model.specs.Basics.{maxVertices, maxEdges, maxLength};
+ghost use Rattle.counters.specs.Numbers.{within, amongLanded, volumeOf, asVertex, asLabel, asMillimetres, asMillilitres};
+ghost use Rattle.model.specs.Basics.{maxVertices, maxLength};
 
 // Document 01's fitting number, from 0.
 pub struct Vertex(pub u16);
@@ -44,28 +45,15 @@ impl Vertex {
     }
 }
 
-// Document 01's pipe number, from 0.
+// Document 01's pipe number, from 0. No list and no caller says one: it is the count of pipes,
+// which 23 has tested, a number below it, or read from a table; so it has no checked constructor.
 pub struct Edge(pub u16);
-
-pub enum CheckedEdge {
-    Is(Edge),
-    OutOfRange,
-}
 
 impl Edge {
     pub const MAX: u16 = 4095;
 
     // "At most 4,096 of each": a 4,097th is refused.
     pub const COUNT: u16 = Edge::MAX + 1;
-
-    pub fn new(n: u32) -> CheckedEdge
-        ensures { λ r. ⌜ asEdge r ≡ within 0 (maxEdges - 1) n ⌝ }
-    {
-        if n <= (Edge::MAX as u32) {
-            return CheckedEdge::Is(Edge(n as u16));
-        }
-        CheckedEdge::OutOfRange
-    }
 }
 
 // Document 01's tag, of 32 bits.

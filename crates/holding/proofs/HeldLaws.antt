@@ -161,6 +161,7 @@ held-replays t c r e =
     let h = only-held (stored t c) r e in
     rw (held-tables h, held-counts h) at (stored-replays r (h .reachable))
 
+-- where the replay leaves something else, no register is held
 pub replay-none : (t : Tables) (c : Counts) → leftBy (regrown t c) ≢ some (stored t c) → held (stored t c) ≡ none
 replay-none t c n = go (held (stored t c)) refl
   where

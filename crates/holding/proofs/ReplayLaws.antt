@@ -22,6 +22,7 @@ use Rattle.tables.proofs.SameLengths.{SameLengths}
 use Rattle.holding.specs.Replay.{replayIn, regrowIn, leftAs, leftBy, Regrows}
 
 module _ (es ls us : List ℕ) where
+  -- more vertices than there can be are refused; else all edges are landed, one after the other
   pub replay-full : (c : Counts) (t : Tables) → maxVertices < c .vertices → landingIn t (refusedIn 22) ≡ regrowIn es ls us c t
   unfolding regrowIn
   replay-full c t h = rw (lt-leb (c .vertices) maxVertices h)
@@ -67,6 +68,7 @@ module _ (es ls us : List ℕ) (n e i a b l u : ℕ) (t t′ : Tables) (c : Coun
   landed-own : (answer′ : AnswerIn) → answer ≡ answer′ → landingIn t′ answer′ ≡ landIn t c rings (edgeOf es ls us e)
   landed-own answer′ w = ap (landingIn t′) (sym w) ∙ lands ∙ ap (landIn t c rings) (own-edge es ls us e i a b l u at first second long holds)
 
+  -- an edge lands, and the next follows; or it is refused
   pub replay-on : (c′ : Counts) (rings′ : Bool) → answer ≡ done c′ rings′
       → replayIn es ls us n e t c rings ≡ replayIn es ls us (n - 1) (e + 1) t′ c′ rings′
   replay-on c′ rings′ w = replay-step-on es ls us e t t′ c rings n c′ rings′ more (landed-own (done c′ rings′) w)
@@ -76,10 +78,12 @@ module _ (es ls us : List ℕ) (n e i a b l u : ℕ) (t t′ : Tables) (c : Coun
 
 -- ---- the comparison
 
+-- the last of four counts decides
 pub counts-last : (a b : Counts) → a .vertices ≡ b .vertices → a .edges ≡ b .edges → a .blocks ≡ b .blocks
     → Tells (eqb (a .relabellings) (b .relabellings)) a b
 counts-last a b v e k = (λ h. counts-parts v e k (eqb-true _ _ h), λ h. eq-eqb _ _ (ap (λ (c : Counts). c .relabellings) h))
 
+-- an equality of what is stored, without the answer around it
 pub stored-is : (s s′ : Stored) → some s ≡ some s′ → s ≡ s′
 stored-is s s′ e = cc
 
@@ -95,6 +99,7 @@ module _ (own : Tables) (c : Counts) (t t′ : Tables) (answer : AnswerIn) (q : 
   regrows-not : (leftBy (regrowIn (own .ends) (own .lengths) (own .volumes) c t) ≡ some (stored own c) → ⊥) → Regrows false own c t
   regrows-not h = let n = differ (leftBy (regrowIn (own .ends) (own .lengths) (own .volumes) c t)) (some (stored own c)) h in record { if-true = n .0; true-if = n .1 }
 
+  -- a replay that was refused; counts that differ; counts that agree, and the tables decide
   pub regrows-refused : (x : ℕ) → answer ≡ refusedIn x → Regrows false own c t
   regrows-refused x w = regrows-not (λ e. none-some (stored own c) (sym (left-is (refusedIn x) w) ∙ e))
 
@@ -115,6 +120,7 @@ module _ (own : Tables) (c : Counts) (t t′ : Tables) (answer : AnswerIn) (q : 
         both : own ≡ t′ → some (stored t′ c′) ≡ some (stored own c)
         both e = rw (h, e)
 
+-- cleared tables of the same sizes are the same
 pub zeroed-again : {d s e l v t d′ s′ e′ l′ v′ t′ : List ℕ} → SameLengths d s e l v t d′ s′ e′ l′ v′ t′
     → zeroed (tables d′ s′ e′ l′ v′ t′) ≡ zeroed (tables d s e l v t)
 unfolding zeroed

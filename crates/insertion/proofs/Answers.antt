@@ -24,6 +24,7 @@ use Rattle.insertion.specs.Meaning.{asChecked}
 use Rattle.insertion.specs.declared.edges.Checked.{Checked}
 
 module _ (c : Counts) (rings : Bool) where
+  -- 22 where there are 4,096 vertices; else one more is counted
   pub vertex-full : maxVertices ≤ c .vertices → refusedIn 22 ≡ landVertexIn c rings
   unfolding landVertexIn
   vertex-full h = rw (le-leb maxVertices (c .vertices) h)
@@ -33,6 +34,7 @@ module _ (c : Counts) (rings : Bool) where
   unfolding landVertexIn
   vertex-more n h e = rw (lt-leb maxVertices (c .vertices) h, e)
 
+-- degrees, sides, labels, ends, length, volume and counts after an insertion are those of `insertIn`
 pub insert-done : (d s ends l u t d′ s′ t′ ends′ l′ u′ : List ℕ) (c : Counts) (rings ring after : Bool) (a b len volume da db blocks m edges n : ℕ) (k : Case)
     → da ≡ getD d a 0 → db ≡ getD d b 0 → k ≡ caseOf (classOf da) (classOf db)
     → placed d′ s′ t′ blocks m ring ≡ placeIn k d s ends t (c .blocks) a b (c .edges) rings → ends′ ≡ setPair ends (c .edges) a b
@@ -86,6 +88,7 @@ module _ (c : Counts) (a b n v : ℕ) where
   abbrev edge : Edge
   edge = record { first = a; second = b; len = n; volume = v }
 
+  -- an end that is not landed: 5, the first named or the second
   pub check-first : isLanded (c .vertices) a ≡ false → failed 5 ≡ checkIn c edge
   unfolding checkIn
   check-first h = rw h
@@ -95,11 +98,13 @@ module _ (c : Counts) (a b n v : ℕ) where
   check-second h g = rw (h, g)
 
   module _ (h : isLanded (c .vertices) a ≡ true) (g : isLanded (c .vertices) b ≡ true) where
+    -- the same vertex twice: 6
     pub check-same : a ≡ b → failed 6 ≡ checkIn c edge
     unfolding checkIn
     check-same e = rw (h, g, eq-eqb _ _ e)
 
     module _ (e : a ≡ b → ⊥) where
+      -- a length out of its bounds: 7
       pub check-length : none ≡ within 1 maxLength n → failed 7 ≡ checkIn c edge
       unfolding checkIn
       check-length l = rw (h, g, ne-eqb _ _ e, if-none (eqb n 0 || ltb maxLength n) n (l ∙ length-test n))
@@ -108,6 +113,7 @@ module _ (c : Counts) (a b n v : ℕ) where
         length-is : ((eqb n 0 || ltb maxLength n) ≡ false) × (m ≡ n)
         length-is = if-some (eqb n 0 || ltb maxLength n) m n (l ∙ length-test n)
 
+        -- a volume out of its bounds: 31
         pub check-volume : none ≡ storedVolume (volumeOf v) → failed 31 ≡ checkIn c edge
         unfolding checkIn
         check-volume w = rw (h, g, ne-eqb _ _ e, length-is .0, if-none (ltb maxVolume v) v (w ∙ volume-test v))
@@ -116,10 +122,12 @@ module _ (c : Counts) (a b n v : ℕ) where
           volume-is : (ltb maxVolume v ≡ false) × (u ≡ v)
           volume-is = if-some (ltb maxVolume v) u v (w ∙ volume-test v)
 
+          -- 4,096 edges: 23
           pub check-edges : maxEdges ≤ c .edges → failed 23 ≡ checkIn c edge
           unfolding checkIn
           check-edges o = rw (h, g, ne-eqb _ _ e, length-is .0, volume-is .0, le-leb _ _ o)
 
+          -- any other edge passes, with its numbers
           pub check-passed : (a′ b′ : ℕ) → a′ ≡ a → b′ ≡ b → c .edges < maxEdges → passed a′ b′ m u ≡ checkIn c edge
           unfolding checkIn
           check-passed a′ b′ x y o =

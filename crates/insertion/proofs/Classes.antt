@@ -10,6 +10,7 @@ use Rattle.insertion.specs.declared.cases.Class as declared
 use Rattle.insertion.specs.declared.cases.Class.the-variants.{Isolated, Leaf, Regular, Branch}
 use Rattle.insertion.proofs.cases.Class.{the-type}
 
+-- a degree other than 0, 1 and 2 is a branch's
 pub class-branch : (n : ℕ) → (n ≡ 0 → ⊥) → (n ≡ 1 → ⊥) → (n ≡ 2 → ⊥) → branch ≡ classOf n
 unfolding classOf
 class-branch zero a b c = absurd (a refl)

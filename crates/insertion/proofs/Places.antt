@@ -17,6 +17,7 @@ use Rattle.insertion.specs.declared.placing.Extension.the-variants.{Noth
 use Rattle.insertion.specs.declared.placing.Work.{Work}
 
 module _ (degrees s : List ℕ) (v e : ℕ) where
+  -- an isolated end gets the edge for its one side, any other is left
   pub meet-isolated : getD degrees v 0 ≡ 0 → setPair s v e 0 ≡ meetIn degrees s v e
   unfolding meetIn
   meet-isolated h = rw (eq-eqb _ _ h)
@@ -27,12 +28,14 @@ module _ (degrees s : List ℕ) (v e : ℕ) where
 
 -- both ends opened, and then a leaf's chain goes on
 module _ (degrees s ends l degrees′ s′ l′ : List ℕ) (blocks a b blocks′ m e : ℕ) (ring rings : Bool) (splits : Splits) where
+  -- the ends split, the edge come to both, the degrees raised: both ends are opened
   pub opened-law : (s₁ s₂ : List ℕ) → changed s₁ l′ blocks′ m ring ≡ splitEndsIn splits degrees s ends l blocks a b e rings
       → s₂ ≡ meetIn degrees s₁ a e → s′ ≡ meetIn degrees s₂ b e → degrees′ ≡ raiseBothIn degrees a b
       → placed degrees′ s′ l′ blocks′ m ring ≡ openedIn splits degrees s ends l blocks a b e rings
   unfolding openedIn
   opened-law s₁ s₂ h i j k = rw (← h, ← i, ← j, ← k)
 
+  -- no chain goes on, or that of the leaf x
   pub open-nothing : (extension : Extension) → extension ≡ Nothing
       → placed degrees′ s′ l′ blocks′ m ring ≡ openedIn splits degrees s ends l blocks a b e rings
       → placed degrees′ s′ l′ blocks′ m ring ≡ openIn splits extension degrees s ends l blocks a b e rings
@@ -46,6 +49,7 @@ module _ (degrees s ends l degrees′ s′ l′ : List ℕ) (blocks a b blocks�
   open-leaf extension x s₁ l₁ k₁ k m₁ ring₁ o h g z = rw (o, z .0, z .1, z .2, ← h, ← g)
 
 module _ (degrees s ends l degrees′ s′ l′ : List ℕ) (blocks a b blocks′ m e : ℕ) (ring : Bool) where
+  -- two chains merged, and the degrees raised
   pub merged-law : changed s′ l′ blocks′ m ring ≡ mergeIn degrees s ends l blocks a b e e → degrees′ ≡ raiseBothIn degrees a b
       → placed degrees′ s′ l′ blocks′ m ring ≡ mergedIn degrees s ends l blocks a b e
   unfolding mergedIn

@@ -16,10 +16,12 @@ use Rattle.labels.specs.Splitting.{bareIn, tapIn, splitBy, splitIn, left
 use Rattle.labels.specs.declared.splitting.Splits.{Splits}
 use Rattle.labels.specs.declared.splitting.Splits.the-variants.{Neither, One, Both}
 
+-- sides and label set to 0: a vertex is bared
 pub bare-law : (s l s′ l′ : List ℕ) (v : ℕ) → s′ ≡ setPair s v 0 0 → l′ ≡ set l v 0 → marksIn s′ l′ 0 ≡ bareIn s l v
 unfolding bareIn
 bare-law s l s′ l′ v h g = rw (h, g)
 
+-- the others of a ring labelled round from a new base on, and the vertex bared
 pub tap-law : (degrees s ends l s₁ l₁ s′ l′ : List ℕ) (v k others d u low n : ℕ) → (d ≡ lowerIn s v) × (u ≡ farIn ends d v) → low ≡ base k
     → marksIn s₁ l₁ n ≡ relabelIn degrees ends true others s l d u low → marksIn s′ l′ 0 ≡ bareIn s₁ l₁ v
     → marksIn s′ l′ n ≡ tapIn degrees s ends l v k others
@@ -27,6 +29,7 @@ unfolding tapIn
 tap-law degrees s ends l s₁ l₁ s′ l′ v k others d u low n h g i j = rw (← h .0, ← h .1, ← g, ← i, ← j)
 
 module _ (degrees s ends l s′ l′ : List ℕ) (blocks v w blocks′ m : ℕ) (ring : Bool) (round : Round) where
+  -- by what the ring test answered: no ring, a ring, a ring with the other end on it
   pub by-none : round ≡ NoRing → marksIn s′ l′ 0 ≡ bareIn s l v → (blocks′ ≡ blocks) × (m ≡ 0) × (ring ≡ false)
       → changed s′ l′ blocks′ m ring ≡ splitBy round degrees s ends l blocks v w
   by-none o g z = rw (o, z .0, z .1, z .2, ← g)
@@ -40,12 +43,14 @@ module _ (degrees s ends l s′ l′ : List ℕ) (blocks v w blocks′ m : ℕ) 
       → changed s′ l′ blocks′ m ring ≡ splitBy round degrees s ends l blocks v w
   by-shared l₁ others k n o i h g z = rw (o, z .0, z .1, z .2, ← i, ← h, ← g)
 
+-- the ring test, and the split that it says
 pub split-law : (degrees s ends l s′ l′ : List ℕ) (blocks v w fuel blocks′ m : ℕ) (ring : Bool) (round : Round) → round ≡ ringIn degrees s ends v w fuel
     → changed s′ l′ blocks′ m ring ≡ splitBy round degrees s ends l blocks v w
     → changed s′ l′ blocks′ m ring ≡ splitIn degrees s ends l blocks v w fuel
 unfolding splitIn
 split-law degrees s ends l s′ l′ blocks v w fuel blocks′ m ring round h g = rw (← h) g
 
+-- two ring tests, and the two splits that they say
 pub both-law : (degrees s ends l s₁ l₁ s₂ l₂ : List ℕ) (blocks a b fuel k₁ k₂ m₁ m₂ blocks′ m sum : ℕ) (ring₁ ring₂ ring : Bool) (first second left : Round)
     → first ≡ ringIn degrees s ends a b fuel → second ≡ ringIn degrees s ends b a fuel → left ≡ leftFor second
     → changed s₁ l₁ k₁ m₁ ring₁ ≡ splitBy first degrees s ends l blocks a b
@@ -75,6 +80,7 @@ module _ (degrees s ends l s′ l′ : List ℕ) (blocks a b fuel blocks′ m : 
 
   -- the ends of an edge
   module _ (splits : Splits) where
+    -- no end is split; one is; both are
     pub ends-neither : splits ≡ Neither → s′ ≡ s → l′ ≡ l → (blocks′ ≡ blocks) × (m ≡ 0) × (ring ≡ false)
         → changed s′ l′ blocks′ m ring ≡ splitEndsIn splits degrees s ends l blocks a b fuel rings
     ends-neither o g h z = rw (o, g, h, z .0, z .1, z .2)

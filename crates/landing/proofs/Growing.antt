@@ -18,6 +18,7 @@ empty-counts : countsOf empty ≡ noCounts
 unfolding computing
 empty-counts = refl
 
+-- growing from a list on cleared tables leaves what `growList` says
 pub list-leaves : (bs : List ℕ) → landListIn cleared noCounts bs ≡ shownRead (growList bs)
 unfolding growList
 list-leaves bs = rw (empty-tables, empty-counts) at (list-agrees empty bs reachable-empty)

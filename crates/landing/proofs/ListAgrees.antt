@@ -147,6 +147,7 @@ first-warns : (r : Register) → Warns (ltb 0 ((countsOf r) .edges)) (r .edges)
 unfolding countsOf
 first-warns r = warns-first (r .edges)
 
+-- landing a list on a register's tables leaves what `landList` says
 pub list-agrees : (r : Register) (bs : List ℕ) → Reachable r → landListIn (tablesOf r) (countsOf r) bs ≡ shownRead (landList r bs)
 unfolding landListIn landList headerAt
 list-agrees r bs g = go (headerRefusal bs) refl

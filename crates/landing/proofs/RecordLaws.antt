@@ -18,6 +18,7 @@ use Rattle.landing.specs.Records.{StepIn, ended, wentOn, stoppedIn, Step
 -- ---- one record
 
 module _ (t : Tables) (c : Counts) (rings : Bool) (d : RecordAt) where
+  -- one record: none is left, a vertex, an edge, one that cannot be read
   pub record-ends : ends ≡ d → steppedIn t ended ≡ landRecordIn t c rings d
   unfolding landRecordIn
   record-ends e = rw (← e)
@@ -45,6 +46,7 @@ steps-are : {x y : SteppedIn} → x ≡ y → x .step ≡ y .step
 steps-are e = ap (λ (s : SteppedIn). s .step) e
 
 module _ (bs : List ℕ) where
+  -- nothing left to read; the list's end; a stop; a record that lands, and on
   pub records-none : (n k : ℕ) (t : Tables) (c : Counts) (rings : Bool) (p : Place) → n ≤ 0 → readingIn t c whole ≡ landRecordsIn bs n k t c rings p
   unfolding landRecordsIn
   records-none zero k t c rings p h = refl
@@ -71,6 +73,7 @@ module _ (bs : List ℕ) where
 
 -- ---- the header
 
+-- behind a good header the records are landed; a bad one stops at record 0
 pub list-records : (t : Tables) (c : Counts) (bs : List ℕ) (p : Place) (d : ReadingIn) → good p ≡ headerAt bs
     → d ≡ landRecordsIn bs (length bs) 0 t c (ltb 0 (c .edges)) p → d ≡ landListIn t c bs
 unfolding landListIn

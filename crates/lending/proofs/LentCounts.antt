@@ -309,6 +309,7 @@ module _ {n : ℕ} (P : Single n) (Q : Single 0) where
         (λ κs. (mut-tells (named 0) (κs .0) T.the-row, (mut-slice-tells (named 1) (κs .1 .0) u16, (mut-slice-tells (named 2) (κs .1 .1 .0) u16, (mut-slice-tells (named 3) (κs .1 .1 .1 .0) u16, (mut-slice-tells (named 4) (κs .1 .1 .1 .1 .0) u32, (mut-slice-tells (named 5) (κs .1 .1 .1 .1 .1 .0) u32, (mut-slice-tells (named 6) (κs .1 .1 .1 .1 .1 .1 .0) u32, (mut-slice-tells (named 7) (κs .1 .1 .1 .1 .1 .1 .1 .0) u16, (mut-slice-tells (named 8) (κs .1 .1 .1 .1 .1 .1 .1 .1 .0) u16, (mut-slice-tells (named 9) (κs .1 .1 .1 .1 .1 .1 .1 .1 .1 .0) u16, (mut-slice-tells (named 10) (κs .1 .1 .1 .1 .1 .1 .1 .1 .1 .1 .0) u32, (mut-slice-tells (named 11) (κs .1 .1 .1 .1 .1 .1 .1 .1 .1 .1 .1 .0) u32, (mut-slice-tells (named 12) (κs .1 .1 .1 .1 .1 .1 .1 .1 .1 .1 .1 .1 .0) u32, (told .tells 13 (lastOf 13 n κs), tt)))))))))))))))
         (λ κs qs bounds a g are. via 𝓤 _ (fst∗ 𝓤 _ (emp 𝓤)) (walk 𝓤 H A W told answers D E κs qs bounds a f C Λ fm gives known are))
 
+  -- the function meets its contract, if the callee's gives it
   pub lent-meets : {M : Type 1} (𝓤 : URA M) (H : Heap 𝓤) (A : Atoms 𝓤) → Given 𝓤 H A → Told P → Told Q → (f : Name) (D : Ensures 𝓤 called) (E : Ensures 𝓤 thin) → Gives 𝓤 D E → (𝓣 : Tables 𝓤 H) → Triple 𝓤 (𝓣 .C f) (Callee 𝓤 H A D)
       → Meets 𝓤 H A (thin .signature) (WpFn 𝓤 H (𝓣 .C) (𝓣 .Λ) (function f)) (closing 𝓤 H A thin (clauses 𝓤 thin E))
   lent-meets 𝓤 H A W told answers f D E gives 𝓣 known =

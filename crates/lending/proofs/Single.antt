@@ -72,6 +72,7 @@ module _ (R : RattleType) where
       value = v;
     }
 
+    -- what a walk has to know of a type by value
     pub value-told : Tells R (Is R) (λ x. v x ∷ []) → ((x : R .Denot) (w : Val) → Is R x (w ∷ []) → T (hasTy τ w) × WT w) → Told byValue
     value-told tells typed = record { tells = λ k κs. tells; typed = λ k κs. typed }
 
@@ -86,6 +87,7 @@ module _ (R : RattleType) where
     value = λ x. sliceVal (ptr x) (length (now x));
   }
 
+  -- what a walk has to know of a shared slice
   pub shared-told : Told shared
   shared-told = record {
     tells = λ k κs. shr-slice-tells (named k) (κs .0) R;

@@ -9,6 +9,7 @@ use Rattle.counters.proofs.answers.ListAnswer as O
 use Rattle.counters.proofs.answers.ListAnswer.Laws as O′
 use Rattle.lending.proofs.Single.{Single, Told, byValue, value-told, shared}
 
+-- the bytes of a list; the answer to it, and what a walk has to know of that
 abbrev pub list : Single 1
 list = shared u8
 

@@ -11,6 +11,7 @@ use Rattle.model.specs.Format.{byteAt, u16At, hasMark, headerRefusal, versionOf
 use Rattle.list.specs.Reading.{good, badHeader, headerAt, place}
 
 module _ (bs : List ℕ) where
+  -- the mark: too few bytes, another first, another second, and the third decides
   pub mark-short : length bs < 3 → false ≡ hasMark bs
   unfolding hasMark
   mark-short h = rw (lt-leb 3 (length bs) h)
@@ -27,6 +28,7 @@ module _ (bs : List ℕ) where
   unfolding hasMark byteAt
   mark-third l a b = rw (le-leb 3 (length bs) l, eq-eqb _ _ a, eq-eqb _ _ b)
 
+  -- no mark: 1; cut within the version: 3; neither version: 2
   pub header-mark : hasMark bs ≡ false → badHeader 1 ≡ headerAt bs
   unfolding headerAt headerRefusal
   header-mark h = rw (h, headerAt)
@@ -47,6 +49,7 @@ module _ (bs : List ℕ) where
         let w : (eqb (versionOf bs) 1 || eqb (versionOf bs) 2) ≡ true = rw is at v in
         rw (h, le-ltb _ _ l, w, headerAt) (ap (λ (n : ℕ). good (place 5 n)) is)
 
+-- 1 is a version, and 2 is
 pub first-version : (version : ℕ) → version ≡ 1 → (eqb version 1 || eqb version 2) ≡ true
 first-version version e = rw (eq-eqb version 1 e)
 

@@ -23,6 +23,7 @@ u32-behind bs i k n e = rw (u16-behind bs i k n e, u16-behind bs i (k + 2) (n + 
 
 -- ---- the bytes of an edge, and its volume
 
+-- 13 bytes in version 2, else 9
 pub size-known : (version : ℕ) → version ≡ 2 → 13 ≡ 1 + edgeBody version
 unfolding edgeBody
 size-known version h = rw (eq-eqb version 2 h)
@@ -35,6 +36,7 @@ pub body-known : (version : ℕ) → version ≡ 2 → edgeBody version ≡ 12
 unfolding edgeBody
 body-known version h = rw (eq-eqb version 2 h)
 
+-- a volume is read in version 2, else it is 0
 pub volume-known : (bs : List ℕ) (version i v : ℕ) → version ≡ 2 → v ≡ u32At bs (i + 8) → v ≡ volumeIn version (drop i bs)
 unfolding volumeIn
 volume-known bs version i v h e = rw (eq-eqb version 2 h, u32-behind bs i 8 (i + 8) refl) e
@@ -50,6 +52,7 @@ module _ (bs : List ℕ) (version i : ℕ) where
   unfolding recordAt
   at-record l = rw (drop-cons bs i 0 l)
 
+  -- the list's end; a vertex; a kind that is neither: 4; an edge that is cut: 3; an edge
   pub record-end : length bs ≤ i → ends ≡ recordAt bs (place i version)
   unfolding recordAt recordOf
   record-end l = rw (drop-of-length-le bs l)

@@ -20,6 +20,7 @@ use Rattle.list.specs.Writing.{listIn, recordsIn}
 module _ (ends lengths volumes : List ℕ) where
   -- ---- the edges, one after the other
 
+  -- the records of edges, one behind the other
   pub edge-pieces : Pieces (recordsIn ends lengths volumes)
   unfolding recordsIn edgeRecords
   edge-pieces =
@@ -28,6 +29,7 @@ module _ (ends lengths volumes : List ℕ) where
         first = λ d ds. ap (λ (bs : List ℕ). bs ++ recordsIn ends lengths volumes ds) (sym (append-nil (edgeBytes (storedEdge (tables [] [] ends lengths volumes []) d))));
       }
 
+  -- the record of one edge, by the numbers read from the tables
   pub one-edge : (d a b l v : ℕ) (p q : Page) → a ≡ getD ends (2 * d) 0 → b ≡ getD ends (2 * d + 1) 0 → l ≡ getD lengths d 0 → v ≡ getD volumes d 0
       → q ≡ write (edgeBytes (record { first = a; second = b; len = l; volume = v })) p → q ≡ write (recordsIn ends lengths volumes (d ∷ [])) p
   unfolding recordsIn edgeRecords storedEdge
@@ -36,6 +38,7 @@ module _ (ends lengths volumes : List ℕ) where
   module _ (c : Counts) where
     -- ---- the list, part by part
 
+    -- header, vertices and edges are the list
     pub list-parts : (p q r s : Page) → q ≡ write header p → r ≡ write (replicate (c .vertices) 0x46) q
         → s ≡ write (recordsIn ends lengths volumes (upTo (c .edges))) r → s ≡ write (listIn ends lengths volumes c) p
     unfolding listIn
@@ -50,6 +53,7 @@ module _ (ends lengths volumes : List ℕ) where
     unfolding storedEdges
     length-edges t n = length-map (upTo n) (storedEdge t) ∙ length-upTo n
 
+    -- it has 5 bytes, one for each vertex and 13 for each edge
     pub list-bytes : length (listIn ends lengths volumes c) ≡ 5 + c .vertices + 13 * c .edges
     list-bytes =
         let t = tables [] [] ends lengths volumes [] in
@@ -61,5 +65,6 @@ list-of : (r : Register) → listOf ((countsOf r) .vertices) (storedEdges (table
 unfolding countsOf written
 list-of r = ap (listOf (r .vertices)) (edges-read r)
 
+-- over the tables of a register it is the list that is written of it
 pub list-written : (r : Register) (t : Tables) (c : Counts) → t ≡ tablesOf r → c ≡ countsOf r → listIn (t .ends) (t .lengths) (t .volumes) c ≡ written r
 list-written r t c e f = list-is (t .ends) (t .lengths) (t .volumes) c (t .degrees) (t .sides) (t .labels) ∙ rw (e, f) (list-of r)

@@ -15,6 +15,7 @@ use Rattle.text.proofs.Decimal.{Small, decimal-length, line-length}
 use Rattle.text.proofs.LineLaws.{stop-length}
 use Rattle.listing.specs.Listing.{fieldBytes, rowBytes, stopBytes}
 
+-- the lines of rows are those of one row after the other
 pub row-lines : RowByRow rowLine rowLines
 unfolding rowLines
 row-lines = record { none = refl; first = λ row rows. refl }
@@ -50,6 +51,7 @@ row-length a b c d e v s =
       length-append (spaced (a ∷ b ∷ c ∷ d ∷ e ∷ [])) (32 ∷ (volumeText v ++ (10 ∷ []))),
     )
 
+-- at most so many bytes
 pub row-at : (a b c d e v : ℕ) (p q : Page) → Small (a ∷ b ∷ c ∷ d ∷ e ∷ v ∷ []) → q ≡ write (rowLine (a ∷ b ∷ c ∷ d ∷ e ∷ v ∷ [])) p → q .at ≤ p .at + rowBytes
 row-at a b c d e v p q s w =
     let at : q .at ≡ (write (rowLine (a ∷ b ∷ c ∷ d ∷ e ∷ v ∷ [])) p) .at = ap (λ (x : Page). x .at) w in

@@ -48,6 +48,7 @@ page-holds xs ys out q e l f =
     let front : take (q .at) (q .slice) ≡ xs = rw e (w .front) in
     ((omega arith, sym (length-take-le (q .at) (q .slice) (omega arith))), front ∙ f)
 
+-- a list that is too long: that alone is printed
 pub too-long : (bs out word : List ℕ) (q : Page) → 65536 < length bs → roomBytes ≤ length out → word ≡ ascii "too long\n" → q ≡ write word (page out 0)
     → Counted (q .at) (q .slice) × (take (q .at) (q .slice) ≡ printed bs)
 unfolding printed ascii

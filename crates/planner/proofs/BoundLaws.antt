@@ -32,6 +32,7 @@ minute-out flow minute ws h = rw (lt-ltb 10079 minute h) (go (ltb flow 1) (ltb m
     go false false = refl
 
 module _ (flow minute : ℕ) (xs : List ℕ) where
+  -- a flow of 0, one above the greatest, a minute past the week; else the number of windows decides
   pub flow-low : flow < 1 → true ≡ outOfBounds flow minute (windowsIn xs)
   unfolding outOfBounds
   flow-low h = rw (lt-ltb flow 1 h)

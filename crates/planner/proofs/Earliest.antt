@@ -36,6 +36,7 @@ module _ (ws : List Window) (n minute : ℕ) (o : ordered 0 ws ≡ true) (l : 1 
         least = λ j a h. possible-next j (f .least j (omega arith) (omega arith)) ∙ next-before j (omega (arith, f .in-week));
       }
 
+  -- a minute of this week is the earliest
   pub earliest-this : (m : ℕ) → firstIn n minute ws ≡ some m → some m ≡ earliest ws n minute
   unfolding earliest
   earliest-this m e = sym (first-is (possibleAt ws n) (2 * week - minute) minute m (first-this m (some-first 0 n 0 minute ws m o e)))
@@ -55,6 +56,7 @@ module _ (ws : List Window) (n minute : ℕ) (o : ordered 0 ws ≡ true) (l : 1 
           least = λ j a h. possible-next j (none-first 0 n minute ws nothing j (omega arith)) ∙ next-from m f j h (decLt j week);
         }
 
+    -- without one, a minute of the next week is
     pub earliest-next : (m : ℕ) → firstIn n 0 ws ≡ some m → some (week + m) ≡ earliest ws n minute
     unfolding earliest
     earliest-next m e = sym (first-is (possibleAt ws n) (2 * week - minute) minute (week + m) (first-next m (some-first week n 0 0 ws m o e)))
@@ -63,6 +65,7 @@ module _ (ws : List Window) (n minute : ℕ) (o : ordered 0 ws ≡ true) (l : 1 
     never-from e j (yes a) = next-before j a
     never-from e j (no a) = none-first week n 0 ws e j (omega arith)
 
+    -- without either there is none
     pub earliest-never : firstIn n 0 ws ≡ none → none ≡ earliest ws n minute
     unfolding earliest
     earliest-never e =

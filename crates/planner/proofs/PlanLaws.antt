@@ -18,6 +18,7 @@ use Rattle.planner.proofs.Earliest.{earliest-this, earliest-next, earli
 
 -- ---- a week
 
+-- a minute found in a week is counted from the week's start; none stays none
 pub from-at : (start n from : ℕ) (ws : List Window) (m : ℕ) → some m ≡ firstIn n from ws → some (start + m) ≡ firstFrom start n from ws
 unfolding firstFrom
 from-at start n from ws m e = rw (← e, shifted)
@@ -33,6 +34,7 @@ from-fits n from ws m o e = let f : FirstOfWeek 0 n from ws m = some-first 0 n 0
 -- ---- this week, then the next
 
 module _ (ws : List Window) (n given : ℕ) (o : ordered 0 ws ≡ true) (l : 1 ≤ n) (b : given < week) where
+  -- this week's first minute is the earliest; without one, the next week decides
   pub this-is-earliest : (m : ℕ) → firstFrom 0 n given ws ≡ some m → some m ≡ earliest ws n given
   unfolding firstFrom
   this-is-earliest m e = go (firstIn n given ws) refl
@@ -56,19 +58,23 @@ module _ (ws : List Window) (n given : ℕ) (o : ordered 0 ws ≡ true) (l : 1 �
 -- ---- the call
 
 module _ (volume flow minute : ℕ) (ws : List Window) where
+  -- out of bounds: 34
   pub plan-34 : outOfBounds flow minute ws ≡ true → refuses 34 ≡ plan volume flow minute ws
   unfolding plan
   plan-34 e = rw e
 
   module _ (e : outOfBounds flow minute ws ≡ false) where
+    -- windows out of order: 35
     pub plan-35 : ordered 0 ws ≡ false → refuses 35 ≡ plan volume flow minute ws
     unfolding plan
     plan-35 o = rw (e, o)
 
+    -- a volume of 0: unknown
     pub plan-unknown : ordered 0 ws ≡ true → volume ≡ 0 → unknown ≡ plan volume flow minute ws
     unfolding plan
     plan-unknown o h = rw (e, o, eq-eqb _ _ h)
 
+    -- any other: the earliest minute, or none
     pub plan-found : (n : ℕ) (r : Reply) → ordered 0 ws ≡ true → (volume ≡ 0 → ⊥) → n ≡ transit volume flow → r ≡ replyOf (earliest ws n minute)
         → r ≡ plan volume flow minute ws
     unfolding plan
@@ -85,6 +91,7 @@ neither : (a b : Bool) → (a || b) ≡ false → (a ≡ false) × (b ≡ false)
 neither true b e = absurd (let z : _≡_ {A = ℕ} 0 1 = cc in omega arith)
 neither false b e = (refl, e)
 
+-- what is not out of bounds is within all of them
 pub bounds : (flow minute : ℕ) (ws : List Window) → outOfBounds flow minute ws ≡ false → Bounds flow minute ws
 unfolding outOfBounds
 bounds flow minute ws e =

@@ -25,6 +25,7 @@ by-difference b n e l h = go (decLe (b + n) e)
     go (yes k) = rw (lt-ltb (n - 1) (e - b) (omega arith), le-leb (b + n) e k)
     go (no k) = rw (le-ltb (n - 1) (e - b) (omega arith), lt-leb (b + n) e (omega arith))
 
+-- no window is left, or a last number alone, in which nothing fits
 pub first-end : (n from : ℕ) (xs : List ℕ) (i : ℕ) → length xs ≤ i → none ≡ firstIn n from (windowsIn (drop i xs))
 unfolding firstIn
 first-end n from xs i h = rw (none-left xs i h)
@@ -34,6 +35,7 @@ unfolding firstIn
 first-cut n from xs i l h e = rw (one-number-left xs i h e, lt-leb (max (getD xs i 0) from + n) 0 (omega arith), firstIn)
 
 module _ (n from : ℕ) (xs : List ℕ) (i b : ℕ) (h : i + 1 < length xs) (e : b ≡ max (getD xs i 0) from) where
+  -- the transit fits in the next window, or is tried in those behind it
   pub first-here : true ≡ leb (b + n) (getD xs (i + 1) 0) → some b ≡ firstIn n from (windowsIn (drop i xs))
   unfolding firstIn
   first-here t = rw (window-left xs i h, ← e, ← t, firstIn) (ap some e)
@@ -54,6 +56,7 @@ module _ (n from : ℕ) (w : Window) (ws : List Window) where
   first-on e = rw (e, firstIn)
 
 module _ (base n : ℕ) where
+  -- a transit that begins and ends within a window lies inside it
   pub inside-yes : (w : Window) (m : ℕ) → base + w .start ≤ m → m + n ≤ base + w .end → inside base n m w ≡ true
   unfolding inside
   inside-yes w m a b = rw (le-leb (base + w .start) m a, le-leb (m + n) (base + w .end) b)
@@ -97,6 +100,7 @@ module _ (base n : ℕ) where
     pub lies : insideOne base n (base + m) ws ≡ true
     pub least : (j : ℕ) → base + from ≤ j → j < base + m → insideOne base n j ws ≡ false
 
+  -- a minute that is found is the first
   pub some-first : (p from : ℕ) (ws : List Window) (m : ℕ) → ordered p ws ≡ true → firstIn n from ws ≡ some m → FirstOfWeek from ws m
   unfolding firstIn
   some-first p from [] m o e = absurd (Option·some-ne-none m (sym e))
@@ -124,6 +128,7 @@ module _ (base n : ℕ) where
             least = λ j a b. one-there w ws j (too-little from w j l a) ∙ r .least j a b;
           }
 
+  -- where none is found, no window has the transit
   pub none-first : (from : ℕ) (ws : List Window) → firstIn n from ws ≡ none → (j : ℕ) → base + from ≤ j → insideOne base n j ws ≡ false
   unfolding insideOne
   none-first from [] e j a = refl

@@ -20,6 +20,7 @@ unfolding bytesOf bytes4
 bytesOf-length [] = refl
 bytesOf-length (n ∷ ns) = omega (arith, bytesOf-length ns)
 
+-- the bytes of joined lists, and of one number
 pub bytesOf-append : (ms ns : List ℕ) → bytesOf (ms ++ ns) ≡ bytesOf ms ++ bytesOf ns
 unfolding bytesOf
 bytesOf-append [] ns = refl
@@ -37,6 +38,7 @@ word-one n p q e = rw append-nil e
 -- ---- the slice
 
 module _ (slice ns : List ℕ) (k : ℕ) (n : k ≡ 4 * length ns) where
+  -- too short a slice: 9, and nothing is written; else the bytes, and how many
   pub numbers-short : (v : ℤ) → length slice < k → v ≡ negℤ (pos 9) → returned slice v ≡ returnsNumbers slice ns
   unfolding returnsNumbers returnsRefusal
   numbers-short v h e =

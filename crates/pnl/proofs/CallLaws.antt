@@ -40,6 +40,7 @@ module _ (bs : List ℕ) (t : Tables) (c : Counts) (s : Stop) (e : readingIn t c
   unfolding storedOf
   left-register = record { reachable = reachable-grown bs; stored-is = ap (λ (d : ReadingIn). stored (d .tables) (d .counts)) left }
 
+  -- a list that stops: its refusal, and nothing is written
   pub call-stops : (question : Register → Reply) (slice : List ℕ) (k x : ℕ) (v : ℤ) → s ≡ stopped k x → v ≡ negℤ (pos x) → returned slice v ≡ fromC question bs slice
   unfolding fromC returnsRefusal
   call-stops question slice k x v f g = rw (sym left-stop ∙ f, fromC, g)
@@ -48,6 +49,7 @@ module _ (bs : List ℕ) (t : Tables) (c : Counts) (s : Stop) (e : readingIn t c
   pub call-measurable : Measurable (t .ends) (t .lengths) c
   call-measurable = measurable left-register
 
+  -- a list that lands: what the question answers on its register
   pub call-answers : (question : Register → Reply) (slice : List ℕ) (z : Returned) → s ≡ whole
       → ((r : Register) → HeldOf (stored t c) r → z ≡ returnsReply r slice (question r)) → z ≡ fromC question bs slice
   unfolding fromC
@@ -56,6 +58,7 @@ module _ (bs : List ℕ) (t : Tables) (c : Counts) (s : Stop) (e : readingIn t c
 -- ---- the queries
 
 module _ (d s e l u lb : List ℕ) (c : Counts) (r : Register) (h : HeldOf (stored (tables d s e l u lb) c) r) (slice : List ℕ) (z : Returned) where
+  -- what is put over the tables of a register is what the question answers
   pub sheet-question : z ≡ returnsNumbers slice (concat (sheetOver (tables d s e l u lb) (c .edges) maxEdges)) → z ≡ returnsReply r slice (listed (length (sheet r)))
   unfolding returnsReply sheetNumbers
   sheet-question p =

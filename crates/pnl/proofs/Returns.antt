@@ -56,8 +56,10 @@ module _ (x : Refusal) (n : ℕ) (e : n ≡ numberOf x) where
 pub value-kept : {v : ℤ} → mag v < 2147483648 → toZ w32 (ofZ w32 v) ≡ v
 value-kept h = toZ-ofZ (record { sfits = h })
 
+-- the value of an inner call is read back as it was
 pub handed : {s : List ℕ} {v : ℤ} {z : Returned} → mag v < 2147483648 → returned s v ≡ z → returned s (toZ w32 (ofZ w32 v)) ≡ z
 handed {s} h e = ap (returned s) (value-kept h) ∙ e
 
+-- a count of answer bytes is read back as it is
 pub count-is : (n : ℕ) → n ≤ 1572840 → toZ w32 n ≡ pos n
 count-is n h = toZ-pos w32 {n = n} (omega arith)

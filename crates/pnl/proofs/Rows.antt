@@ -17,6 +17,7 @@ use Rattle.text.specs.Pages.{page, write}
 use Rattle.pnl.specs.FromC.{returned}
 use Rattle.pnl.proofs.Bytes.{bytesOf-append, numbers-short, numbers-fit}
 
+-- the bytes of rows are those of one row after the other
 pub row-bytes : RowByRow bytesOf (λ rows. bytesOf (concat rows))
 unfolding concat bytesOf
 row-bytes = record { none = refl; first = λ row rows. bytesOf-append row (concat rows) }
@@ -34,6 +35,7 @@ module _ (ds ss es ls vs : List ℕ) (n : ℕ) (ms slice : List ℕ) (fits : Boo
   unfolding chains
   size = omega (arith, sheet-size ds ss es ls vs n ms)
 
+  -- too short a slice: 9; else all rows, and how many bytes
   pub sheet-short : (v : ℤ) → fits ≡ false → v ≡ negℤ (pos 9) → returned slice v ≡ returnsNumbers slice (concat (sheetIn ds ss es ls vs n ms))
   unfolding chains
   sheet-short v h e =

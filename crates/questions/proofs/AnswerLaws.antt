@@ -59,6 +59,7 @@ numbers-are : (r : Register) → concat (sheet r) ≡ sheetNumbers r
 unfolding sheetNumbers
 numbers-are r = refl
 
+-- the sheet put over the tables of a register is answered
 pub sheet-answers : (t : Tables) (c : Counts) (m n : ℕ) (counting marks xs ys : List ℕ) (a : Reply) → maxEdges ≤ m → maxEdges ≤ n
     → counting ≡ replicate m 0 → marks ≡ replicate n 0 → answered ys a ≡ sheetedIn t c counting marks xs → Answers (sheets xs) t c ys a
 unfolding effect answer fills sheetedIn

@@ -16,6 +16,7 @@ use Rattle.questions.specs.Measure.{measureIn}
 use Rattle.questions.proofs.Answers.{Answers}
 
 module _ (t : Tables) (c : Counts) (v w : ℕ) where
+  -- a vertex that is not landed: 5; else the distance over the tables' edges
   pub measure-first : c .vertices ≤ v → refuses 5 ≡ measureIn t c v w
   unfolding measureIn
   measure-first h = rw (le-ltb v (c .vertices) h)
@@ -28,10 +29,12 @@ module _ (t : Tables) (c : Counts) (v w : ℕ) where
   unfolding measureIn
   measure-landed d h k q = rw (lt-ltb v (c .vertices) h, lt-ltb w (c .vertices) k, q)
 
+-- over a register's tables that is what `measure` says
 pub measure-agrees : (r : Register) (v w : ℕ) → measureIn (tablesOf r) (countsOf r) v w ≡ measure r v w
 unfolding measureIn measure countsOf
 measure-agrees r v w = rw (edges-read r)
 
+-- a measurement over the tables of a register is answered
 pub measure-answers : (t : Tables) (c : Counts) (v w : ℕ) (a : Reply) → a ≡ measureIn t c v w → Answers (measures v w) t c [] a
 unfolding effect answer answers
 measure-answers t c v w a q r k =

@@ -31,6 +31,7 @@ searchable r k =
       long = λ d l. omega (arith, length-read r d l, kept .lawful d l .some-length);
     }
 
+-- tables that hold a register can be searched for a distance
 pub measurable : {s : Stored} {r : Register} → HeldOf s r → Measurable (s .tables .ends) (s .tables .lengths) (s .counts)
 unfolding storedOf countsOf
 measurable {r = r} h = rw (h .stored-is) (searchable r (h .reachable), founded r (h .reachable) .few)

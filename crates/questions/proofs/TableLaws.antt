@@ -66,6 +66,7 @@ module _ (t : Tables) (c : Counts) where
     chains : ℕ
     chains = length (namesIn (t .degrees) (t .sides) (t .ends) (c .edges) counting)
 
+    -- too short a slice: 9; else all rows, and how many
     pub sheet-short : fits ≡ false → answered xs (refuses 9) ≡ sheetedIn t c counting marks xs
     unfolding sheetedIn chains
     sheet-short h =

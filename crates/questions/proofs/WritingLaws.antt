@@ -22,6 +22,7 @@ module _ (ends lengths volumes : List ℕ) (c : Counts) (xs : List ℕ) (k : ℕ
   long : length (listIn ends lengths volumes c) ≡ 5 + c .vertices + 13 * c .edges
   long = list-bytes ends lengths volumes c
 
+  -- too short a slice: 9; else the list, and how many bytes
   pub write-short : length xs < k → answered xs (refuses 9) ≡ writtenIn ends lengths volumes c xs
   unfolding writtenIn fills
   write-short h =
@@ -36,6 +37,7 @@ module _ (ends lengths volumes : List ℕ) (c : Counts) (xs : List ℕ) (k : ℕ
       let l : length bs ≤ length xs = omega (arith, long) in
       rw (le-ltb (length xs) (length bs) l, long, ← size, write-front bs xs ys at l e)
 
+-- the list put over the tables of a register is answered
 pub write-answers : (d s e l v labels : List ℕ) (c : Counts) (xs ys : List ℕ) (a : Reply) → answered ys a ≡ writtenIn e l v c xs
     → Answers (writes xs) (tables d s e l v labels) c ys a
 unfolding effect answer writtenIn

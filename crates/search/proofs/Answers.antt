@@ -26,6 +26,7 @@ pub filled-more : (distances distances′ : List ℕ) (i v : ℕ) → i < length
 filled-more distances distances′ i v l q f =
     rw q (below-more _ i (λ k b. getD-set-other distances i k v 0 (λ z. omega arith) ∙ f k b) (getD-set-same distances i v 0 l))
 
+-- a table with `unreached` everywhere and 0 at the goal is how a search starts
 pub filled-but : (distances distances′ : List ℕ) (goal i : ℕ) → goal < length distances → distances′ ≡ set distances goal 0 → length distances ≤ i
     → ((k : ℕ) → k < i → getD distances k 0 ≡ unreached) → Started distances′ goal
 filled-but distances distances′ goal i l q b f =
@@ -35,6 +36,7 @@ filled-but distances distances′ goal i l q b f =
     })
 
 module _ (ends lengths : List ℕ) (m goal : ℕ) where
+  -- the distances at the start are grounded
   pub started : {n : ℕ} (distances : List ℕ) → Searchable ends lengths m → maxVertices ≤ n → length distances ≡ n → Started distances goal
       → Grounded ends lengths m goal distances
   started distances h b k s = record {

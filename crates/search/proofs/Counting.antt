@@ -37,6 +37,7 @@ unfoldable pub belows : List ℕ → ℕ → ℕ → ℕ
 belows distances zero x = 0
 belows distances (suc n) x = belows distances n x + one (ltb (getD distances n 0) x)
 
+-- at most all vertices have a distance below x
 pub belows-le : (distances : List ℕ) (n x : ℕ) → belows distances n x ≤ n
 unfolding belows
 belows-le distances zero x = omega arith

@@ -13,6 +13,7 @@ use Rattle.tables.specs.Meaning.{tables}
 use Rattle.tables.specs.Steps.{edgeOf, edgesOf}
 use Rattle.search.specs.Search.{Searchable}
 
+-- the tables have m edges, each at its number
 pub edges-length : (ends lengths : List ℕ) (m : ℕ) → length (edgesOf ends lengths [] m) ≡ m
 unfolding storedEdges
 edges-length ends lengths m = length-map (upTo m) (edgeOf ends lengths []) ∙ length-upTo m
@@ -33,11 +34,13 @@ only-these degrees sides ends lengths volumes labels (d ∷ ds) v w =
     let b = getD ends (2 * d + 1) 0 in
     rw (same v w, same v a, same b w, same v b, same a w)
 
+-- a distance over the stored edges is one over ends and lengths alone
 pub distance-only : (degrees sides ends lengths volumes labels : List ℕ) (m v w : ℕ)
     → distance (storedEdges (tables degrees sides ends lengths volumes labels) m) v w ≡ distance (edgesOf ends lengths [] m) v w
 unfolding storedEdges
 distance-only degrees sides ends lengths volumes labels m v w = only-these degrees sides ends lengths volumes labels (upTo m) v w
 
+-- both ends of an edge that can be searched are vertices
 pub ends-below : {ends lengths : List ℕ} {m e v u : ℕ} → Searchable ends lengths m → e < m → Joins (edgeOf ends lengths [] e) v u → (v < maxVertices) × (u < maxVertices)
 unfolding storedEdge
 ends-below {e = e} h l (forth p q) = (rw (← p) (h .firsts e l), rw (← q) (h .seconds e l))

@@ -17,6 +17,7 @@ use Rattle.search.proofs.Edges.{ends-below}
 pub still-long : (ends lengths distances : List ℕ) (best e len : ℕ) → len ≡ getD lengths e 0 → best ≤ len → Still ends lengths distances best e
 still-long ends lengths distances best e len p q = record { first = omega arith; second = omega arith }
 
+-- an edge that would lower no distance below `best` is still
 pub still-of : (ends lengths distances : List ℕ) (best e a b len da db s : ℕ) → a ≡ getD ends (2 * e) 0 → b ≡ getD ends (2 * e + 1) 0 → len ≡ getD lengths e 0
     → da ≡ getD distances a 0 → db ≡ getD distances b 0 → s ≡ min da db + len → min best (max da db) ≤ s → Still ends lengths distances best e
 still-of ends lengths distances best e a b len da db s p q r t u w x =
@@ -40,6 +41,7 @@ store-le l i v k h g = go (ℕ-discrete k i)
     go (yes e) = rw e (rw (getD-set-same l i v 0 h) g)
     go (no e) = omega (arith, getD-set-other l i k v 0 e)
 
+-- distances that are not changed keep what they are grounded on; so do two changes, one after the other
 pub keeps-same : {ends lengths : List ℕ} {m : ℕ} {distances : List ℕ} → Bounded ends lengths m distances → Keeps ends lengths m distances distances
 keeps-same b = record { bounded = b; grounded = λ goal g. g }
 
@@ -54,6 +56,7 @@ end-vertex {ends} {lengths} {m} h k l = go (ℕ-discrete k (2 * (k / 2)))
     go (yes p) = rw p (h .firsts (k / 2) (omega arith))
     go (no p) = let q : k ≡ 2 * (k / 2) + 1 = omega arith in rw q (h .seconds (k / 2) (omega arith))
 
+-- an end of an edge has a place in the distances
 pub end-room : {ends lengths : List ℕ} {m : ℕ} {distances : List ℕ} → Bounded ends lengths m distances → (k x : ℕ) → k < 2 * m → x ≡ getD ends k 0 → x < length distances
 end-room b k x l e = omega (arith, end-vertex (b .searchable) k l, b .room)
 
@@ -73,6 +76,7 @@ joins-far ends lengths j half p a = go (ℕ-discrete j (2 * half))
         forth (ap (λ (k : ℕ). getD ends k 0) far) (ap (λ (k : ℕ). getD ends k 0) near)
 
 module _ (ends lengths : List ℕ) (m : ℕ) (distances : List ℕ) (b : Bounded ends lengths m distances) where
+  -- the ends of an edge are within the tables
   pub within : (e : ℕ) → e < m → Within ends lengths distances e
   within e l =
       let h = b .searchable in
@@ -113,6 +117,7 @@ module _ (ends lengths : List ℕ) (m : ℕ) (distances : List ℕ) (b : Bounded
               again (is-goal q′) = is-goal q′
               again (over e′ u′ l′ j′ c′) = over e′ u′ l′ j′ (omega (arith, less u′, other))
 
+  -- trying an edge keeps the distances grounded
   pub relaxed-keeps : (distances′ : List ℕ) (best e r : ℕ) → e < m → Relaxed ends lengths distances distances′ best e r → Keeps ends lengths m distances distances′
   relaxed-keeps distances′ best e r l (rests p q s) = rw q (keeps-same b)
   relaxed-keeps distances′ best e r l (lowers u j c q) = rw q (keeps-set e r u (getD lengths e 0 + getD distances u 0) l j refl c)

@@ -27,6 +27,7 @@ pub record SoFar (ends lengths : List ℕ) (m : ℕ) (distances₀ distances : L
   pub still : changes ≡ 0 → (k : ℕ) → k < e → Still ends lengths distances₀ best k
 
 module _ (ends lengths : List ℕ) (m : ℕ) where
+  -- a round so far: at the start, one edge further, at the end
   pub so-far-none : (distances : List ℕ) (best : ℕ) → Bounded ends lengths m distances → SoFar ends lengths m distances distances best 0 0
   so-far-none distances best b = record {
     keeps = keeps-same b;
@@ -70,6 +71,7 @@ module _ (ends lengths : List ℕ) (m : ℕ) where
     still = λ z k b. f .still z k (omega arith);
   }
 
+  -- a round that changes nothing settles the distances
   pub round-settled : (from : ℕ) (distances₀ distances distances′ : List ℕ) (best changes : ℕ) → Keeps ends lengths m distances₀ distances
       → best ≡ getD distances from 0 → changes ≡ 0 → Round ends lengths m distances distances′ best changes → Settled ends lengths m from distances₀ distances′
   round-settled from distances₀ distances distances′ best changes k q z r = record {

@@ -70,6 +70,7 @@ module _ (ends lengths : List ℕ) (m goal from : ℕ) (distances : List ℕ) (g
       let i = lower w q in
       omega (arith, len-at e l′)
 
+  -- a settled distance is the least length of a way
   pub settled-joined : from < maxVertices → getD distances from 0 < unreached → Least (λ (d : ℕ). Way (edgesOf ends lengths [] m) from goal d) (getD distances from 0)
   settled-joined l r = record {
     holds = attained (suc (getD distances from 0)) from l (omega arith) (omega arith) r;
@@ -109,5 +110,6 @@ module _ (ends lengths : List ℕ) (m goal from : ℕ) (distances : List ℕ) (g
       let x = g .bounded .searchable .short e k′ in
       (ends-below (g .bounded .searchable) k′ j′ .0, omega arith)
 
+  -- where `from` is not reached there is no way
   pub settled-none : goal < maxVertices → unreached ≤ getD distances from 0 → (d : ℕ) → Way (edgesOf ends lengths [] m) from goal d → ⊥
   settled-none l o d w = let i = reached o w refl l in omega (arith, i .1)

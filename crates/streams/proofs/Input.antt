@@ -47,6 +47,7 @@ same-step : (d : ℕ) (z : ℤ) → SFits w64 z → stepAfter d (back z) ≡ ste
 same-step d z fits = ap (stepAfter d) (toZ-ofZ w64 z fits)
 
 module _ (d : ℕ) (z : ℤ) (fits : SFits w64 z) where
+  -- below 0: reading failed; above: so many bytes more; 0: the end
   pub step-failed : ltZ (back z) (pos 0) ≡ true → Stop Failed ≡ stepAfter d z
   step-failed e = below d (back z) e ∙ same-step d z fits
 
@@ -56,6 +57,7 @@ module _ (d : ℕ) (z : ℤ) (fits : SFits w64 z) where
   pub step-end : ltZ (back z) (pos 0) ≡ false → ltZ (pos 0) (back z) ≡ false → Stop (Bytes d) ≡ stepAfter d z
   step-end e f = between d (back z) e f ∙ same-step d z fits
 
+  -- a number above 0 fits as a count of bytes
   pub more-fits : ltZ (pos 0) (back z) ≡ true → T (nonNeg (back z)) × Fits w64 (natAbs (back z))
   more-fits e = (above d (back z) e .0, fits-natAbs tt (subst (SFits w64) (sym (toZ-ofZ w64 z fits)) fits))
 
@@ -82,6 +84,7 @@ moved d n k (negsuc l) m e = absurd (subst T (ap isMore e) tt)
 pub more-moved : (d n k : ℕ) (z : ℤ) → SFits w64 z → Moved n z → More k ≡ stepAfter d (back z) → (0 < k) × (k ≤ n)
 more-moved d n k z fits m e = moved d n k z m (e ∙ same-step d z fits)
 
+-- so many bytes are counted in front of a slice that has them
 pub counted : (n : ℕ) (xs : List ℕ) → n ≤ length xs → Counts n xs
 counted n xs h = (h, sym (length-take-le n xs h))
 
@@ -91,5 +94,6 @@ stop-held d a (pos zero) xs e h = subst (λ (r : ReadAnswer). Held r xs) (sym (a
 stop-held d a (pos (suc n)) xs e h = subst (λ (r : ReadAnswer). Held r xs) (sym (ap answer e)) tt
 stop-held d a (negsuc n) xs e h = subst (λ (r : ReadAnswer). Held r xs) (sym (ap answer e)) tt
 
+-- so many bytes were read, and stand there
 pub bytes-held : (r : ReadAnswer) (n : ℕ) (xs : List ℕ) → r ≡ Bytes n → Held r xs → Counts n xs
 bytes-held r n xs e h = subst (λ (a : ReadAnswer). Held a xs) e h

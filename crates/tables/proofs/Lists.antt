@@ -24,6 +24,7 @@ pub record Cleared (xs₀ : List ℕ) (i : ℕ) (xs : List ℕ) : Type 0 where
   pub as-long : length xs ≡ length xs₀
   pub is : xs ≡ replicate i 0 ++ drop i xs₀
 
+-- cleared elements: none at the start, one more with each turn, all at the end
 pub cleared-none : (xs : List ℕ) → Cleared xs 0 xs
 cleared-none xs = record { inside = omega arith; as-long = refl; is = fill-none xs 0 }
 
@@ -38,6 +39,7 @@ cleared-all {xs₀} {xs} {i} c m =
 
 -- ---- comparing
 
+-- what differs is told so: by itself, by its length, by one element
 pub differ : {A : Type 0} (a b : A) → (a ≡ b → ⊥) → Tells false a b
 differ a b h = (λ p. cc, λ e. absurd (h e))
 
@@ -52,6 +54,7 @@ pub record Alike (xs ys : List ℕ) (i : ℕ) : Type 0 where
   pub inside : i ≤ length xs
   pub same : (k : ℕ) → k < i → getD xs k 0 ≡ getD ys k 0
 
+-- equal elements: none at the start, one more with each turn, all at the end
 pub alike-none : (xs ys : List ℕ) → Alike xs ys 0
 alike-none xs ys = record { inside = omega arith; same = below-none _ }
 

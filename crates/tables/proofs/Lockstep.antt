@@ -9,6 +9,7 @@ use lib.ListN.{getD}
 use Rattle.tables.specs.Steps.{farIn, turnIn}
 use Rattle.tables.specs.Walks.{Met, met, stepsAhead, lockstepIn}
 
+-- no step was taken before
 pub ahead-none : (m : Met) → m ≡ stepsAhead 0 m
 unfolding stepsAhead
 ahead-none m = rw zero-add
@@ -23,6 +24,7 @@ unfolding stepsAhead
 ahead-twice j k m = rw add-assoc
 
 module _ (degrees sides ends : List ℕ) where
+  -- the walks stop where no step is left, where the first is at its end, and where the second is
   pub lockstep-none : (n d v c w : ℕ) → n ≤ 0 → lockstepIn degrees sides ends n d v c w ≡ met v w 0
   unfolding lockstepIn
   lockstep-none zero d v c w l = refl
@@ -39,6 +41,7 @@ module _ (degrees sides ends : List ℕ) where
   lockstep-second zero d v c w g h = refl
   lockstep-second (suc n) d v c w g h = rw (eq-eqb _ _ g, ne-eqb _ _ h)
 
+  -- a step of both
   pub lockstep-on : (n d v c w d′ v′ c′ w′ : ℕ) → getD degrees v 0 ≡ 2 → getD degrees w 0 ≡ 2
       → turnIn sides d v ≡ d′ → farIn ends d′ v ≡ v′ → turnIn sides c w ≡ c′ → farIn ends c′ w ≡ w′
       → lockstepIn degrees sides ends (suc n) d v c w ≡ stepsAhead 1 (lockstepIn degrees sides ends n d′ v′ c′ w′)

@@ -4,6 +4,7 @@ use Prim.Native.Nat.{ℕ}
 use mathlib.Core.List.{List}
 use lib.ListN.{length}
 
+-- six tables have the lengths of six others
 pub record SameLengths (d₀ s₀ e₀ l₀ v₀ t₀ d s e l v t : List ℕ) : Type 0 where
   pub degrees : length d ≡ length d₀
   pub sides : length s ≡ length s₀
@@ -12,6 +13,7 @@ pub record SameLengths (d₀ s₀ e₀ l₀ v₀ t₀ d s e l v t : List ℕ) : 
   pub volumes : length v ≡ length v₀
   pub labels : length t ≡ length t₀
 
+-- tables have their own lengths
 pub same-refl : (d s e l v t : List ℕ) → SameLengths d s e l v t d s e l v t
 same-refl d s e l v t = record { degrees = refl; sides = refl; ends = refl; lengths = refl; volumes = refl; labels = refl }
 

@@ -4,6 +4,7 @@ use Prim.Native.Nat.{ℕ, _+_, _≤_, _<_}
 use native.Mathlib.Omega.{arith}
 use Rattle.tables.specs.Steps.{most16, most32, more16, sum32}
 
+-- one more in 16 bits, and a sum in 32, where they fit
 pub more16-is : (n : ℕ) → n < most16 → more16 n ≡ n + 1
 unfolding more16
 more16-is n h = omega arith

@@ -10,11 +10,13 @@ use Rattle.model.specs.Format.{edgeBytes, header}
 use Rattle.text.specs.Pages.{Page, page, write}
 use Rattle.text.proofs.PageLaws.{write-append, write-in, write-two}
 
+-- two bytes, the lower first
 pub two-law : (n a b : ℕ) (p q r : Page) → a ≡ n % 256 → q ≡ write (a ∷ []) p → b ≡ n / 256 % 256 → r ≡ write (b ∷ []) q
     → r ≡ write (bytes2 n) p
 unfolding bytes2 write
 two-law n a b p q r e₁ f₁ e₂ f₂ = rw (← e₁, ← e₂, ← f₁) f₂
 
+-- four bytes, the lowest first
 pub word-law : (n a b c d : ℕ) (p q r s t : Page) → a ≡ n % 256 → q ≡ write (a ∷ []) p → b ≡ n / 256 % 256 → r ≡ write (b ∷ []) q
     → c ≡ n / 65536 % 256 → s ≡ write (c ∷ []) r → d ≡ n / 16777216 % 256 → t ≡ write (d ∷ []) s → t ≡ write (bytes4 n) p
 unfolding bytes4 write
@@ -27,11 +29,13 @@ byte-in b at bs h = sym (write-in b [] bs at h)
 
 -- ---- a list
 
+-- mark and version are the header
 pub header-law : (word : List ℕ) (p q r : Page) → word ≡ 0x50 ∷ 0x4E ∷ 0x4C ∷ [] → q ≡ write word p → r ≡ write (bytes2 2) q
     → r ≡ write header p
 unfolding header
 header-law word p q r w e f = write-two (0x50 ∷ 0x4E ∷ 0x4C ∷ []) (bytes2 2) p q r (rw w at e) f
 
+-- kind, ends, length and volume are the record of an edge
 pub edge-law : (a b len volume : ℕ) (p q r s t u : Page) → q ≡ write (0x50 ∷ []) p → r ≡ write (bytes2 a) q → s ≡ write (bytes2 b) r
     → t ≡ write (bytes4 len) s → u ≡ write (bytes4 volume) t
     → u ≡ write (edgeBytes (record { first = a; second = b; len = len; volume = volume })) p

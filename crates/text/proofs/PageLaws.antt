@@ -14,6 +14,7 @@ use borrow.Author.Tests.{lt-ltb, le-ltb}
 use Rattle.model.specs.Basics.{if_then_else_, inFront}
 use Rattle.text.specs.Pages.{Page, page, put, write}
 
+-- one list behind the other is written as one
 pub write-append : (xs ys : List ℕ) (p : Page) → write (xs ++ ys) p ≡ write ys (write xs p)
 unfolding write
 write-append [] ys p = refl
@@ -38,6 +39,7 @@ pub record Written (bs xs : List ℕ) (at : ℕ) (q : Page) : Type 0 where
   pub front : take (q .at) (q .slice) ≡ take at bs ++ xs
   pub long : length (q .slice) ≡ length bs
 
+-- every text that fits is written whole
 pub write-fits : (xs bs : List ℕ) (at : ℕ) → at + length xs ≤ length bs → Written bs xs at (write xs (page bs at))
 unfolding write put
 write-fits [] bs at l = record { next = omega arith; front = sym (append-nil (take at bs)); long = refl }
@@ -51,7 +53,7 @@ write-fits (x ∷ xs) bs at l =
       long = w .long ∙ length-set bs at x;
     })
 
--- the position moves on by no more than the text's length
+-- a byte moves the position by one at most
 put-at : (x : ℕ) (p : Page) → (put x p) .at ≤ p .at + 1
 unfolding put
 put-at x p = go (ltb (p .at) (length (p .slice)))
@@ -60,6 +62,7 @@ put-at x p = go (ltb (p .at) (length (p .slice)))
     go true = omega arith
     go false = omega arith
 
+-- the position moves on by no more than the text's length
 pub write-at : (xs : List ℕ) (p : Page) → (write xs p) .at ≤ p .at + length xs
 unfolding write
 write-at [] p = omega arith

@@ -86,6 +86,7 @@ zero-slot zero i = refl
 zero-slot (suc n) zero = refl
 zero-slot (suc n) (suc i) = zero-slot n i
 
+-- the records of cleared tables are untouched, within bounds, and hold nothing
 pub newest-zeros : (m n i : ℕ) → newest (replicate m 0) (replicate m 0) n i ≡ replicate n blank
 unfolding newest blank
 newest-zeros m zero i = refl
@@ -105,6 +106,7 @@ empty-records : recordsOf empty ≡ replicate slots blank
 unfolding recordsOf empty
 empty-records = newest-zeros slots slots 0
 
+-- an empty window keeps what arrived: nothing
 pub keeps-empty : Keeps empty []
 unfolding empty
 keeps-empty =
@@ -186,6 +188,7 @@ unfolding makes
 keeps-call (arrival r) w rs k = keeps-arrival w rs k r
 keeps-call (question v) w rs k = keeps-question w rs k v
 
+-- after every series of calls a window keeps the last that arrived
 pub keeps-series : (cs : List Call) (w : Window) (rs : List Record) → Keeps w rs → Keeps (series cs w) (arrivals cs rs)
 unfolding series arrivals
 keeps-series [] w rs k = k

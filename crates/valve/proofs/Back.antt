@@ -21,6 +21,7 @@ module _ (v : ℕ) (r : Record) (rs : List Record) where
 
 -- ---- older exactly if the records hold at most v ml
 
+-- the answer is "older" exactly if the records hold at most v ml
 pub older-only : (v : ℕ) (rs : List Record) → total rs ≤ v → atValve v rs ≡ older
 unfolding total atValve
 older-only v [] h = refl
@@ -37,6 +38,7 @@ older-then v (r ∷ rs) e = go (ltb v (r .amount)) refl (λ h. older-then (v - r
 
 -- ---- an answer is no refusal
 
+-- counting back gives no refusal
 pub never-refuses : (v n : ℕ) (rs : List Record) → atValve v rs ≡ refuses n → ⊥
 unfolding atValve
 never-refuses v n [] e = let z : _≡_ {A = ℕ} 0 1 = cc in omega arith
@@ -48,6 +50,7 @@ never-refuses v n (r ∷ rs) e = go (ltb v (r .amount)) refl (λ h. never-refuse
 
 -- ---- the record that answers
 
+-- the recipe that is answered is that of a record which holds the ml number v + 1
 pub answered-by : (v x : ℕ) (rs : List Record) → atValve v rs ≡ recipeIs x → (r : Record) × (HoldsNumber v rs r × (r .recipe ≡ x))
 unfolding atValve total
 answered-by v x [] e = absurd (let z : _≡_ {A = ℕ} 0 1 = cc in omega arith)
@@ -90,5 +93,6 @@ pub holder-answers : (v : ℕ) (rs : List Record) (r : Record) → HoldsNumber v
 holder-answers v rs r h =
     ap (λ (xs : List Record). atValve v xs) (h .stands) ∙ holding-answers v (h .newer) r (h .earlier) (h .newer-hold-at-most) (h .reached)
 
+-- such a record has at least 1 ml
 pub holder-some : (v : ℕ) (rs : List Record) (r : Record) → HoldsNumber v rs r → 0 < r .amount
 holder-some v rs r h = omega (arith, h .newer-hold-at-most, h .reached)

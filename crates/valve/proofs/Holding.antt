@@ -16,10 +16,12 @@ use Rattle.valve.specs.Steps.{putIn}
 use Rattle.valve.proofs.Ring.{after-below, newest-length, newest-put}
 use Rattle.valve.proofs.Totals.{total-cons, total-most, total-next, within-shorter}
 
+-- both tables have their 1,440 slots
 pub record Sized (recipes amounts : List ℕ) : Type 0 where
   pub recipes-long : length recipes ≡ slots
   pub amounts-long : length amounts ≡ slots
 
+-- the test of sizes tells that, and the other way round
 pub sized : (recipes amounts : List ℕ) → sizesFit recipes amounts ≡ true → Sized recipes amounts
 unfolding sizesFit
 sized recipes amounts e =
@@ -38,11 +40,13 @@ pub sizes-second : (recipes amounts : List ℕ) → length recipes ≡ slots →
 unfolding sizesFit
 sizes-second recipes amounts h = rw (eq-eqb (length recipes) slots h)
 
+-- the next slot is one, all records are within bounds, and the sum is theirs
 pub record Holds (w : Window) : Type 0 where
   pub inside : w .next < slots
   pub within : allWithin (recordsOf w) ≡ true
   pub sum-is : total (recordsOf w) ≡ w .sum
 
+-- the test for 21 tells that, and the other way round
 pub holds : (w : Window) → held w ≡ true → Holds w
 unfolding held
 holds w e =
@@ -87,6 +91,7 @@ module _ (r : Record) (w : Window) (s : Sized (w .recipes) (w .amounts)) (h : Ho
   unfolding withRecord summed
   with-inside = after-below (w .next)
 
+  -- one record more keeps the sizes, and what is held
   pub sized-with : Sized ((withRecord r w) .recipes) ((withRecord r w) .amounts)
   unfolding withRecord summed
   sized-with =
@@ -104,6 +109,7 @@ module _ (r : Record) (w : Window) (s : Sized (w .recipes) (w .amounts)) (h : Ho
           sum-is = ap total records-with ∙ total-cons r _ ∙ sym with-sum;
         }
 
+    -- the code's step is the defined one
     pub put-is-with : putIn r w ≡ withRecord r w
     unfolding putIn withRecord summed
     put-is-with =

@@ -20,6 +20,7 @@ sub-suc n = omega arith
 -- ---- the recipe at the valve
 
 module _ (ks xs : List ℕ) where
+  -- no record is left; this one answers; the next one back
   pub valve-end : (v n i : ℕ) → n ≤ 0 → older ≡ atValve v (newest ks xs n i)
   unfolding newest atValve
   valve-end v zero i h = refl
@@ -42,6 +43,7 @@ module _ (ks xs : List ℕ) where
   total-none zero i h = refl
   total-none (suc n) i h = absurd (not-suc-le-zero h)
 
+  -- the sum and the bounds of what is left: nothing, one that is too much, the next one back
   pub sum-end : (n i s t : ℕ) → n ≤ 0 → s + total (newest ks xs n i) ≡ t → s ≡ t
   sum-end n i s t h e = omega (arith, total-none n i h)
 
@@ -71,6 +73,7 @@ module _ (ks xs : List ℕ) where
   sum-on n i j a s t l p q e = omega (arith, total-more n i j a l p q)
 
 module _ (w : Window) where
+  -- a next slot past the end; a record that is too much; else the sum decides
   pub held-past : slots ≤ w .next → false ≡ held w
   unfolding held
   held-past h = rw (le-ltb (w .next) slots h)
@@ -85,6 +88,7 @@ module _ (w : Window) where
 
 -- ---- one record more
 
+-- a record stored, the next slot and the sum moved on: one record more
 pub put-law : (ks xs ks′ xs′ : List ℕ) (i sum recipe amount old rest next sum′ : ℕ) → old ≡ getD xs i 0 → rest ≡ sum - old
     → ks′ ≡ set ks i recipe → xs′ ≡ set xs i amount → next ≡ after i → sum′ ≡ sum32 rest amount
     → window ks′ xs′ next sum′ ≡ putIn (recordOf recipe amount) (window ks xs i sum)

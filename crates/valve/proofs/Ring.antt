@@ -14,6 +14,7 @@ use Rattle.valve.specs.Window.{Record, recordOf, before, after, newest}
 
 -- ---- before and after
 
+-- the slot before the first is the last, before any other the one before
 pub before-first : (i : ℕ) → i ≡ 0 → before i ≡ 1439
 unfolding before
 before-first i h = rw (eq-eqb i 0 h)
@@ -22,6 +23,7 @@ pub before-other : (i : ℕ) → (i ≡ 0 → ⊥) → before i ≡ i - 1
 unfolding before
 before-other i h = rw (ne-eqb i 0 h)
 
+-- the slot after the last is the first, after any other the next
 pub after-inside : (i : ℕ) → i < 1439 → after i ≡ i + 1
 unfolding after
 after-inside i h = rw (lt-ltb i 1439 h)
@@ -56,6 +58,7 @@ unfoldable pub backBy : ℕ → ℕ → ℕ
 backBy zero i = i
 backBy (suc n) i = backBy n (before i)
 
+-- n slots back: where there are so many before it, n and m one after the other, one and then n
 pub back-some : (n i : ℕ) → n ≤ i → backBy n i ≡ i - n
 unfolding backBy
 back-some zero i h = omega arith
@@ -91,11 +94,13 @@ unfolding newest
 newest-suc recipes amounts n i = refl
 
 module _ (recipes amounts : List ℕ) where
+  -- there are n of them
   pub newest-length : (n i : ℕ) → length (newest recipes amounts n i) ≡ n
   unfolding newest
   newest-length zero i = refl
   newest-length (suc n) i = ap suc (newest-length n (before i))
 
+  -- without the oldest they are one fewer
   pub newest-take : (n i : ℕ) → take n (newest recipes amounts (suc n) i) ≡ newest recipes amounts n i
   unfolding newest
   newest-take zero i = refl

@@ -12,6 +12,7 @@ use Rattle.valve.specs.Numbers.{slots, maxAmount}
 use Rattle.valve.specs.Window.{Record, total, allWithin, before, newest}
 use Rattle.valve.proofs.Ring.{backBy, back-round}
 
+-- the sum by its first record
 pub total-cons : (r : Record) (rs : List Record) → total (r ∷ rs) ≡ r .amount + total rs
 unfolding total
 total-cons r rs = refl
@@ -35,6 +36,7 @@ module _ (recipes amounts : List ℕ) where
   pub total-next : (i : ℕ) → i < slots → total (newest recipes amounts (suc 1439) i) ≡ total (newest recipes amounts 1439 i) + getD amounts i 0
   total-next i h = total-oldest 1439 i ∙ ap (λ (j : ℕ). total (newest recipes amounts 1439 i) + getD amounts j 0) (back-round i h)
 
+  -- if all are within bounds, so are all but the oldest
   pub within-shorter : (n i : ℕ) → allWithin (newest recipes amounts (suc n) i) ≡ true → allWithin (newest recipes amounts n i) ≡ true
   unfolding newest allWithin
   within-shorter zero i e = refl

@@ -14,10 +14,12 @@ use Rattle.model.proofs.Basics.Lists.{weights-append, weights-reverse}
 
 -- ---- the volume follows from the sum and from whether one is unknown
 
+-- lists with the same sum, of which both or none have an unknown volume, have one volume
 pub volume-same : (vs ws : List ℕ) → anyUnknown vs ≡ anyUnknown ws → sum vs ≡ sum ws → volumeSum vs ≡ volumeSum ws
 unfolding volumeSum
 volume-same vs ws a s = rw (a, s) refl
 
+-- the volume is at most the sum
 pub volume-most : (vs : List ℕ) → volumeSum vs ≤ sum vs
 unfolding volumeSum
 volume-most vs = go (anyUnknown vs)
@@ -28,6 +30,7 @@ volume-most vs = go (anyUnknown vs)
 
 -- ---- which is unknown
 
+-- where one is unknown, it is one of them
 pub unknown-in : (g : ℕ → ℕ) (ds : List ℕ) → anyUnknown (map g ds) ≡ true → (d : ℕ) × Mem d ds × (g d ≡ 0)
 unfolding anyUnknown
 unknown-in g [] h = absurd (true≢false (sym h))
@@ -140,6 +143,7 @@ unfolding volumeOnto
 volume-fold known [] = one-alone known
 volume-fold known (v ∷ vs) = volume-fold (plusVolume known v) vs ∙ two-together known v vs
 
+-- adding up a joined list is adding up one part after the other
 pub onto-append : (known : ℕ) (vs ws : List ℕ) → volumeOnto known (vs ++ ws) ≡ volumeOnto (volumeOnto known vs) ws
 unfolding volumeOnto
 onto-append known [] ws = refl

@@ -35,6 +35,7 @@ module _ (es : List Edge) (pr : Proper es) where
         edges = loopEdges es d v;
       }
 
+  -- once round is a ring
   pub loop-is-ring : (d v : ℕ) → At es v d → Round es d v → IsRing es (ringFrom d v)
   loop-is-ring d v at k =
       record {
@@ -49,6 +50,7 @@ module _ (es : List Edge) (pr : Proper es) where
         closed = refl;
       }
 
+  -- on rings the chain of an edge is a ring
   pub ring-is-ring : (d : ℕ) → d < length es → edgeOnRing es d ≡ true → IsRing es (chainOf es d)
   unfolding ringChain afters
   ring-is-ring d h t = rw (chain-ring es d t) (loop-is-ring d ((edgeAt es d) .first) (first-at es pr d h) (own-round es pr d h t))
@@ -173,6 +175,7 @@ module _ (es : List Edge) (pr : Proper es) where
 
   -- ---- no chain and no ring has a vertex twice
 
+  -- the chain or ring of an edge has no regular vertex twice
   pub no-vertex-twice : (d : ℕ) → d < length es → NoTwice ((chainOf es d) .inner)
   unfolding lineChain atOf
   no-vertex-twice d h = go (true-or-false (edgeOnRing es d))

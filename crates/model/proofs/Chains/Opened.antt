@@ -108,6 +108,7 @@ module _ (es : List Edge) (p : Edge) (pr : Proper es) (differ : p .first ≢ p .
         edges-back = λ x i. same-mem _ _ x (same-back _ _ same) (s .edges-in x (subst (λ (l : List ℕ). Mem x l) (ring-edges es pr d t) i));
       }
 
+  -- with the edge the ring is a chain from this vertex to itself, with the same edges
   pub ring-opened : ((chainOf (es ++ (p ∷ [])) d) .start ≡ v) × ((chainOf (es ++ (p ∷ [])) d) .stop ≡ v) × SameEdges (chainOf (es ++ (p ∷ [])) d) (chainOf es d)
   unfolding lineChain line
   ring-opened = let o = one-end (chainOf new d) (lineChain line) v same refl refl in (o .0, o .1, same-edges)

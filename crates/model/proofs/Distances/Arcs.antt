@@ -184,6 +184,7 @@ module _ (es : List Edge) (pr : Proper es) (e v w : ℕ) (h : e < length es) (t 
         distance-is = is-shorter (distance es v w) (chains-distance es pr v w (distance es v w) (is-distance es v w));
       }
 
+  -- the distance between two vertices of a ring is the shorter of its two arcs
   pub shorter-way : (c d : ℕ) → incident es v ≡ c ∷ d ∷ [] → ShorterWay es e v w c d
   shorter-way c d q =
       let i = pair-are (sym q ∙ two .list) in

@@ -155,6 +155,7 @@ module _ (rc : RingClosing) where
     within-two-x = λ v z a b cv cz av az gv gz bl. omega (arith, near v a cv av gv, near z b cz az gz);
   }
 
+  -- an edge that closes a ring keeps the ghost state, and relabels nothing
   pub ring-settled : SoonCuts es p (rc .h₀) → Settled (es ++ (p ∷ [])) (relabellings + 0) (res .marks) (res .blocks)
   ring-settled soon = record {
     ghosts = record {

@@ -138,6 +138,7 @@ module _ (es : List Edge) (pr : Proper es) (m : Marks) (s : Sided es m) where
       go (first-low l p) = found v v-at l
 
 module _ (r : Register) (pr : Proper (r .edges)) (s : Sided (r .edges) (marksOf r)) where
+  -- the labels of a ring rise by 1 once round, from the vertex behind its last edge
   pub ring-upwards : (d : ℕ) → d < length (r .edges) → edgeOnRing (r .edges) d ≡ true → RisesRound r d
   unfolding marksOf labelAt lowAt afters afterOf atOf
   ring-upwards d h t =

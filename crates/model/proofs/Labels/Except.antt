@@ -68,9 +68,11 @@ following-off up t (s ∷ ss) v m o =
     rw (following-cons up t s ss m)
     (following-off up (ithLabel up t 0) ss v _ (λ i z j. o (suc i) z (later j)) ∙ getD-set-other (m .labels) (s .at) v (ithLabel up t 0) 0 (λ q. o 0 s here (sym q)))
 
+-- marks agree with themselves
 pub except-none : (m : Marks) → Except [] m m
 except-none m = record { off = λ v a. absurd a; label-same = λ v n. refl; low-same = λ v n. refl; labels-long = refl; lows-long = refl }
 
+-- a split bares one vertex more
 pub except-split : {xs : List ℕ} {m n : Marks} (x : ℕ) → Except xs m n → Except (x ∷ xs) m (split x n)
 unfolding split mark
 except-split {xs} {m} {n} x e = record {
@@ -85,6 +87,7 @@ except-split {xs} {m} {n} x e = record {
     off′ v (inl q) = rw q (set-off (n .labels) x)
     off′ v (inr a) = set-zero (n .labels) x v (e .off v a)
 
+-- a tap does so too, once its path is labelled
 pub except-tap : {xs : List ℕ} {m n : Marks} (t x q : ℕ) (path : List Pass) → Except xs m n → ((v : ℕ) → Among xs v → Off path v) → Except (x ∷ xs) (relaid t x q path m) (split x (following true t path n))
 unfolding relaid split mark
 except-tap {xs} {m} {n} t x q path e offs = record {
@@ -115,9 +118,11 @@ except-tap {xs} {m} {n} t x q path e offs = record {
 
 -- ---- how many labels are changed
 
+-- a split changes no label to another
 pub split-moves : (ts : List ℕ) (x : ℕ) (m : Marks) → relabelCount ts ((split x m) .labels) ≤ relabelCount ts (m .labels)
 unfolding split mark
 split-moves ts x m = let k = relabelCount-set ts (m .labels) x 0 0 (omega (arith, moved-new (getD ts x 0))) in omega (arith, k)
 
+-- a tap changes at most those of its path
 pub tap-moves : (ts : List ℕ) (t x : ℕ) (path : List Pass) (m : Marks) → relabelCount ts ((split x (following true t path m)) .labels) ≤ relabelCount ts (m .labels) + length path
 tap-moves ts t x path m = omega (arith, split-moves ts x (following true t path m), relabelCount-path ts true t path m)

@@ -36,6 +36,7 @@ module _ (es : List Edge) (pr : Proper es) (m : Marks) (s : Sided es m) where
         differ = λ e. far-ne es t v pr a (sym e);
       }))
 
+  -- the first and the last low edge of a trail lie on the same side
   pub keeps-side : {d v q w : ℕ} {ss : List Pass} → At es v d → Trail es d v ss q w → 1 ≤ length ss → Keeps d v q w
   keeps-side a done h = absurd (not-suc-le-zero h)
   keeps-side {d} {v} {q} {w} a (pass {ss = ss} t c e u) h = go (front u) (λ k. keeps-side (nx .across .at) u k)

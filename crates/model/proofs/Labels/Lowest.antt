@@ -24,6 +24,7 @@ use Rattle.model.proofs.Labels.Rise.{Sided}
 use Rattle.model.proofs.Labels.Consecutive.{chain-upwards}
 use Rattle.model.proofs.Labels.ConsecutiveRound.{ring-upwards}
 
+-- numbers counted from k on are at least k
 pub countFrom-least : (k n x : ℕ) → Mem x (countFrom k n) → k ≤ x
 unfolding countFrom
 countFrom-least k zero x m = absurd (mem-nil m)
@@ -89,6 +90,7 @@ module _ (r : Register) (pr : Proper (r .edges)) where
 
   -- ---- the neighbour over the low edge
 
+  -- v wears the lowest label, or its neighbour over the low edge the label before
   pub data LowNeighbour (d v : ℕ) : Type 0 where
     lowest : ((w : ℕ) → Mem w ((chainOf (r .edges) d) .inner) → labelOf r v ≤ labelOf r w)
         → (isRegular (r .edges) (far (r .edges) (lowEdgeOf r v) v) ≡ false)
@@ -177,6 +179,7 @@ module _ (r : Register) (pr : Proper (r .edges)) where
         go (inl q) = lowest (λ w n. omega (arith, all w n, ap (labelOf r) q, first-label)) (inr (t, highest vs refl q))
         go (inr n) = on (behind (suc (up .lowest)) (up .last) (is .path) other-labels other-lows v n)
 
+    -- a regular vertex of a chain or ring wears its lowest label, or its neighbour over the low edge the label before
     pub low-neighbour : (v : ℕ) → isRegular es v ≡ true → Mem v ((chainOf es d) .inner) → LowNeighbour d v
     unfolding reversed
     low-neighbour v reg m = go (true-or-false (edgeOnRing es d))

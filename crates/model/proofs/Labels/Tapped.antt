@@ -216,6 +216,7 @@ module _ (es : List Edge) (p : Edge) (pr : Proper es) (d : p .first ≢ p .secon
         go (inl t) (inr u) = let r = tour-of x cx t in rw (splitOrTap-yes blocks x m t, t, u) (two-rings (r .0) (r .1) (passes-no y px u) (true-or-false (vertexOnRing es y)))
         go (inr t) u = rw (splitOrTap-no blocks x m t, t) (two-none t (true-or-false (vertexOnRing es y)))
 
+  -- what is split and tapped leaves what `Bared` says
   pub bared-is : (blocks : ℕ) (m : Marks) → Bared es p blocks m (bared (isRegular es (p .first)) (isRegular es (p .second)) es p blocks m)
   unfolding bared
   bared-is blocks m = go (isRegular es (p .first)) (isRegular es (p .second)) refl refl

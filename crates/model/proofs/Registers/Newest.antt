@@ -29,6 +29,7 @@ use Rattle.model.proofs.Registers.Answers.{find-none, find-own}
 
 -- ---- a label among some
 
+-- the test tells whether a label is among some
 pub has-mem : (label : ℕ) (xs : List ℕ) → has label xs ≡ true → Mem label xs
 unfolding has
 has-mem label [] e = absurd (not-both false e refl)
@@ -144,6 +145,7 @@ module _ (r : Register) where
       go true q ih = rw (q, among)
       go false q ih = rw (q, among) (ap suc ih)
 
+  -- no more are taken than there are edges
   pub newest-few : (ds : List ℕ) → length (newestFirst r ds) ≤ length ds
   unfolding newestFirst
   newest-few [] = omega arith
@@ -200,6 +202,7 @@ pub record Taken (r : Register) (d : ℕ) : Type 0 where
   pub wears : labelOf r vertex ≡ lowestLabel r d
 
 module _ (r : Register) (pr : Proper (r .edges)) where
+  -- the vertices inside a chain or ring are regular
   pub inner-regular : (d v : ℕ) → d < length (r .edges) → Mem v ((chainOf (r .edges) d) .inner) → isRegular (r .edges) v ≡ true
   inner-regular d v h m = go (true-or-false (edgeOnRing (r .edges) d))
     where
@@ -212,6 +215,7 @@ module _ (r : Register) (pr : Proper (r .edges)) where
   unfolding chainAt
   own-is d v h n m = only-chain (r .edges) pr v (inner-regular d v h m) d (record { inside = h; names = n; has = m })
 
+  -- no vertex of the chain wears a lower label than its lowest
   pub lowest-most : (d v : ℕ) → Mem v ((chainOf (r .edges) d) .inner) → lowestLabel r d ≤ labelOf r v
   unfolding lowestLabel innerLabels lowestOf
   lowest-most d v m = go (map (labelOf r) ((chainOf (r .edges) d) .inner)) (Memᴰ·map (labelOf r) m)
@@ -245,6 +249,7 @@ module _ (r : Register) (f : Founded r) (l : LabelFacts r) where
   pr : Proper (r .edges)
   pr = f .proper
 
+  -- the chains and rings of a register that have labels, newest first
   abbrev pub newest : List ℕ
   newest = newestFirst r (upTo (length (r .edges)))
 
@@ -258,10 +263,12 @@ module _ (r : Register) (f : Founded r) (l : LabelFacts r) where
       let same : x .vertex ≡ y .vertex = l .unique (x .vertex) (y .vertex) u w (x .wears ∙ e ∙ sym (y .wears)) in
       own-is r pr c (x .vertex) hc (x .names) (x .in-it) ∙ ap (chainAt r) same ∙ sym (own-is r pr d (y .vertex) hd (y .names) (y .in-it))
 
+  -- their lowest labels fall
   pub falling : Falling r newest
   unfolding upTo
   falling = newest-falls r apart 0 (length (r .edges)) (omega arith)
 
+  -- each of them is one that is taken
   pub in-newest : (d : ℕ) → Mem d newest → Taken r d
   unfolding upTo pr
   in-newest d m =
@@ -310,6 +317,7 @@ module _ (r : Register) (f : Founded r) (l : LabelFacts r) where
   unfolding foundAt chainIn
   found-chain v = if-either (λ (a : Reply). chainIn a ≡ some (chainAt r v)) (vertexOnRing (r .edges) v) _ _ refl refl
 
+  -- where the search finds none, find refuses with 8
   pub search-none : (label : ℕ) → (search r label) .holder ≡ none → find r label ≡ refuses 8
   unfolding search innerLabels pr chainAt
   search-none label e =
@@ -318,6 +326,7 @@ module _ (r : Register) (f : Founded r) (l : LabelFacts r) where
       let m : Mem label (innerLabels r (chainAt r v)) = rw (← w) (Memᴰ·map (labelOf r) (o .has)) in
       not-both (has label (innerLabels r (chainAt r v))) (mem-has label (innerLabels r (chainAt r v)) m) (among-none label newest e (chainAt r v) (own-newest v q)))
 
+  -- the search holds the chain or ring that find names
   pub search-finds : (label : ℕ) → chainIn (find r label) ≡ (search r label) .holder
   unfolding search chainIn innerLabels pr chainAt
   search-finds label = go ((searchAmong r label newest) .holder) refl

@@ -184,6 +184,7 @@ made-now r q = go (true-or-false (eqQuote q (quote r (q .asked))))
     go (inl t) = inl (quote-one q (quote r (q .asked)) t)
     go (inr f) = inr (λ h. not-both _ (ap (eqQuote q) (sym h) ∙ quote-same q) f)
 
+-- what is refused does not land
 pub not-refused : (n : ℕ) (r : Register) → refused n ≢ landed r
 not-refused n r e = let z : _≡_ {A = ℕ} 0 1 = cc in omega arith
 

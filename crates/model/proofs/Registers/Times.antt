@@ -73,6 +73,7 @@ none : (t : ℕ) → 2 ^ suc t ≡ 2 → t ≡ 0
 none zero q = refl
 none (suc t) q = absurd (omega (arith, q, pow-pos t))
 
+-- no vertex is relabelled more often than twice the logarithm
 pub few-times : (r : Register) (k : Reachable r) (v : ℕ) → timesRelabelled v (history k) ≤ mostTimes (length (r .edges))
 unfolding mostTimes
 few-times r k v = go (decLe (degree (r .edges) v) 1)
@@ -87,11 +88,13 @@ module _ (r : Register) (k : Reachable r) (v : ℕ) where
   abbrev es : List Edge
   es = r .edges
 
+  -- a vertex on a ring: fewer times than the logarithm of the ring's number of edges
   pub times-on-ring : (d : ℕ) → At es v d → edgeOnRing es d ≡ true → timesRelabelled v (history k) < floorLog (length (onceRound es d v) + 1)
   times-on-ring d a t =
       let u = ring-tour es ((founded r k) .proper) d v t a in
       floorLog-most (length (onceRound es d v) + 1) _ ((room-times r k v) .on-ring d (u .0) (onceRound es d v) (u .1))
 
+  -- a vertex on a chain with a leaf: fewer than that of the edges up to the leaf times all edges
   pub times-near-leaf : (d : ℕ) → isRegular es v ≡ true → At es v d → isLeaf es (endOnwards es d (far es d v)) ≡ true
       → timesRelabelled v (history k) < floorLog (leafRoom (length (onwards es d (far es d v))) (length es))
   times-near-leaf d c a h =
@@ -99,6 +102,7 @@ module _ (r : Register) (k : Reachable r) (v : ℕ) where
       subst (λ (ss : List Pass). timesRelabelled v (history k) < floorLog (leafRoom (length ss) (length es))) is
       (floorLog-most (leafRoom (length (l .passes)) (length es)) _ ((room-times r k v) .to-leaf d (is-two es v c) a l))
 
+  -- a vertex on a chain between two leaves: fewer than that of the chain's number of edges
   pub times-between-leaves : (c d : ℕ) → incident es v ≡ c ∷ d ∷ [] → isLeaf es (endOnwards es c (far es c v)) ≡ true → isLeaf es (endOnwards es d (far es d v)) ≡ true
       → timesRelabelled v (history k) < floorLog (length (onwards es c (far es c v)) + length (onwards es d (far es d v)) + 2)
   unfolding incident
@@ -133,5 +137,6 @@ times-total r (with-edge {r = s} e k h) =
     let all : relabelCount (s .labels) (r .labels) ≡ total maxVertices now = relabelCount-total maxVertices (s .labels) (r .labels) (omega (arith, (labelled s k) .founded .labels-long)) in
     omega (arith, each, new, all, total-add maxVertices before now, times-total s k)
 
+-- the times of all vertices add up to the total
 pub times-add-up : (r : Register) (k : Reachable r) → sum (map (λ v. timesRelabelled v (history k)) (upTo maxVertices)) ≡ r .relabellings
 times-add-up r k = sum-upTo maxVertices (λ v. timesRelabelled v (history k)) ∙ times-total r k

@@ -134,16 +134,19 @@ header-long : (bs : List ℕ) → length (header ++ bs) ≡ 5 + length bs
 unfolding header bytes2
 header-long bs = omega arith
 
+-- a list of n vertices and some edges has 5 + n + 13 bytes for each edge
 pub list-long : (n : ℕ) (es : List Edge) → length (listOf n es) ≡ 5 + n + 13 * length es
 unfolding listOf
 list-long n es = omega (arith, header-long (replicate n 0x46 ++ edgeRecords es), behind n es)
 
+-- the list that is written of a register has as many
 pub written-length : (r : Register) → length (written r) ≡ 5 + r .vertices + 13 * length (r .edges)
 unfolding written
 written-length r = list-long (r .vertices) (r .edges)
 
 -- ---- what it follows from
 
+-- registers with the same edges and as many vertices have one list
 pub written-same : (r s : Register) → r .vertices ≡ s .vertices → r .edges ≡ s .edges → written r ≡ written s
 unfolding written
 written-same r s v e = ap₂ listOf v e
@@ -172,6 +175,7 @@ few-of : (n : ℕ) → n ≤ maxVertices → (onVertices n) .vertices ≤ maxVer
 unfolding onVertices
 few-of n h = h
 
+-- growing from the list that is written leaves the register
 pub written-grows : (r : Register) → Reachable r → growList (written r) ≡ record { register = r; stop = whole }
 unfolding written listOf
 written-grows r k =

@@ -130,6 +130,7 @@ module _ (es : List Edge) (p : Edge) (pr : Proper es) (ne : p .first ≢ p .seco
       go (no a) (yes q) = leaf-fits y _ (cl .y-leaf) q
       go (no a) (no b) = same-label _ (getD-set-other (set (m .labels) x (cl .tx)) y v (cl .ty) 0 b ∙ getD-set-other (m .labels) x v (cl .tx) 0 a)
 
+  -- after any edge the vertex has the room for its times
   pub room-landed : {blocks : ℕ} {res : Labelling} → Inserted es p blocks m res → Room (es ++ (p ∷ [])) v (2 ^ suc (t + moved (getD (m .labels) v 0) (getD (res .marks .labels) v 0)))
   room-landed (fresh ca cb b) = bared-fits b
   room-landed (extends x y e ny l b la mm) = extend-fits la (rw mm (bared-fits b))

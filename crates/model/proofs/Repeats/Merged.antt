@@ -188,6 +188,7 @@ module _ (es : List Edge) (p : Edge) (pr : Proper es) (ne : p .first ≢ p .seco
       leaves-doubled f d a a′ n b (inl w) (inr w′) = omega (arith, other-leaf d a′ w′ (b .other), length-before f a w (b .one), length-after d a′ w′ (b .other), length-rest, le)
       leaves-doubled f d a a′ n b (inr w) (inl w′) = omega (arith, other-leaf f a w (b .one), length-before d a′ w′ (b .other), length-after f a w (b .one), length-rest, le)
 
+      -- the room around a vertex of the chain that gives way doubles
       pub room-merged : Room (es ++ (p ∷ [])) (s .at) (2 * k)
       room-merged = record {
         not-yet = λ h. absurd (omega (arith, degree-snoc es p (s .at), two));

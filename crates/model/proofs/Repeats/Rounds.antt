@@ -32,6 +32,7 @@ module _ (es : List Edge) (p : Edge) (pr : Proper es) (ne : p .first ≢ p .seco
   not-end : endsAt v p ≡ 0
   not-end = omega (arith, degree-snoc es p v, t .two)
 
+  -- the round has its first edge
   pub d-in : Mem d edges
   d-in = at-head refl
 
@@ -52,6 +53,7 @@ module _ (es : List Edge) (p : Edge) (pr : Proper es) (ne : p .first ≢ p .seco
 
   -- ---- a walk before the edge keeps to the round
 
+  -- a walk before the edge keeps to the round
   pub stays : {e w r z : ℕ} {ss : List Pass} → Mem e edges → At es w e → Trail es e w ss r z → (k : ℕ) → Mem k (e ∷ afters ss) → Mem k edges
   unfolding afters afterOf
   stays {e} m a done k n = go (mem-cases n)
@@ -123,6 +125,7 @@ module _ (es : List Edge) (p : Edge) (pr : Proper es) (ne : p .first ≢ p .seco
 
   -- ---- all together
 
+  -- what the round was before the edge
   pub data Was : Type 0 where
     was-round : (q′ : ℕ) (path′ : List Pass) → Tour es v d q′ path′ → length path′ ≤ length path → Was
     was-open : (b : TwoLeaves es d q v) → edgesBetween b ≤ length path + 1 → Was
@@ -135,6 +138,7 @@ module _ (es : List Edge) (p : Edge) (pr : Proper es) (ne : p .first ≢ p .seco
       let o : Round es e v = returns-round es pr e v a b in
       (o .last, _, record { two = c; d-at = a; trail = o .trail; off = o .off })
 
+  -- the round was one before the edge too, or a chain between two leaves
   pub was : Was
   was = go (ends-or-returns es pr d (far es d v) (xd .at)) (ends-or-returns es pr q (far es q v) (xq .at))
     where

@@ -58,6 +58,7 @@ module _ (es : List Edge) (p : Edge) (pr : Proper es) (ne : p .first ≢ p .seco
       let c : degree new x ≡ 2 = tour-two (proper-snoc es p pr ne) u x (end-on (proper-snoc es p pr ne) u d x n (at-new es p (t .d-at))) in
       omega (arith, c, degree-snoc es p x, t .two)
 
+  -- the room around a vertex of a ring that is tapped doubles
   pub room-tapped : {k : ℕ} → Room es v k → Room (es ++ (p ∷ [])) v (2 * k)
   room-tapped {k} o =
       let s = some-edge es v pr two in

@@ -19,6 +19,7 @@ pub record CutAt (es : List Edge) (d w : ℕ) (ss : List Pass) (q z i : ℕ) (s 
   pub turns : turn es (s .before) (s .at) ≡ s .after
   pub behind : Trail es (s .after) (far es (s .after) (s .at)) rest q z
 
+-- every trail can be cut at each of its vertices
 pub cut-at : {es : List Edge} {d w q z : ℕ} {ss : List Pass} → Trail es d w ss q z → (i : ℕ) (s : Pass) → Ith s i ss → CutAt es d w ss q z i s
 cut-at done i s j = absurd (no-ith j)
 cut-at (pass {ss = ss} t c e u) zero s here = record { front = []; rest = ss; parts = refl; index = refl; before = done; regular = c; turns = e; behind = u }

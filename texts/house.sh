@@ -1,5 +1,5 @@
 # A house as text where a list is expected, for the commands of the folder above (bash). `root` is that folder.
-pnltext=$root/tests/target/release/pnltext
+pnltext=$root/texts/target/release/pnltext
 
 # Whether a name is that of a house as text.
 is_text() { [[ ${1,,} == *.txt ]]; }
@@ -8,7 +8,7 @@ is_text() { [[ ${1,,} == *.txt ]]; }
 make_list() {
     command -v cargo > /dev/null || { echo "a house as text needs cargo on the path (README.md)" >&2; return 2; }
     [ -x "$pnltext" ] || echo "building the reader of texts .." >&2
-    (cd "$root/tests" && cargo build --quiet --release --offline --bin pnltext) >&2 || return
+    (cd "$root/texts" && cargo build --quiet --release --offline) >&2 || return
     "$pnltext" "$1" > "$2"
 }
 

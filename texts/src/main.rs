@@ -1,13 +1,12 @@
 //! A house as text: written as a list, and asked for the line of a record.
 
-mod text;
-
 use std::env;
 use std::fs;
 use std::io::{self, Read, Write};
 use std::process::ExitCode;
 
-use reference::list::{self, Record};
+use pnltext::records::{self, Record};
+use pnltext::text;
 
 const HELP: &str = "\
 usage: pnltext [FILE] > LIST                 writes the list of a house as text (without FILE: of standard input)
@@ -52,7 +51,7 @@ fn write_list(file: Option<&str>) -> Result<(), String> {
         )
     })?;
     let records: Vec<Record> = records.into_iter().map(|(record, _)| record).collect();
-    write_out(&list::write(version_for(&records), &records))
+    write_out(&records::write(version_for(&records), &records))
 }
 
 /// The second where a volume is given. The list of a text without volumes is one that every reader of lists knows.

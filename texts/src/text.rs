@@ -2,7 +2,7 @@
 
 use std::str::FromStr;
 
-use reference::list::{Record, MARK};
+use crate::records::{Record, MARK};
 
 const LINES: &str = "a line is `fittings N`, `fitting`, `pipe A B LENGTH` or `pipe A B LENGTH VOLUME`; `#` starts a comment";
 const BYTE_ORDER_MARK: &[u8] = b"\xEF\xBB\xBF";
