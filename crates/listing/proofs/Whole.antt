@@ -79,6 +79,7 @@ lists bs out d q l e f b =
     ap (λ (z : ReadingIn). listingIn (z .counts) (sheetOver (z .tables) (z .counts .edges) maxEdges) (z .stop)) i ∙ listing-is (growList bs) g in
     page-holds _ (listing (growList bs)) out q f (omega (arith, few)) x
 
+-- any other: its listing
 pub prints : (bs out : List ℕ) (d : ReadingIn) (q : Page) → length bs ≤ 65536 → roomBytes ≤ length out → d ≡ landListIn cleared noCounts bs
     → q ≡ write (listingIn (d .counts) (sheetOver (d .tables) (d .counts .edges) maxEdges) (d .stop)) (page out 0)
     → q .at ≤ headBytes + rowBytes * d .counts .edges + stopBytes → Counted (q .at) (q .slice) × (take (q .at) (q .slice) ≡ printed bs)
