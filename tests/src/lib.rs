@@ -4,6 +4,7 @@
 //! - [`cases`]: what landing a pipe comes to, for counting;
 //! - [`list`]: the list of records, read and written;
 //! - [`queries`]: find, distance and sheet;
+//! - [`opened`]: a sheet that is fetched line by line while landing goes on;
 //! - [`calls`]: the same as calls from C answer them;
 //! - [`lent`]: the same over lent tables, and what the tables hold;
 //! - [`print`]: what the printing program prints;
@@ -22,6 +23,7 @@ pub mod gen;
 pub mod house;
 pub mod lent;
 pub mod list;
+pub mod opened;
 pub mod plan;
 pub mod print;
 pub mod queries;

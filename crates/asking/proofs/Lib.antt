@@ -1,3 +1,2 @@
-pub mod QueryLaws
 pub mod ScratchLaws
 pub mod MeasureLaws

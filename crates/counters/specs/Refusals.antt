@@ -1,7 +1,7 @@
 -- Document 01, "Refusals from the input" and "Refusals from the state", and document 02, "Errors": the number of each.
 use Prim.Native.Nat.{ℕ}
 use Rattle.counters.specs.declared.refusals.Refusal.{Refusal}
-use Rattle.counters.specs.declared.refusals.Refusal.the-variants.{NoMark, Version, Cut, UnknownKind, NotLanded, SameVertex, Length, NotRegular, ShortSlice, NotGrown, TooManyVertices, TooManyEdges, WrongSize, Volume}
+use Rattle.counters.specs.declared.refusals.Refusal.the-variants.{NoMark, Version, Cut, UnknownKind, NotLanded, SameVertex, Length, NotRegular, ShortSlice, NotGrown, TooManyVertices, TooManyEdges, WrongSize, Volume, Beyond}
 
 abbrev pub numberOf : Refusal → ℕ
 -- "no mark (list shorter than 3 or other bytes)"
@@ -32,3 +32,5 @@ numberOf TooManyEdges = 23
 numberOf WrongSize = 25
 -- document 02, S-4: "volume above 1,000,000"
 numberOf Volume = 31
+-- document 02, S-6: "an opening with more fittings or pipes than the register has, or whose pipes name a fitting beyond its own"
+numberOf Beyond = 33

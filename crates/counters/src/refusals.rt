@@ -1,4 +1,4 @@
-// Document 01's refusals, and 31 of document 02, which withdraws 24. A definition, `numberOf`, gives the number of each.
+// Document 01's refusals, and 31 and 33 of document 02, which withdraws 24. A definition, `numberOf`, gives the number of each.
 ghost use mathlib.Core.Path.{_≡_};
 ghost use Rattle.counters.specs.Refusals.{numberOf};
 
@@ -17,6 +17,7 @@ pub enum Refusal {
     TooManyEdges,
     WrongSize,
     Volume,
+    Beyond,
 }
 
 impl Refusal {
@@ -38,6 +39,7 @@ impl Refusal {
             Refusal::TooManyEdges => 23,
             Refusal::WrongSize => 25,
             Refusal::Volume => 31,
+            Refusal::Beyond => 33,
         }
     }
 }
