@@ -1,5 +1,5 @@
 -- What is fetched over the tables of a register is what is defined to be fetched from it.
-use mathlib.Core.Path.{_≡_, refl, sym, ap, _∙_}
+use mathlib.Core.Path.{_≡_, refl, sym, ap, _∙_, subst}
 use Prim.Native.Nat.{ℕ, zero, suc, _≤_}
 use native.Mathlib.Omega.{arith}
 use native.Mathlib.Nat.{not-suc-le-zero}
@@ -76,12 +76,28 @@ module _ (r : Register) (g : Reachable r) (s : OpenSheet) where
       go (refusedIn x) p = absurd (none-some _ (ap (leftAs ((regrown t c) .tables)) (sym p) ∙ e))
 
   pub fetch-agrees : fetchedOver ≡ fetch r s
-  unfolding fetchIn fetch isBeyond countsOf
+  unfolding fetchIn fetch isBeyond countsOf openedEdges
   fetch-agrees = go _ refl _ refl _ refl
     where
       go : (v : Bool) → ltb (r .vertices) (s .vertices) ≡ v → (e : Bool) → ltb (length (r .edges)) (s .edges) ≡ e
           → (b : Bool) → anyBeyond (s .vertices) (openedEdges r s) ≡ b → fetchedOver ≡ fetch r s
       go true p e q b w = rw p
       go false p true q b w = rw (p, q)
-      go false p false q true w = ?
-      go false p false q false w = ?
+      go false p false q true w =
+          let v = ltb-false (r .vertices) (s .vertices) p in
+          let e = ltb-false (length (r .edges)) (s .edges) q in
+          let a : (regrown t c) .answer ≡ refusedIn 5 = agrees-so e (refused 5) (beyond-refused r g s v e w) in
+          rw (p, q, w) (ap (lineOn s ((regrown t c) .tables)) a)
+      go false p false q false w =
+          let b : isBeyond r s ≡ false = rw (p, q) w in
+          let n : NamedIn r s = named r g s b in
+          let a = agrees-so (ltb-false (length (r .edges)) (s .edges) q) (landed (n .register)) (n .grown) in
+          rw (p, q, w) (line-on (n .register) (n .reachable) (n .edges-counted) a ∙ ap (λ (rows : List (List ℕ)). fetchLine s (lineAt (s .place) rows)) (sym (n .lines-are)))
+
+-- so is it from tables and counts that hold a register
+pub fetch-answers : (t : Tables) (c : Counts) (s : OpenSheet) (a : Reply) → a ≡ fetchIn (t .ends) (t .lengths) (t .volumes) c s cleared
+    → (r : Register) → HeldOf (stored t c) r → effect (fetches s) r ≡ record { leaves = r; slice = []; reply = a }
+unfolding effect answer answers
+fetch-answers t c s a h r k =
+    let f : fetchIn (t .ends) (t .lengths) (t .volumes) c s cleared ≡ fetch r s = rw (held-tables k, held-counts k) at (fetch-agrees r (k .reachable) s) in
+    rw (h, f)

@@ -2,10 +2,12 @@
 use mathlib.Core.Path.{_≡_, refl, sym, ap, _∙_}
 use Prim.Native.Nat.{ℕ, zero, suc, _+_, _-_, _≤_, _<_}
 use native.Mathlib.Omega.{arith}
+use mathlib.Core.Bool.{Bool}
 use mathlib.Core.List.{List, [], _∷_, _++_, map}
 use mathlib.Core.Option.{Option, none, some}
-use lib.ListN.{length}
+use lib.ListN.{length, replicate}
 use borrow.Author.Tests.{eq-eqb, le-ltb, lt-ltb}
+use Rattle.model.specs.Basics.{maxEdges}
 use Rattle.model.specs.Queries.{OpenSheet, Reply, fetched, finished, refuses}
 use Rattle.model.specs.Opened.{fetchLine, lineAt, movedOn}
 use Rattle.model.specs.Tables.{Counts, Tables}
@@ -33,10 +35,16 @@ module _ (ds ss es ls vs : List ℕ) (n : ℕ) (ms₀ : List ℕ) (e : ℕ) (ms 
   -- the chain of edge e is the one at the place
   pub line-here : (row : List ℕ) → e < n → before ≡ 0 → row ≡ rowIn ds ss es ls vs n e
       → fetched row (openSheet vertices n (place + 1)) ≡ fetchLine (openSheet vertices n place) (lineAt place rows)
-  unfolding fetchLine movedOn
+  unfolding fetchLine movedOn sheetIn rowsIn sweepIn
   line-here row h z q =
-      let p : length found ≡ place = omega arith in
-      ?
+      let f : ℕ → List ℕ = rowIn ds ss es ls vs n in
+      let k : ℕ = n - (e + 1) in
+      let more : n - e ≡ suc k = omega arith in
+      let rest : List ℕ = sweepIn ds ss es n k (markChainIn ds ss es n ms e) (suc e) in
+      let names : found ++ (e ∷ rest) ≡ namesIn ds ss es n ms₀ = rw (more, eq-eqb _ _ (s .unmarked h), sweepIn) at (s .whole) in
+      let p : place ≡ length found = omega arith in
+      let here : lineAt place rows ≡ some (f e) = ap (λ (m : ℕ). lineAt m rows) p ∙ ap (λ (ds : List ℕ). lineAt (length found) (map f ds)) (sym names) ∙ line-behind f found rest e in
+      ap (λ (ns : List ℕ). fetched ns (openSheet vertices n (place + 1))) q ∙ sym (ap (fetchLine (openSheet vertices n place)) here)
 
   -- all chains are passed over
   pub line-past : n ≤ e → finished (openSheet vertices n place) ≡ fetchLine (openSheet vertices n place) (lineAt place rows)
@@ -45,3 +53,30 @@ module _ (ds ss es ls vs : List ℕ) (n : ℕ) (ms₀ : List ℕ) (e : ℕ) (ms 
       let all : found ≡ namesIn ds ss es n ms₀ = sweep-end ds ss es n ms₀ e ms found h s in
       let few : length rows ≤ place = omega (arith, sheet-count ds ss es ls vs n ms₀, ap length all) in
       sym (ap (fetchLine (openSheet vertices n place)) (line-none place rows few))
+
+-- ---- 33, and the line behind it
+
+module _ (ends lengths volumes : List ℕ) (c : Counts) (s : OpenSheet) (t : Tables) where
+  pub more-vertices : c .vertices < s .vertices → refuses 33 ≡ fetchIn ends lengths volumes c s t
+  unfolding fetchIn
+  more-vertices h = rw (lt-ltb (c .vertices) (s .vertices) h)
+
+  module _ (v : s .vertices ≤ c .vertices) where
+    pub more-edges : c .edges < s .edges → refuses 33 ≡ fetchIn ends lengths volumes c s t
+    unfolding fetchIn
+    more-edges h = rw (le-ltb (c .vertices) (s .vertices) v, lt-ltb (c .edges) (s .edges) h)
+
+    module _ (e : s .edges ≤ c .edges) (t′ : Tables) (answer : AnswerIn)
+        (q : landingIn t′ answer ≡ regrowIn ends lengths volumes (counts (s .vertices) (s .edges) 0 0) t) where
+      answered : lineOn s t′ answer ≡ fetchIn ends lengths volumes c s t
+      unfolding fetchIn
+      answered =
+          rw (le-ltb (c .vertices) (s .vertices) v, le-ltb (c .edges) (s .edges) e) (ap (λ (l : LandingIn). lineOn s (l .tables) (l .answer)) q)
+
+      pub edge-beyond : (x : ℕ) → answer ≡ refusedIn x → refuses 33 ≡ fetchIn ends lengths volumes c s t
+      edge-beyond x w = sym (ap (lineOn s t′) w) ∙ answered
+
+      pub line-landed : (c′ : Counts) (rings : Bool) (a : Reply) → answer ≡ done c′ rings
+          → a ≡ fetchLine s (lineAt (s .place) (sheetIn (t′ .degrees) (t′ .sides) (t′ .ends) (t′ .lengths) (t′ .volumes) (s .edges) (replicate maxEdges 0)))
+          → a ≡ fetchIn ends lengths volumes c s t
+      line-landed c′ rings a w h = h ∙ sym (ap (lineOn s t′) w) ∙ answered
