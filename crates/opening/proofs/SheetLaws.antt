@@ -23,10 +23,11 @@ use Rattle.fetching.proofs.Agreeing.{fetch-answers}
 module _ (t : Tables) (c : Counts) (s s′ : Tables) (h : none ≡ barred (lent t c s)) (e : s′ ≡ scratchAfter (lent t c s)) where
   -- the counts are those of the register that is held
   pub open-answered : outcome t c s′ [] (opened (openSheet (c .vertices) (c .edges) 0)) ≡ step opens (lent t c s)
+  unfolding effect answer answers openingOf countsOf
   open-answered = query-answered opens (lent t c s) s′ [] _ h e opens-so
     where
       opens-so : (r : Register) → HeldOf (stored t c) r → effect opens r ≡ record { leaves = r; slice = []; reply = opened (openSheet (c .vertices) (c .edges) 0) }
-      opens-so r k = ?
+      opens-so r k = ap (λ (x : Counts). record { leaves = r; slice = []; reply = opened (openSheet (x .vertices) (x .edges) 0) }) (held-counts k)
 
   -- the scratch was cleared again
   pub fetch-answered : (o : OpenSheet) (s″ : Tables) (a : Reply) → a ≡ fetchIn (t .ends) (t .lengths) (t .volumes) c o s′ → s″ ≡ zeroed s′

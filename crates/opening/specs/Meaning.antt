@@ -4,20 +4,20 @@ use Rattle.counters.specs.Refusals.{numberOf}
 use Rattle.chains.specs.Answers.{rowOf}
 use Rattle.opening.specs.declared.sheets.OpenSheet.{OpenSheet}
 use Rattle.opening.specs.declared.sheets.Opened.{Opened}
-use Rattle.opening.specs.declared.sheets.Opened.the-variants as open
+use Rattle.opening.specs.declared.sheets.Opened.the-variants as opened
 use Rattle.opening.specs.declared.sheets.Fetched.{Fetched}
-use Rattle.opening.specs.declared.sheets.Fetched.the-variants as fetch
+use Rattle.opening.specs.declared.sheets.Fetched.the-variants as fetched
 
 -- the opening counts and the place
 abbrev pub asSheet : OpenSheet → Q.OpenSheet
 asSheet s = record { vertices = s .vertices; edges = s .edges; place = s .place }
 
 abbrev pub openedReply : Opened → Q.Reply
-openedReply (open.Sheet s) = Q.opened (asSheet s)
-openedReply (open.Refused x) = Q.refuses (numberOf x)
+openedReply (opened.Sheet s) = Q.opened (asSheet s)
+openedReply (opened.Refused x) = Q.refuses (numberOf x)
 
 -- "the line at its place and moves on by one, or .. says the sheet is done and stays"
 abbrev pub fetchedReply : Fetched → Q.Reply
-fetchedReply (fetch.Line row s) = Q.fetched (rowOf row) (asSheet s)
-fetchedReply (fetch.Done s) = Q.finished (asSheet s)
-fetchedReply (fetch.Refused x) = Q.refuses (numberOf x)
+fetchedReply (fetched.Line row s) = Q.fetched (rowOf row) (asSheet s)
+fetchedReply (fetched.Done s) = Q.finished (asSheet s)
+fetchedReply (fetched.Refused x) = Q.refuses (numberOf x)
