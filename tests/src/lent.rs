@@ -8,6 +8,7 @@ use std::fmt;
 
 use crate::house::{Fitting, House, Pipe, PipeNumber, MOST_FITTINGS, MOST_PIPES};
 use crate::list;
+use crate::opened::{self, Fetched, OpenSheet};
 use crate::queries::{self, Found};
 use crate::quote::{self, Quote};
 use crate::refusal::Refusal;
@@ -84,6 +85,26 @@ fn packed(found: Found) -> (u64, u64) {
     (name << 16 | u64::from(number_of(found.coupling)), lengths)
 }
 
+/// An opened sheet in one number, below `kind`: 0 as it was opened, 1 with a line, 2 where it is done.
+fn packed_sheet(kind: u64, sheet: OpenSheet) -> u64 {
+    let numbers = [sheet.fittings, sheet.pipes, sheet.place];
+    let one = |packed, number| packed << 16 | u64::from(number);
+    numbers.into_iter().fold(kind, one)
+}
+
+/// Whether this is the first number of an answer that a sheet is done.
+pub fn is_done(first: u64) -> bool {
+    first >> 48 == 2
+}
+
+/// A line by its hash.
+fn packed_fetch(fetched: Fetched) -> (u64, u64) {
+    match fetched {
+        Fetched::Line(line, next) => (packed_sheet(1, next), hash(&line)),
+        Fetched::Done(sheet) => (packed_sheet(2, sheet), 0),
+    }
+}
+
 fn number_of(count: usize) -> u32 {
     u32::try_from(count).expect("at most 57,349")
 }
@@ -102,6 +123,8 @@ pub enum Call {
     Write(usize),
     Quote(Pipe),
     Commit(Quote),
+    Open,
+    Fetch(OpenSheet),
 }
 
 /// What is done to the tables.
@@ -132,6 +155,11 @@ impl Command {
                 Call::Write(size) => (b'W', [*size, 0, 0], vec![]),
                 Call::Quote(pipe) => (b'Q', asked(pipe), vec![]),
                 Call::Commit(quote) => (b'C', asked(&quote.pipe), parts(quote)),
+                Call::Open => (b'O', [0; 3], vec![]),
+                Call::Fetch(sheet) => {
+                    let numbers = [sheet.fittings, sheet.pipes, sheet.place];
+                    (b'N', numbers.map(usize::from), vec![])
+                }
             },
         };
         let mut bytes = vec![kind, 0, 0, 0];
@@ -319,6 +347,8 @@ impl Lent {
                 numbers = bytes.into_iter().map(u32::from).collect();
                 fits(&mut numbers, size).map(|()| (count.into(), 0))
             }
+            Call::Open => Ok((packed_sheet(0, opened::open(&house)), 0)),
+            Call::Fetch(sheet) => opened::fetch(&house, sheet).map(packed_fetch),
         };
         self.answer(call, answered.map_err(refused), &numbers)
     }

@@ -5,6 +5,7 @@
 //! - [`list`]: the list of records, read and written;
 //! - [`queries`]: find, distance and sheet;
 //! - [`quote`]: what a pipe would cost, and its commit;
+//! - [`opened`]: a sheet that is fetched line by line while landing goes on;
 //! - [`calls`]: the same as calls from C answer them;
 //! - [`lent`]: the same over lent tables, and what the tables hold;
 //! - [`print`]: what the printing program prints;
@@ -25,6 +26,7 @@ pub mod house;
 pub mod judge;
 pub mod lent;
 pub mod list;
+pub mod opened;
 pub mod plan;
 pub mod print;
 pub mod queries;

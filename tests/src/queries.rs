@@ -3,7 +3,7 @@
 use std::cmp::Reverse;
 use std::collections::{BTreeMap, BinaryHeap};
 
-use crate::house::{Fitting, House, Millimetres, PipeNumber, Tag};
+use crate::house::{Fitting, House, Millimetres, Pipe, PipeNumber, Tag};
 use crate::refusal::Refusal;
 use crate::ring::Ring;
 use crate::run::{self, Run};
@@ -147,8 +147,14 @@ pub fn sheet(house: &House) -> Vec<Line> {
     let (runs, rings) = house.afresh();
     assert_eq!(sorted_runs(house.runs()), sorted_runs(&runs), "runs");
     assert_eq!(sorted_rings(house.rings()), sorted_rings(&rings), "rings");
-    let of_runs = runs.iter().map(|run| line(house, run));
-    let of_rings = rings.iter().map(|ring| ring_line(house, ring));
+    sheet_of(house.fittings(), house.pipes())
+}
+
+/// The same of so many fittings and these pipes alone.
+pub fn sheet_of(fittings: usize, pipes: &[Pipe]) -> Vec<Line> {
+    let (runs, rings) = run::afresh(fittings, pipes);
+    let of_runs = runs.iter().map(|run| line(pipes, run));
+    let of_rings = rings.iter().map(|ring| ring_line(pipes, ring));
     let mut lines: Vec<Line> = of_runs.chain(of_rings).collect();
     lines.sort_unstable();
     lines
@@ -162,26 +168,26 @@ fn landed(house: &House, fitting: Fitting) -> Result<(), Refusal> {
     }
 }
 
-fn line(house: &House, run: &Run) -> Line {
+fn line(pipes: &[Pipe], run: &Run) -> Line {
     [
         number(run.name()),
         number(run.low().min(run.high())),
         number(run.low().max(run.high())),
         number(run.couplings().len()),
-        run.length(house.pipes()),
-        run.volume(house.pipes()),
+        run.length(pipes),
+        run.volume(pipes),
     ]
 }
 
 /// A ring's lowest fitting stands as both ends, and all its fittings are couplings.
-fn ring_line(house: &House, ring: &Ring) -> Line {
+fn ring_line(pipes: &[Pipe], ring: &Ring) -> Line {
     [
         number(ring.name()),
         number(ring.lowest_fitting()),
         number(ring.lowest_fitting()),
         number(ring.fittings().len()),
-        ring.length(house.pipes()),
-        ring.volume(house.pipes()),
+        ring.length(pipes),
+        ring.volume(pipes),
     ]
 }
 

@@ -17,6 +17,7 @@ pub enum Refusal {
     FullFittings = 22,
     FullPipes = 23,
     Volume = 31,
+    Beyond = 33,
 }
 
 impl Refusal {

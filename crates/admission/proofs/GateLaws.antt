@@ -3,14 +3,16 @@
 use mathlib.Core.Path.{_≡_, refl, sym, ap, _∙_, subst}
 use Prim.Native.Nat.{ℕ}
 use mathlib.Core.Bool.{Bool, true, false, _&&_}
+use mathlib.Core.List.{List}
 use mathlib.Core.Option.{Option, none, some, Option·some-injective, Option·some-ne-none}
 use Rattle.model.specs.Register.{Register}
-use Rattle.model.specs.Queries.{refuses}
+use Rattle.model.specs.Queries.{Reply, refuses}
 use Rattle.model.specs.Tables.{Tables, Counts, fits, cleared, held}
-use Rattle.model.specs.Calls.{Call, Lent, allFit, bars, gate, registerFor, scratchAfter, lentSlice, step}
+use Rattle.model.specs.Calls.{Call, Lent, allFit, bars, effect, gate, registerFor, scratchAfter, lentSlice, step}
 use Rattle.model.proofs.Basics.Booleans.{not-both}
 use Rattle.model.specs.Notions.{HeldOf}
 use Rattle.model.proofs.Registers.OnlyHeld.{only-held}
+use Rattle.model.proofs.Series.Calls.{outcomeOf, scratch-cleared, step-fits}
 use Rattle.tables.specs.Meaning.{stored}
 use Rattle.tables.specs.Steps.{zeroed}
 use Rattle.admission.specs.Lent.{lent, outcome}
@@ -99,3 +101,16 @@ opened l h = go (allFit l) refl (held (l .stored)) refl
     go false e o f = absurd (Option·some-ne-none 25 (sym (rw (e, barred) at h)))
     go true e none f = absurd (Option·some-ne-none 21 (sym (rw (e, barred, f) at h)))
     go true e (some r) f = record { fit = e; register = r; holds = f; is = only-held (l .stored) r f }
+
+-- behind an open gate the scratch is all zero
+pub open-cleared : (l : Lent) (s : Tables) → none ≡ barred l → s ≡ scratchAfter l → s ≡ cleared
+open-cleared l s h e = e ∙ scratch-cleared l ((opened l h) .fit)
+
+-- behind an open gate a question leaves the register and is answered: what it has to give is its effect on the register that is held
+pub query-answered : (c : Call) (l : Lent) (s : Tables) (xs : List ℕ) (a : Reply) → none ≡ barred l → s ≡ scratchAfter l
+    → ((r : Register) → HeldOf (l .stored) r → effect c r ≡ record { leaves = r; slice = xs; reply = a })
+    → outcome (l .stored .tables) (l .stored .counts) s xs a ≡ step c l
+unfolding outcomeOf
+query-answered c l s xs a h e f =
+    let o = opened l h in
+    rw (step-fits c l (o .register) (o .fit) (o .holds), outcomeOf, f (o .register) (o .is), ← o .is .stored-is, e, scratch-cleared l (o .fit))

@@ -1,4 +1,3 @@
-pub mod QueryLaws
 pub mod ScratchLaws
 pub mod MeasureLaws
 pub mod QuoteLaws

@@ -13,17 +13,15 @@ use Rattle.tables.specs.Steps.{zeroed}
 use Rattle.admission.specs.Lent.{lent, outcome}
 use Rattle.admission.specs.Gate.{barred}
 use Rattle.admission.proofs.SizeLaws.{zeroed-cleared}
-use Rattle.admission.proofs.GateLaws.{opened}
-use Rattle.asking.proofs.QueryLaws.{query-answered}
+use Rattle.admission.proofs.GateLaws.{open-cleared, opened, query-answered}
 use Rattle.questions.specs.Measure.{Measurable, measureIn}
 use Rattle.questions.proofs.Searchable.{measurable}
 use Rattle.questions.proofs.Measuring.{measure-answers}
 use Rattle.model.proofs.Registers.Kept.{cleared-fits}
-use Rattle.model.proofs.Series.Calls.{scratch-cleared}
 
 module _ (t : Tables) (c : Counts) (s s′ : Tables) (h : none ≡ barred (lent t c s)) (e : s′ ≡ scratchAfter (lent t c s)) where
   scratch-is : s′ ≡ cleared
-  scratch-is = e ∙ scratch-cleared (lent t c s) (opened (lent t c s) h .fit)
+  scratch-is = open-cleared (lent t c s) s′ h e
 
   -- what the search asks
   pub open-measurable : Measurable (t .ends) (t .lengths) c × (maxVertices ≤ length (s′ .lengths))

@@ -9,21 +9,19 @@ use Rattle.model.specs.Basics.{maxVertices}
 use Rattle.model.specs.Queries.{Reply}
 use Rattle.model.specs.Tables.{Tables, Counts, cleared}
 use Rattle.model.specs.Calls.{Call, sheets, scratchAfter, step}
-use Rattle.model.proofs.Series.Calls.{scratch-cleared}
 use Rattle.tables.specs.Meaning.{tables}
 use Rattle.admission.specs.Lent.{lent, outcome}
 use Rattle.admission.specs.Gate.{barred}
-use Rattle.admission.proofs.GateLaws.{opened}
+use Rattle.admission.proofs.GateLaws.{open-cleared, query-answered}
 use Rattle.questions.specs.Answering.{answered, sheetedIn}
 use Rattle.questions.proofs.AnswerLaws.{sheet-answers}
 use Rattle.questions.proofs.Answers.{Answers}
-use Rattle.asking.proofs.QueryLaws.{query-answered}
 
 -- Find and the sheet over scratch g that the gate left. Its sides served for the order of the search; its degrees and its sides for marks. They are
 -- zeros again.
 module _ (t : Tables) (c : Counts) (s g : Tables) (h : none ≡ barred (lent t c s)) (e : g ≡ scratchAfter (lent t c s)) where
   zeros : g ≡ cleared
-  zeros = e ∙ scratch-cleared (lent t c s) ((opened (lent t c s) h) .fit)
+  zeros = open-cleared (lent t c s) g h e
 
   degrees-are : g .degrees ≡ replicate maxVertices 0
   unfolding cleared

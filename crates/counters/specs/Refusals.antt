@@ -1,7 +1,7 @@
 -- Document 01, "Refusals from the input" and "Refusals from the state", and document 02, "Errors": the number of each.
 use Prim.Native.Nat.{ℕ}
 use Rattle.counters.specs.declared.refusals.Refusal.{Refusal}
-use Rattle.counters.specs.declared.refusals.Refusal.the-variants.{NoMark, Version, Cut, UnknownKind, NotLanded, SameVertex, Length, NotRegular, ShortSlice, NotGrown, TooManyVertices, TooManyEdges, WrongSize, Volume, OtherQuote}
+use Rattle.counters.specs.declared.refusals.Refusal.the-variants.{NoMark, Version, Cut, UnknownKind, NotLanded, SameVertex, Length, NotRegular, ShortSlice, NotGrown, TooManyVertices, TooManyEdges, WrongSize, Volume, OtherQuote, Beyond}
 
 abbrev pub numberOf : Refusal → ℕ
 -- "no mark (list shorter than 3 or other bytes)"
@@ -34,3 +34,5 @@ numberOf WrongSize = 25
 numberOf Volume = 31
 -- document 02, S-5: "the quote differs in any part from one made now"
 numberOf OtherQuote = 32
+-- document 02, S-6: "an opening with more fittings or pipes than the register has, or whose pipes name a fitting beyond its own"
+numberOf Beyond = 33

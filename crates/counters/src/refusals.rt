@@ -1,4 +1,4 @@
-// Document 01's refusals, and 31 and 32 of document 02, which withdraws 24. A definition, `numberOf`, gives the number of each.
+// Document 01's refusals, and 31, 32 and 33 of document 02, which withdraws 24. A definition, `numberOf`, gives the number of each.
 ghost use mathlib.Core.Path.{_≡_};
 ghost use Rattle.counters.specs.Refusals.{numberOf};
 
@@ -18,6 +18,7 @@ pub enum Refusal {
     WrongSize,
     Volume,
     OtherQuote,
+    Beyond,
 }
 
 impl Refusal {
@@ -40,6 +41,7 @@ impl Refusal {
             Refusal::WrongSize => 25,
             Refusal::Volume => 31,
             Refusal::OtherQuote => 32,
+            Refusal::Beyond => 33,
         }
     }
 }

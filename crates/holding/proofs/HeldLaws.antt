@@ -31,7 +31,7 @@ use Rattle.model.proofs.Registers.Accepted.{vertex-lands}
 -- ---- edges one after the other
 
 -- what the tables answer, of what the definition leaves: the same register, or the same refusal
-abbrev Agrees : Landed → LandingIn → Type 0
+abbrev pub Agrees : Landed → LandingIn → Type 0
 Agrees (landed r) l = leftBy l ≡ some (stored (tablesOf r) (countsOf r))
 Agrees (refused x) l = l .answer ≡ refusedIn x
 
@@ -112,13 +112,13 @@ grow-over n es h = rw (vertices-over n empty (omega (arith, no-vertices)) (omega
 
 -- ---- growing again, on the tables and by the definition
 
-abbrev growing : Tables → Counts → Landed
+abbrev pub growing : Tables → Counts → Landed
 growing t c = growFrom (c .vertices) (storedEdges t (c .edges))
 
-abbrev regrown : Tables → Counts → LandingIn
+abbrev pub regrown : Tables → Counts → LandingIn
 regrown t c = regrowIn (t .ends) (t .lengths) (t .volumes) c cleared
 
-regrow-agrees : (t : Tables) (c : Counts) → Agrees (growing t c) (regrown t c)
+pub regrow-agrees : (t : Tables) (c : Counts) → Agrees (growing t c) (regrown t c)
 unfolding regrowIn storedEdges upTo
 regrow-agrees t c = go (decLe (c .vertices) maxVertices)
   where

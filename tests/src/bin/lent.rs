@@ -10,7 +10,7 @@ use std::process::ExitCode;
 use reference::arguments::count_and_seed;
 use reference::gen::random::Random;
 use reference::gen::series::{self, Source};
-use reference::lent::{Call, Command, Lent};
+use reference::lent::{self, Answer, Call, Command, Lent};
 use reference::tally::{verdict, Cases};
 
 const DEFAULT_COUNT: usize = 6;
@@ -28,7 +28,7 @@ struct Tally {
 }
 
 /// The refusals of each call, 0 for an answer.
-const OUTCOMES: [(&str, &[u32]); 9] = [
+const OUTCOMES: [(&str, &[u32]); 12] = [
     ("grow", &[0, 3, 4, 5, 7, 22, 23, 25, 31]),
     ("land", &[0, 1, 2, 3, 4, 5, 6, 7, 21, 25, 31]),
     ("find", &[0, 8, 21, 25]),
@@ -38,11 +38,18 @@ const OUTCOMES: [(&str, &[u32]); 9] = [
     ("write", &[0, 9, 21, 25]),
     ("quote", &[0, 21, 25]),
     ("commit", &[0, 5, 21, 25, 32]),
+    ("open", &[0, 21, 25]),
+    ("fetch", &[0, 21, 25, 33]),
+    ("fetch done", &[0]),
 ];
 
 impl Tally {
-    fn count_call(&mut self, call: &Call, refusal: u32, lent: &mut Lent) {
-        *self.calls.entry((name(call), refusal)).or_default() += 1;
+    fn count_call(&mut self, call: &Call, answer: &Answer, lent: &mut Lent) {
+        let name = match call {
+            Call::Fetch(_) if lent::is_done(answer.first) => "fetch done",
+            _ => name(call),
+        };
+        *self.calls.entry((name, answer.refusal)).or_default() += 1;
         let house = lent.house().unwrap_or_default();
         let of_two = house.rings().iter().map(|ring| ring.pipes().len() == 2);
         for of_two in of_two.collect::<BTreeSet<bool>>() {
@@ -81,6 +88,8 @@ fn name(call: &Call) -> &'static str {
         Call::Write(_) => "write",
         Call::Quote(_) => "quote",
         Call::Commit(_) => "commit",
+        Call::Open => "open",
+        Call::Fetch(_) => "fetch",
     }
 }
 
@@ -102,6 +111,7 @@ fn main() -> ExitCode {
             random,
             number,
             lists,
+            sheets: Vec::new(),
         };
         let (asked, expected) = series(source, &mut tally);
         for (end, bytes) in [("stdin", asked), ("stdout", expected.into_bytes())] {
@@ -142,7 +152,7 @@ fn series(mut source: Source, tally: &mut Tally) -> (Vec<u8>, String) {
                     }
                     let answer = lent.call(&call);
                     expected += &format!("{answer}\n");
-                    tally.count_call(&call, answer.refusal, &mut lent);
+                    tally.count_call(&call, &answer, &mut lent);
                 }
             }
         }

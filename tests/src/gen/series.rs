@@ -9,6 +9,7 @@ use super::{full, list, records, version, whole_of};
 use crate::house::{House, Pipe, Standing, LARGEST_VOLUME};
 use crate::lent::{Call, Command, Lent, BYTES, SIZES, SLICE};
 use crate::list::{self as lists, Record};
+use crate::opened::{self, OpenSheet};
 use crate::queries;
 use crate::quote::{self, Quote};
 
@@ -21,6 +22,10 @@ const FIRST_FULL_SIZE: usize = 12;
 
 /// The most tags that are asked for in turn.
 const MOST_TAGS: usize = 40;
+
+/// The most sheets that are kept open, and the most lines that are fetched in one go.
+const MOST_SHEETS: usize = 8;
+const MOST_LINES: usize = 6;
 
 /// Shapes that leave rings standing.
 const WITH_RINGS: &[Shape] = &[
@@ -38,6 +43,8 @@ pub struct Source {
     pub number: usize,
     /// The seed of its lists.
     pub lists: u64,
+    /// Sheets that are open, some since long ago.
+    pub sheets: Vec<OpenSheet>,
 }
 
 /// A few commands that go well with what the tables hold now.
@@ -60,6 +67,7 @@ pub fn next(source: &mut Source, turn: usize, lent: &mut Lent) -> Vec<Command> {
         14..=19 => vec![Command::Call(land(random, house.as_ref()))],
         20..=21 => committed(random, house.as_ref()),
         22 => every_tag(house.as_ref()),
+        23..=25 => fetches(source, house.as_ref()),
         _ => vec![Command::Call(question(random, house.as_ref()))],
     }
 }
@@ -169,7 +177,7 @@ fn committed(random: &mut Random, house: Option<&House>) -> Vec<Command> {
         0..=3 => vec![quoted, commit],
         4 => vec![quoted, commit.clone(), commit],
         5 => vec![quoted, Command::Call(land(random, Some(house))), commit],
-        _ => vec![Command::Call(Call::Commit(forged(random, made)))],
+        _ => vec![Command::Call(Call::Commit(forged_quote(random, made)))],
     }
 }
 
@@ -204,7 +212,7 @@ fn pipe(random: &mut Random, house: &House) -> Pipe {
 }
 
 /// One part is another.
-fn forged(random: &mut Random, quote: Quote) -> Quote {
+fn forged_quote(random: &mut Random, quote: Quote) -> Quote {
     let mut forged = quote;
     let any = random.u32();
     match random.below(9) {
@@ -224,8 +232,8 @@ fn forged(random: &mut Random, quote: Quote) -> Quote {
 /// Every question, also about numbers that are no fitting and tags that are not worn.
 fn question(random: &mut Random, house: Option<&House>) -> Call {
     let fittings = house.map_or(0, House::fittings);
-    match random.below(10) {
-        9 => Call::Quote(pipe(random, house.unwrap_or(&House::default()))),
+    match random.below(12) {
+        10 => Call::Quote(pipe(random, house.unwrap_or(&House::default()))),
         0 | 1 => Call::Find(tag(random, house)),
         2 | 3 => Call::FindAt(coupling(random, house)),
         4 | 5 => Call::Distance(fitting(random, fittings), fitting(random, fittings)),
@@ -233,10 +241,25 @@ fn question(random: &mut Random, house: Option<&House>) -> Call {
             let needs = house.map_or(6, |house| 6 * queries::sheet(house).len());
             Call::Sheet(room(random, needs, SLICE))
         }
+        8 => Call::Open,
+        9 => Call::Fetch(opened_before(random, house)),
         _ => {
             let needs = house.map_or(5, |house| lists::written(house).len());
             Call::Write(room(random, needs, BYTES))
         }
+    }
+}
+
+/// A sheet as it was opened at some pipe of this register, at one of its first lines.
+fn opened_before(random: &mut Random, house: Option<&House>) -> OpenSheet {
+    let counts = house.map_or([0, 0], |house| [house.fittings(), house.pipes().len()]);
+    let pipes = random.below(counts[1] + 1);
+    let numbers = [counts[0], random.pick(&[pipes, counts[1]]), random.below(4)];
+    let [fittings, pipes, place] = numbers.map(|n| u16::try_from(n).expect("16 bits"));
+    OpenSheet {
+        fittings,
+        pipes,
+        place,
     }
 }
 
@@ -288,6 +311,77 @@ fn room(random: &mut Random, needs: usize, most: usize) -> usize {
     let more = random.between(needs, most);
     let near = [needs.saturating_sub(1), needs, needs, needs + 1];
     random.pick(&[near[0], near[1], near[2], near[3], less, more, most])
+}
+
+/// A sheet is opened, or one that is open is fetched from, with landings between: from its place on, near
+/// its end, or behind it. Any number may be a sheet's.
+fn fetches(source: &mut Source, house: Option<&House>) -> Vec<Command> {
+    let random = &mut source.random;
+    let open = house.map(opened::open);
+    if let (Some(open), true) = (open, source.sheets.is_empty() || random.one_in(3)) {
+        if source.sheets.len() == MOST_SHEETS {
+            source.sheets.swap_remove(random.below(MOST_SHEETS));
+        }
+        source.sheets.push(open);
+        return vec![Command::Call(Call::Open)];
+    }
+    let Some(kept) = source.sheets.len().checked_sub(1) else {
+        return vec![Command::Call(Call::Open)];
+    };
+    let any = random.below(kept + 1);
+    let kept = random.pick(&[any, kept, kept]);
+    let mut sheet = source.sheets[kept];
+    let lines = house.map_or(Ok(vec![]), |house| opened::lines(house, sheet));
+    let count = u16::try_from(lines.map_or(0, |lines| lines.len())).expect("at most 4,096");
+    match random.below(12) {
+        0 => sheet.place = count.saturating_sub(1),
+        1 => sheet.place = random.pick(&[count, count + 1, u16::MAX]),
+        2 => sheet = forged(random, sheet, house),
+        _ => {}
+    }
+    let mut commands = Vec::new();
+    for _ in 0..random.between(1, MOST_LINES) {
+        commands.push(Command::Call(Call::Fetch(sheet)));
+        if sheet.place < count {
+            sheet.place += 1;
+        }
+        if random.one_in(4) {
+            commands.push(Command::Call(land(random, house)));
+        }
+    }
+    source.sheets[kept] = sheet;
+    commands
+}
+
+/// A sheet that no opening gave, or not of this register: a count is changed by a little, or for any.
+fn forged(random: &mut Random, sheet: OpenSheet, house: Option<&House>) -> OpenSheet {
+    let now = house.map_or(sheet, opened::open);
+    let near = |random: &mut Random, count: u16| {
+        let any = u16::from_le_bytes([random.byte(), random.byte()]);
+        random.pick(&[count, count.saturating_sub(1), count.saturating_add(1), any])
+    };
+    let any = |random: &mut Random, most: u16| {
+        let most = usize::from(most);
+        u16::try_from(random.below(most + 1)).expect("16 bits")
+    };
+    match random.below(4) {
+        0 => OpenSheet {
+            fittings: near(random, now.fittings),
+            ..now
+        },
+        1 => OpenSheet {
+            pipes: near(random, now.pipes),
+            ..now
+        },
+        2 => OpenSheet {
+            fittings: any(random, now.fittings),
+            ..sheet
+        },
+        _ => OpenSheet {
+            pipes: any(random, now.pipes),
+            ..now
+        },
+    }
 }
 
 /// The list is written; another house is grown, so that the tables hold something else; then the list is grown whole, and

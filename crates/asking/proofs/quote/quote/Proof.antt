@@ -3,7 +3,7 @@ use Rattle.model.specs.Calls.{quotes, registerFor, lentSlice, lentTo}
 use Rattle.admission.specs.Gate.{gateRefusal}
 use Rattle.admission.proofs.GateLaws.{query-refused}
 use Rattle.asking.proofs.QuoteLaws.{quote-answers}
-use Rattle.asking.proofs.QueryLaws.{query-answered}
+use Rattle.admission.proofs.GateLaws.{query-answered}
 use borrow.Author.Needs.{needs}
 use Rattle.asking.proofs.quote.quote.Statement.{statement}
 use Rattle.asking.proofs.quote.quote.Tie as tie

@@ -1,5 +1,4 @@
-use Rattle.asking.proofs.QueryLaws.{query-answered}
-use Rattle.admission.proofs.GateLaws.{query-refused}
+use Rattle.admission.proofs.GateLaws.{query-answered, query-refused}
 use Rattle.questions.proofs.WritingLaws.{write-answers}
 use Rattle.admission.specs.Gate.{gateRefusal}
 use Rattle.model.specs.Calls.{writes, registerFor, lentSlice, lentTo}

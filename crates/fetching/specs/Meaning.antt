@@ -1,0 +1,16 @@
+-- What the enum of this crate means.
+use Prim.Native.Nat.{ℕ}
+use Rattle.model.specs.Queries.{OpenSheet, Reply, fetched, finished, refuses}
+use Rattle.chains.specs.Answers.{rowOf}
+use Rattle.fetching.specs.declared.lines.Line.{Line}
+use Rattle.fetching.specs.declared.lines.Line.the-variants.{Row, Past, Beyond}
+
+-- a sheet by its opening counts and its place
+abbrev pub openSheet : ℕ → ℕ → ℕ → OpenSheet
+openSheet vertices edges place = record { vertices = vertices; edges = edges; place = place }
+
+-- what a fetch from this sheet is answered: "the line at its place and moves on", "done and stays", 33
+abbrev pub lineReply : OpenSheet → Line → Reply
+lineReply s (Row row next) = fetched (rowOf row) (openSheet (s .vertices) (s .edges) next)
+lineReply s Past = finished s
+lineReply s Beyond = refuses 33

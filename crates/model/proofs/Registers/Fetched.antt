@@ -1,0 +1,94 @@
+-- Document 02, S-6: what a fetch from an opened sheet answers.
+use mathlib.Core.Path.{_≡_, refl, sym, ap, _∙_}
+use mathlib.Core.Logic.{_≢_}
+use Prim.Native.Nat.{ℕ, zero, suc, _+_, min, _≤_, _<_}
+use native.Mathlib.Omega.{arith}
+use native.Mathlib.Decide.{decLt}
+use native.Mathlib.Nat.{not-suc-le-zero}
+use mathlib.Core.Bool.{Bool, true, false}
+use mathlib.Core.List.{List, [], _∷_}
+use mathlib.Core.Option.{Option, none, some}
+use lib.ListN.{length, getD, length-take}
+use lib.Dec.{eqb}
+use Rattle.model.specs.Basics.{if_then_else_, maxEdges, upTo}
+use Rattle.model.specs.Graph.{Edge, nameOf}
+use Rattle.model.specs.Register.{Register}
+use Rattle.model.specs.Queries.{OpenSheet, Reply, fetched, finished, refuses, rowsOf}
+use Rattle.model.specs.Opened.{fetch, fetchLine, isBeyond, lineAt, movedOn, openedEdges, openedLines}
+use Rattle.model.specs.Notions.{Reachable}
+use Rattle.model.proofs.Basics.Lists.{length-upTo}
+use Rattle.model.proofs.Registers.Founded.{Founded}
+use Rattle.model.proofs.Registers.Reachable.{founded}
+
+-- ---- the line at a place
+
+pub line-some : (n : ℕ) (rows : List (List ℕ)) → n < length rows → lineAt n rows ≡ some (getD rows n [])
+unfolding lineAt
+line-some n [] h = absurd (not-suc-le-zero h)
+line-some zero (ns ∷ rows) h = refl
+line-some (suc n) (ns ∷ rows) h = line-some n rows (omega arith)
+
+pub line-none : (n : ℕ) (rows : List (List ℕ)) → length rows ≤ n → lineAt n rows ≡ none
+unfolding lineAt
+line-none n [] h = refl
+line-none zero (ns ∷ rows) h = absurd (not-suc-le-zero h)
+line-none (suc n) (ns ∷ rows) h = line-none n rows (omega arith)
+
+-- ---- there are at most as many lines as edges
+
+rows-few : (es : List Edge) (ds : List ℕ) → length (rowsOf es ds) ≤ length ds
+unfolding rowsOf
+rows-few es [] = omega arith
+rows-few es (d ∷ ds) = go (eqb (nameOf es d) d) refl (rows-few es ds)
+  where
+    go : (b : Bool) → eqb (nameOf es d) d ≡ b → length (rowsOf es ds) ≤ length ds → length (rowsOf es (d ∷ ds)) ≤ length (d ∷ ds)
+    go true e i = rw (e, rowsOf) (omega arith)
+    go false e i = rw (e, rowsOf) (omega arith)
+
+pub lines-few : (r : Register) → Reachable r → (s : OpenSheet) → length (openedLines r s) ≤ maxEdges
+unfolding openedLines openedEdges
+lines-few r k s =
+    let es = openedEdges r s in
+    omega (arith, rows-few es (upTo (length es)), length-upTo (length es), length-take (s .edges) (r .edges), (founded r k) .room)
+
+-- ---- a fetch
+
+not-33 : (s : OpenSheet) (o : Option (List ℕ)) → fetchLine s o ≢ refuses 33
+unfolding fetchLine
+not-33 s (some ns) e = let z : _≡_ {A = ℕ} 0 1 = cc in omega arith
+not-33 s none e = let z : _≡_ {A = ℕ} 0 1 = cc in omega arith
+
+module _ (r : Register) (s : OpenSheet) where
+  pub fetch-beyond : isBeyond r s ≡ true → fetch r s ≡ refuses 33
+  unfolding fetch
+  fetch-beyond h = rw h
+
+  pub fetch-within : isBeyond r s ≡ false → fetch r s ≡ fetchLine s (lineAt (s .place) (openedLines r s))
+  unfolding fetch
+  fetch-within h = rw h
+
+  pub only-beyond : fetch r s ≡ refuses 33 → isBeyond r s ≡ true
+  only-beyond e = go (isBeyond r s) refl
+    where
+      go : (b : Bool) → isBeyond r s ≡ b → isBeyond r s ≡ true
+      go true h = h
+      go false h = absurd (not-33 s _ (sym (fetch-within h) ∙ e))
+
+  pub fetch-line : isBeyond r s ≡ false → s .place < length (openedLines r s) → fetch r s ≡ fetched (getD (openedLines r s) (s .place) []) (movedOn s)
+  unfolding fetchLine
+  fetch-line h l = fetch-within h ∙ ap (fetchLine s) (line-some (s .place) (openedLines r s) l)
+
+  pub fetch-done : isBeyond r s ≡ false → length (openedLines r s) ≤ s .place → fetch r s ≡ finished s
+  unfolding fetchLine
+  fetch-done h l = fetch-within h ∙ ap (fetchLine s) (line-none (s .place) (openedLines r s) l)
+
+  finished-is : (t u : OpenSheet) → finished t ≡ finished u → t ≡ u
+  finished-is t u e = cc
+
+  pub only-done : (s′ : OpenSheet) → fetch r s ≡ finished s′ → (s′ ≡ s) × (length (openedLines r s) ≤ s .place)
+  only-done s′ e = go (isBeyond r s) refl (decLt (s .place) (length (openedLines r s)))
+    where
+      go : (b : Bool) → isBeyond r s ≡ b → Dec (s .place < length (openedLines r s)) → (s′ ≡ s) × (length (openedLines r s) ≤ s .place)
+      go true h d = absurd (let q : refuses 33 ≡ finished s′ = sym (fetch-beyond h) ∙ e in let z : _≡_ {A = ℕ} 0 1 = cc in omega arith)
+      go false h (yes l) = absurd (let q = sym (fetch-line h l) ∙ e in let z : _≡_ {A = ℕ} 0 1 = cc in omega arith)
+      go false h (no l) = (finished-is s′ s (sym e ∙ fetch-done h (omega arith)), omega arith)

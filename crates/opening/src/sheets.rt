@@ -1,0 +1,172 @@
+// A sheet that is opened and then fetched line by line, with landings allowed between (document 02, S-6).
+use admission::gate::Gate;
+use admission::gate::pass_gate;
+use chains::rows::Row;
+use counters::counts::Counts;
+use counters::refusals::Refusal;
+use fetching::lines::Line;
+use fetching::named::line_cleared;
+ghost use mathlib.Core.Path.{_≡_};
+ghost use mathlib.Core.List.{[]};
+ghost use Rattle.model.specs.Calls.{fetches, opens, step};
+ghost use Rattle.counters.specs.Answers.{asCounts};
+ghost use Rattle.tables.specs.Meaning.{tables};
+ghost use Rattle.fetching.specs.Meaning.{lineReply};
+ghost use Rattle.admission.specs.Lent.{lent, outcome};
+ghost use Rattle.opening.specs.Meaning.{asSheet, fetchedReply, openedReply};
+
+// The counts of vertices and edges (document 01: fittings and pipes) at the opening, and the place of the next line. It is its caller's to
+// keep, and no part of the register: landing goes on meanwhile, and any number of sheets may be open.
+pub struct OpenSheet {
+    pub vertices: u16,
+    pub edges: u16,
+    pub place: u16,
+}
+
+pub enum Opened {
+    Sheet(OpenSheet),
+    Refused(Refusal),
+}
+
+// A line, and the sheet at the next one; or the sheet as it was, which is done.
+pub enum Fetched {
+    Line(Row, OpenSheet),
+    Done(OpenSheet),
+    Refused(Refusal),
+}
+
+impl OpenSheet {
+    // 25, then 21.
+    pub fn open(
+        degrees: &[u16],
+        sides: &[u16],
+        ends: &[u16],
+        lengths: &[u32],
+        volumes: &[u32],
+        labels: &[u32],
+        counts: Counts,
+        sdegrees: &mut [u16],
+        ssides: &mut [u16],
+        sends: &mut [u16],
+        slengths: &mut [u32],
+        svolumes: &mut [u32],
+        slabels: &mut [u32],
+    ) -> Opened
+        ensures { λ r. ⌜ outcome
+            (tables (now (degrees .entry)) (now (sides .entry)) (now (ends .entry)) (now (lengths .entry)) (now (volumes .entry)) (now (labels .entry)))
+            (asCounts counts)
+            (tables (now (sdegrees .exit)) (now (ssides .exit)) (now (sends .exit)) (now (slengths .exit)) (now (svolumes .exit)) (now (slabels .exit)))
+            [] (openedReply r)
+            ≡ step opens
+            (lent (tables (now (degrees .entry)) (now (sides .entry)) (now (ends .entry)) (now (lengths .entry)) (now (volumes .entry)) (now (labels .entry)))
+            (asCounts counts)
+            (tables (now (sdegrees .entry)) (now (ssides .entry)) (now (sends .entry)) (now (slengths .entry)) (now (svolumes .entry)) (now (slabels .entry)))) ⌝ }
+    {
+        let passed = pass_gate(
+            degrees,
+            sides,
+            ends,
+            lengths,
+            volumes,
+            labels,
+            counts,
+            sdegrees,
+            ssides,
+            sends,
+            slengths,
+            svolumes,
+            slabels,
+        );
+        match passed {
+            Gate::Open => Opened::Sheet(OpenSheet {
+                vertices: counts.vertices,
+                edges: counts.edges,
+                place: 0,
+            }),
+            Gate::Refused(refusal) => Opened::Refused(refusal),
+        }
+    }
+
+    // A line moves the sheet on; nothing else does.
+    fn gives(self, line: Line) -> Fetched
+        ensures { λ r. ⌜ fetchedReply r ≡ lineReply (asSheet self) line ⌝ }
+    {
+        match line {
+            Line::Row(row, next) => Fetched::Line(
+                row,
+                OpenSheet {
+                    vertices: self.vertices,
+                    edges: self.edges,
+                    place: next,
+                },
+            ),
+            Line::Past => Fetched::Done(self),
+            Line::Beyond => Fetched::Refused(Refusal::Beyond),
+        }
+    }
+
+    // 25, 21, then 33.
+    pub fn fetch(
+        self,
+        degrees: &[u16],
+        sides: &[u16],
+        ends: &[u16],
+        lengths: &[u32],
+        volumes: &[u32],
+        labels: &[u32],
+        counts: Counts,
+        sdegrees: &mut [u16],
+        ssides: &mut [u16],
+        sends: &mut [u16],
+        slengths: &mut [u32],
+        svolumes: &mut [u32],
+        slabels: &mut [u32],
+    ) -> Fetched
+        ensures { λ r. ⌜ outcome
+            (tables (now (degrees .entry)) (now (sides .entry)) (now (ends .entry)) (now (lengths .entry)) (now (volumes .entry)) (now (labels .entry)))
+            (asCounts counts)
+            (tables (now (sdegrees .exit)) (now (ssides .exit)) (now (sends .exit)) (now (slengths .exit)) (now (svolumes .exit)) (now (slabels .exit)))
+            [] (fetchedReply r)
+            ≡ step (fetches (asSheet self))
+            (lent (tables (now (degrees .entry)) (now (sides .entry)) (now (ends .entry)) (now (lengths .entry)) (now (volumes .entry)) (now (labels .entry)))
+            (asCounts counts)
+            (tables (now (sdegrees .entry)) (now (ssides .entry)) (now (sends .entry)) (now (slengths .entry)) (now (svolumes .entry)) (now (slabels .entry)))) ⌝ }
+    {
+        let passed = pass_gate(
+            degrees,
+            sides,
+            ends,
+            lengths,
+            volumes,
+            labels,
+            counts,
+            sdegrees,
+            ssides,
+            sends,
+            slengths,
+            svolumes,
+            slabels,
+        );
+        match passed {
+            Gate::Open => {
+                let line = line_cleared(
+                    ends,
+                    lengths,
+                    volumes,
+                    counts,
+                    sdegrees,
+                    ssides,
+                    sends,
+                    slengths,
+                    svolumes,
+                    slabels,
+                    self.vertices,
+                    self.edges,
+                    self.place,
+                );
+                self.gives(line)
+            }
+            Gate::Refused(refusal) => Fetched::Refused(refusal),
+        }
+    }
+}
