@@ -16,20 +16,22 @@ use denote.Triple.Entry.{Args, Res}
 use denote.Triple.Clauses.{AtExit, ClausesAt, Ended}
 use Rattle.model.specs.Queries.{Reply}
 use Rattle.model.specs.Tables.{Tables}
-use Rattle.model.specs.Calls.{Call, finds, findsAt, grows, lands, measures, sheets, step, writes}
+use Rattle.model.specs.Calls.{Call, commits, finds, findsAt, grows, lands, measures, quotes, sheets, step, writes}
 use Rattle.counters.specs.declared.counts.Counts.{Counts}
-use Rattle.counters.specs.declared.answers.ListAnswer.{ListAnswer}
 use Rattle.counters.specs.Answers.{asCounts, listReply}
+use Rattle.counters.specs.Quotes.{asQuote, commitReply, quoteReply}
 use Rattle.tables.specs.Meaning.{tables}
 use Rattle.admission.specs.Lent.{lent, outcome}
 use Rattle.questions.specs.Meaning.{foundReply, listedReply, measuredReply, writtenReply}
 use Rattle.calls.proofs.grow.grow as grow
 use Rattle.calls.proofs.land.land as land
+use Rattle.calls.proofs.commit.commit as commit
 use Rattle.asking.proofs.find.find as find
 use Rattle.asking.proofs.find.find_at as find-at
 use Rattle.asking.proofs.sheet.sheet as sheet
 use Rattle.asking.proofs.write.write as write
 use Rattle.asking.proofs.distance.distance as distance
+use Rattle.asking.proofs.quote.quote as quote
 
 -- ---- the parameters of a call
 
@@ -92,16 +94,26 @@ module _ {M : Type 1} (𝓤 : URA M) (H : Heap 𝓤) (A : Atoms 𝓤) (mem : Mem
       ≡ Ensures distance.ended κs (λ r z. Steps a z [] (measuredReply r) (measures (own a .0 .0) (own a .1 .0 .0)))
   distance-steps κs a = refl
 
+  pub quote-steps : (κs : Lfts 12) (a : Args quote.signature κs)
+      → quote.clauses 𝓤 H A mem run κs a
+      ≡ Ensures quote.ended κs (λ r z. Steps a z [] (quoteReply r)
+      (quotes (record { first = own a .0; second = own a .1 .0; len = own a .1 .1 .0; volume = own a .1 .1 .1 .0 })))
+  quote-steps κs a = refl
+
   -- with the arguments a, and z at its end, a landing leaves and answers what `step` has at call c
-  abbrev LandSteps : {R S : Type 0} → Lands R → Lands S → ListAnswer → Call → SProp 𝓤
-  LandSteps a z r c =
-      fact 𝓤 (outcome (tablesIn (z .1)) (asCounts (now (z .0))) (tablesIn (past (z .1))) [] (listReply r)
+  abbrev LandSteps : {R S : Type 0} → Lands R → Lands S → Reply → Call → SProp 𝓤
+  LandSteps a z reply c =
+      fact 𝓤 (outcome (tablesIn (z .1)) (asCounts (now (z .0))) (tablesIn (past (z .1))) [] reply
       ≡ step c (lent (tablesIn (a .1)) (asCounts (now (a .0))) (tablesIn (past (a .1)))))
 
   pub grow-steps : (κs : Lfts 14) (a : Args grow.signature κs)
-      → grow.clauses 𝓤 H A mem run κs a ≡ Ensures grow.ended κs (λ r z. LandSteps a z r (grows (now (past (past (a .1)) .0))))
+      → grow.clauses 𝓤 H A mem run κs a ≡ Ensures grow.ended κs (λ r z. LandSteps a z (listReply r) (grows (now (past (past (a .1)) .0))))
   grow-steps κs a = refl
 
   pub land-steps : (κs : Lfts 14) (a : Args land.signature κs)
-      → land.clauses 𝓤 H A mem run κs a ≡ Ensures land.ended κs (λ r z. LandSteps a z r (lands (now (past (past (a .1)) .0))))
+      → land.clauses 𝓤 H A mem run κs a ≡ Ensures land.ended κs (λ r z. LandSteps a z (listReply r) (lands (now (past (past (a .1)) .0))))
   land-steps κs a = refl
+
+  pub commit-steps : (κs : Lfts 13) (a : Args commit.signature κs)
+      → commit.clauses 𝓤 H A mem run κs a ≡ Ensures commit.ended κs (λ r z. LandSteps a z (commitReply r) (commits (asQuote (past (past (a .1)) .0))))
+  commit-steps κs a = refl
