@@ -10,26 +10,27 @@ use std::process::ExitCode;
 use reference::arguments::count_and_seed;
 use reference::gen::random::Random;
 use reference::gen::series::{self, Source};
-use reference::lent::{Call, Command, Lent};
-use reference::tally::{verdict, Cases};
+use reference::lent::{Answer, Call, Command, Lent};
+use reference::tally::{verdict, Cases, Quotes};
 
 const DEFAULT_COUNT: usize = 6;
 /// How often a series is led on, by some commands each time. Its calls have to be answered within the
 /// time that a program has for one run.
-const TURNS: usize = 240;
+const TURNS: usize = 200;
 
-/// Calls by their kind and refusal, those that leave a ring of two or of more pipes standing, and the
-/// cases of the pipes landed.
+/// Calls by their kind and refusal, those that leave a ring of two or of more pipes standing, the
+/// cases of the pipes landed, and the quotes that were committed while they held.
 #[derive(Default)]
 struct Tally {
     calls: BTreeMap<(&'static str, u32), usize>,
     rings: BTreeMap<bool, usize>,
     cases: Cases,
+    committed: Quotes,
 }
 
 /// The refusals of each call, 0 for an answer.
 const OUTCOMES: [(&str, &[u32]); 9] = [
-    ("grow", &[0, 3, 4, 5, 7, 22, 23, 25, 31]),
+    ("grow", &[0, 1, 3, 4, 5, 7, 22, 23, 25, 31]),
     ("land", &[0, 1, 2, 3, 4, 5, 6, 7, 21, 25, 31]),
     ("find", &[0, 8, 21, 25]),
     ("find_at", &[0, 8, 21, 25]),
@@ -37,12 +38,18 @@ const OUTCOMES: [(&str, &[u32]); 9] = [
     ("sheet", &[0, 9, 21, 25]),
     ("write", &[0, 9, 21, 25]),
     ("quote", &[0, 21, 25]),
-    ("commit", &[0, 5, 21, 25, 32]),
+    ("commit", &[0, 5, 6, 7, 21, 23, 25, 31, 32]),
 ];
 
 impl Tally {
-    fn count_call(&mut self, call: &Call, refusal: u32, lent: &mut Lent) {
-        *self.calls.entry((name(call), refusal)).or_default() += 1;
+    fn count_call(&mut self, call: &Call, answer: &Answer, lent: &mut Lent) {
+        *self.calls.entry((name(call), answer.refusal)).or_default() += 1;
+        match call {
+            Call::Commit(quote) if ![21, 25, 32].contains(&answer.refusal) => {
+                self.committed.count(quote.terms);
+            }
+            _ => {}
+        }
         let house = lent.house().unwrap_or_default();
         let of_two = house.rings().iter().map(|ring| ring.pipes().len() == 2);
         for of_two in of_two.collect::<BTreeSet<bool>>() {
@@ -63,6 +70,7 @@ impl Tally {
         let unseen = all.filter(|outcome| !self.calls.contains_key(outcome));
         let mut missing: Vec<String> = unseen.map(|(name, r)| format!("{name} {r}")).collect();
         missing.extend(self.cases.missing());
+        missing.extend(self.committed.missing());
         if self.rings.len() < 2 {
             missing.push("a standing ring of two, or of more".to_string());
         }
@@ -142,7 +150,7 @@ fn series(mut source: Source, tally: &mut Tally) -> (Vec<u8>, String) {
                     }
                     let answer = lent.call(&call);
                     expected += &format!("{answer}\n");
-                    tally.count_call(&call, answer.refusal, &mut lent);
+                    tally.count_call(&call, &answer, &mut lent);
                 }
             }
         }
