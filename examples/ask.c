@@ -1,10 +1,11 @@
 /* One question to the register of a list: which coupling wears a tag, and how far it is from the ends of its run; the same of a coupling's
- * number; or how far two fittings are from each other. The list is read from standard input. This is the program behind ./ask, and an
- * example of find and distance.
+ * number; how far two fittings are from each other; or how many tags a pipe would re-hang. The list is read from standard input. This is the
+ * program behind ./ask, and an example of find, distance and quote.
  *
  *     ./build
  *     cc -Iinclude examples/ask.c target/staticlib/libpnl.a -o target/ask
  *     target/ask distance 0 5 < examples/house.pnl
+ *     target/ask quote 5 6 1200 < examples/house.pnl
  *
  * Status: 0 with an answer, 1 with a refusal, 2 where a word is wrong, the list cannot be read or the answer cannot be written.
  */
@@ -59,12 +60,35 @@ static void print_found(void)
                coupling, run, low, high);
 }
 
+/* What a pipe would do, and its cost. */
+static void print_quote(void)
+{
+    static const char *const cases[] = {
+        [PNL_CASE_NEW_RUN] = "a new run",
+        [PNL_CASE_EXTENDS] = "extends a run",
+        [PNL_CASE_MERGES] = "merges two runs",
+        [PNL_CASE_SPLITS_AND_EXTENDS] = "splits a run or ring, and extends a run",
+        [PNL_CASE_SPLITS] = "splits a run or ring",
+        [PNL_CASE_SPLITS_TWICE] = "splits runs or rings at both ends",
+        [PNL_CASE_RING] = "closes a ring",
+    };
+    uint32_t tags = pnl_number(answer, 1);
+
+    printf("%s: ", cases[pnl_number(answer, 0)]);
+    if (tags == 0)
+        printf("no tag is re-hung\n");
+    else
+        printf("%" PRIu32 " tag%s re-hung\n", tags, tags == 1 ? " is" : "s are");
+}
+
 /* The answer of a call that was not refused, in words. */
 static void print_answer(char question)
 {
     uint32_t first = pnl_number(answer, 0);
 
-    if (question != 'd')
+    if (question == 'q')
+        print_quote();
+    else if (question != 'd')
         print_found();
     else if (first == PNL_NOT_JOINED)
         printf("not joined\n");
@@ -78,7 +102,9 @@ static int32_t call(char question, size_t size, const uint32_t *numbers)
         return pnl_find(list, size, numbers[0], answer, sizeof answer);
     if (question == 'a')
         return pnl_find_at(list, size, numbers[0], answer, sizeof answer);
-    return pnl_distance(list, size, numbers[0], numbers[1], answer, sizeof answer);
+    if (question == 'd')
+        return pnl_distance(list, size, numbers[0], numbers[1], answer, sizeof answer);
+    return pnl_quote(list, size, numbers[0], numbers[1], numbers[2], numbers[3], answer, sizeof answer);
 }
 
 static int ask(char question, const uint32_t *numbers)
@@ -97,7 +123,7 @@ static int ask(char question, const uint32_t *numbers)
         return refused("the list stops, and ./run names the record", returned);
     returned = call(question, size, numbers);
     if (returned < 0)
-        return refused("no answer", returned);
+        return refused(question == 'q' ? "such a pipe does not land" : "no answer", returned);
     print_answer(question);
     if (fflush(stdout) != 0)
         return fail("cannot write the answer: ", strerror(errno));
@@ -106,17 +132,19 @@ static int ask(char question, const uint32_t *numbers)
 
 int main(int argc, char **argv)
 {
-    static const char *const questions[] = { "find", "at", "distance" };
-    uint32_t numbers[2] = { 0, 0 };
-    int i, wanted;
+    /* each with the fewest and the most numbers that it takes; a volume that is left out is 0, not known */
+    static const struct { const char *word; int least, most; } questions[] = {
+        { "find", 1, 1 }, { "at", 1, 1 }, { "distance", 2, 2 }, { "quote", 3, 4 }
+    };
+    uint32_t numbers[4] = { 0, 0, 0, 0 };
+    int i;
 
-    for (i = 0; i < 3 && (argc < 2 || strcmp(argv[1], questions[i]) != 0); i++)
+    for (i = 0; i < 4 && (argc < 2 || strcmp(argv[1], questions[i].word) != 0); i++)
         ;
-    wanted = i == 2 ? 2 : 1;
-    if (i == 3 || argc != 2 + wanted)
-        return fail("a question is 'find TAG', 'at FITTING' or 'distance FITTING FITTING'", "");
-    for (i = 0; i < wanted; i++)
-        if (!read_number(argv[2 + i], &numbers[i]))
-            return fail("a tag or a fitting is a number from 0 to 4294967295, in digits, not ", argv[2 + i]);
+    if (i == 4 || argc - 2 < questions[i].least || argc - 2 > questions[i].most)
+        return fail("a question is 'find TAG', 'at FITTING', 'distance FITTING FITTING' or 'quote FITTING FITTING LENGTH [VOLUME]'", "");
+    for (i = 2; i < argc; i++)
+        if (!read_number(argv[i], &numbers[i - 2]))
+            return fail("each is a number from 0 to 4294967295, in digits, not ", argv[i]);
     return ask(argv[1][0], numbers);
 }

@@ -1,5 +1,5 @@
-/* All four calls: the runs of a small house with their volumes, the coupling that wears a tag and a coupling by its number, with their run
- * and how far they are from its ends, and how far two fittings are from each other.
+/* All five calls on a house: the runs of a small house with their volumes, the coupling that wears a tag and a coupling by its number, with
+ * their run and how far they are from its ends, how far two fittings are from each other, and what a pipe more would cost.
  *
  *     ./build
  *     cc -Iinclude examples/sheet.c target/staticlib/libpnl.a -o target/sheet && target/sheet
@@ -87,5 +87,10 @@ int main(void)
     print_distance(house, sizeof house, 0, 6);
     print_distance(house, sizeof house, 0, 7);
     print_distance(apart, sizeof apart, 0, 1);
+
+    size = pnl_quote(house, sizeof house, 0, 5, 1200, 0, answer, sizeof answer);
+    if (size < 0)
+        return refused("quote", size);
+    printf("pipe 0-5: case %" PRIu32 ", tags re-hung: %" PRIu32 "\n", pnl_number(answer, 0), pnl_number(answer, 1));
     return 0;
 }

@@ -1,4 +1,4 @@
-"""All four calls from Python, through a shared object made of the archive; prints what examples/sheet.c prints.
+"""All five calls on a house from Python, through a shared object made of the archive; prints what examples/sheet.c prints.
 
     ./build
     cc -shared -Wl,--whole-archive target/staticlib/libpnl.a -Wl,--no-whole-archive -o target/libpnl.so
@@ -31,7 +31,7 @@ class Register:
         """The numbers that a call answers, or Refused."""
         # ctypes would cut a larger number down to 32 bits without a word.
         if not all(0 <= number < 2**32 for number in numbers):
-            raise ValueError("a tag or a fitting has 32 bits")
+            raise ValueError("each number has 32 bits")
         call = getattr(self.library, name)
         call.restype = ctypes.c_int32
         call.argtypes = [ctypes.c_char_p, ctypes.c_size_t] + [ctypes.c_uint32] * len(numbers) + [ctypes.c_char_p, ctypes.c_size_t]
@@ -55,6 +55,10 @@ class Register:
         """In mm, or None where no way joins the two."""
         (length,) = self.call("pnl_distance", list_, one, other)
         return None if length == NOT_JOINED else length
+
+    def quote(self, list_, first, second, length, volume=0):
+        """The case of a pipe, and how many tags it would re-hang."""
+        return self.call("pnl_quote", list_, first, second, length, volume)
 
 
 def print_found(asked, run, fitting, low, high):
@@ -87,6 +91,8 @@ def main(library, file):
     print_distance(register, house, 0, 6)
     print_distance(register, house, 0, 7)
     print_distance(register, b"PNL\x01\x00FF", 0, 1)
+    case, tags = register.quote(house, 0, 5, 1200)
+    print(f"pipe 0-5: case {case}, tags re-hung: {tags}")
 
 
 if len(sys.argv) != 3:

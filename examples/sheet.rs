@@ -1,4 +1,4 @@
-//! All four calls from Rust, through the archive; prints what examples/sheet.c prints.
+//! All five calls on a house from Rust, through the archive; prints what examples/sheet.c prints.
 //!
 //!     ./build
 //!     rustc --edition 2021 -L target/staticlib examples/sheet.rs -o target/sheet-rust
@@ -12,6 +12,7 @@ extern "C" {
     fn pnl_find(list: *const u8, list_len: usize, tag: u32, answer: *mut u8, answer_len: usize) -> i32;
     fn pnl_find_at(list: *const u8, list_len: usize, fitting: u32, answer: *mut u8, answer_len: usize) -> i32;
     fn pnl_distance(list: *const u8, list_len: usize, from: u32, to: u32, answer: *mut u8, answer_len: usize) -> i32;
+    fn pnl_quote(list: *const u8, list_len: usize, first: u32, second: u32, length: u32, volume: u32, answer: *mut u8, answer_len: usize) -> i32;
 }
 
 const SHEET_ROW: usize = 6;
@@ -49,6 +50,11 @@ fn distance(list: &[u8], from: u32, to: u32) -> Answer {
     answer(|room, size| unsafe { pnl_distance(list.as_ptr(), list.len(), from, to, room, size) })
 }
 
+/// Of a pipe: its fittings, its length, its volume.
+fn quote(list: &[u8], [first, second, length, volume]: [u32; 4]) -> Answer {
+    answer(|room, size| unsafe { pnl_quote(list.as_ptr(), list.len(), first, second, length, volume, room, size) })
+}
+
 fn print_found(asked: &str, found: &[u32]) {
     println!("{asked}: fitting {} on run {}, {} mm to the low end, {} mm to the high end", found[1], found[0], found[2], found[3]);
 }
@@ -82,5 +88,7 @@ fn main() -> Result<(), String> {
     print_distance(&house, 0, 6);
     print_distance(&house, 0, 7);
     print_distance(b"PNL\x01\0FF", 0, 1);
+    let cost = quote(&house, [0, 5, 1200, 0]).map_err(refused)?;
+    println!("pipe 0-5: case {}, tags re-hung: {}", cost[0], cost[1]);
     Ok(())
 }

@@ -11,7 +11,8 @@
  *   Answer     bytes of `answer` behind the count stay as they were. Under a refusal all of them do.
  *   Order      the list's refusal comes first: in the header NO_MARK, CUT, VERSION; in a record UNKNOWN_KIND, CUT, then
  *              TOO_MANY_FITTINGS, or NOT_LANDED, SAME_FITTING, LENGTH, VOLUME, TOO_MANY_PIPES. Then come the refusals of the call,
- *              SHORT_ANSWER last. Whether NOT_LANDED is the list's or the call's, pnl_sheet tells: it has none of its own.
+ *              SHORT_ANSWER last. pnl_distance and pnl_quote have some that the list may have too: whose it was, pnl_sheet tells, which
+ *              has none of these of its own.
  *   Lengths    list_len and answer_len are in bytes, of any size. A pointer may be null where its length is 0.
  *   Overlap    `list` and `answer` must not overlap.
  *   Threads    nothing is shared or kept between calls, nothing is allocated, no signal is used: any number of threads may call at
@@ -64,7 +65,7 @@ extern "C" {
 
 /* The version of these calls: it rises with each change of a call, of an answer or of a constant here. Header and archive of one folder
  * belong together; pnl.pc has the same number. (A list has a version of its own, in its header.) */
-#define PNL_VERSION 4
+#define PNL_VERSION 5
 
 /* What a call may return below 0: the refusal's number made negative. */
 enum pnl_refusal {
@@ -72,7 +73,7 @@ enum pnl_refusal {
     PNL_REFUSED_NO_MARK = -1,           /* shorter than 3 bytes, or other bytes than "PNL" in front */
     PNL_REFUSED_VERSION = -2,           /* the version is neither 1 nor 2 */
     PNL_REFUSED_CUT = -3,               /* the list ends within its header or within a record */
-    /* The list: a record. */
+    /* The list: a record. Those of a pipe are also those of pnl_quote, whose pipe is no record yet. */
     PNL_REFUSED_UNKNOWN_KIND = -4,      /* a record that begins with neither 0x46 (fitting) nor 0x50 (pipe) */
     PNL_REFUSED_NOT_LANDED = -5,        /* a pipe, or pnl_distance, names a fitting that was not landed */
     PNL_REFUSED_SAME_FITTING = -6,      /* a pipe from a fitting to itself */
@@ -97,11 +98,24 @@ enum pnl_size {
     PNL_SHEET_ROW = 24,                 /* one run or ring of the sheet */
     PNL_SHEET_MOST = 98304,             /* the largest sheet, 4,096 lines: always enough for pnl_sheet */
     PNL_FIND_SIZE = 16,                 /* the answer of pnl_find and of pnl_find_at */
-    PNL_DISTANCE_SIZE = 4               /* the answer of pnl_distance */
+    PNL_DISTANCE_SIZE = 4,              /* the answer of pnl_distance */
+    PNL_QUOTE_SIZE = 8                  /* the answer of pnl_quote */
 };
 
 /* What pnl_distance answers for two fittings that no way joins. A distance is at most 409,600,000. */
 #define PNL_NOT_JOINED 4294967295u
+
+/* What a pipe does to runs and rings where it lands: the first number that pnl_quote answers. */
+enum pnl_case {
+    PNL_CASE_NEW_RUN = 1,               /* it is a run of its own */
+    PNL_CASE_EXTENDS = 2,               /* a run goes on by it */
+    PNL_CASE_MERGES = 3,                /* it joins two runs to one */
+    PNL_CASE_SPLITS_AND_EXTENDS = 4,    /* a coupling becomes a junction, where its run is split or its ring tapped; another run, or a piece
+                                         * of that one, goes on by the pipe */
+    PNL_CASE_SPLITS = 5,                /* the same, and the pipe is a run of its own */
+    PNL_CASE_SPLITS_TWICE = 6,          /* two couplings become junctions so, and the pipe is a run of its own */
+    PNL_CASE_RING = 7                   /* it closes a run to a ring */
+};
 
 /* The number at a place of an answer, counted in numbers from 0: pnl_number(answer, 1) is the second of them. */
 static inline uint32_t pnl_number(const uint8_t *answer, size_t place)
@@ -162,6 +176,15 @@ int32_t pnl_find_at(const uint8_t *list, size_t list_len, uint32_t fitting, uint
  *
  * Refusals: those of the list; PNL_REFUSED_NOT_LANDED if there is no such fitting, whatever the number; PNL_REFUSED_SHORT_ANSWER. */
 int32_t pnl_distance(const uint8_t *list, size_t list_len, uint32_t from, uint32_t to, uint8_t *answer, size_t answer_len);
+
+/* What a pipe between these two fittings, of so many mm and ml (0: not known), would come to if it were landed next, two numbers: its case,
+ * one of the PNL_CASE constants, and how many tags would be re-hung. Nothing is landed. Once the pipe is put behind the list as a record,
+ * just so many tags are re-hung by it. Returns PNL_QUOTE_SIZE.
+ *
+ * Refusals: those of the list; the one that the pipe would meet as a record: PNL_REFUSED_NOT_LANDED if there is no such fitting, whatever
+ * the number, PNL_REFUSED_SAME_FITTING, PNL_REFUSED_LENGTH, PNL_REFUSED_VOLUME, PNL_REFUSED_TOO_MANY_PIPES; PNL_REFUSED_SHORT_ANSWER. */
+int32_t pnl_quote(const uint8_t *list, size_t list_len, uint32_t first, uint32_t second, uint32_t length, uint32_t volume, uint8_t *answer,
+                  size_t answer_len);
 
 /* Which recipe is at the valve.
  *

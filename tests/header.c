@@ -15,6 +15,9 @@
 #define PIPE2_ABOVE PIPE "\101\102\17\0"
 /* Pipes 0-1 and 1-2, so that fitting 1 is a coupling; nothing is joined to fitting 3. */
 #define HOUSE HEADER "FFFF" PIPE "P\1\0\2\0\1\0\0\0"
+/* And a pipe 2-3, so that fitting 2 is one too; or a pipe 2-0, which closes a ring. */
+#define LINE HOUSE "P\2\0\3\0\1\0\0\0"
+#define RING HOUSE "P\2\0\0\0\1\0\0\0"
 
 /* The arguments that a list given as a string, and an answer with room enough, are to a call. */
 #define LIST(text) (const uint8_t *)(text), sizeof (text) - 1
@@ -96,6 +99,38 @@ static void compare_answers(void)
     COMPARE(PNL_NOT_JOINED, answer[0] | (int64_t)answer[1] << 8 | (int64_t)answer[2] << 16 | (int64_t)answer[3] << 24);
 }
 
+/* The case of a pipe of 1 mm, or what is returned where that is no answer of two numbers. */
+static int64_t case_of(const uint8_t *list, size_t list_len, uint32_t first, uint32_t second)
+{
+    int32_t returned = pnl_quote(list, list_len, first, second, 1, 0, ROOM);
+
+    return returned == PNL_QUOTE_SIZE ? (int64_t)pnl_number(answer, 0) : returned;
+}
+
+static void compare_quotes(void)
+{
+    COMPARE(PNL_QUOTE_SIZE, pnl_quote(LIST(HOUSE), 0, 3, 1, 0, answer, PNL_QUOTE_SIZE));
+    COMPARE(PNL_CASE_NEW_RUN, case_of(LIST(HEADER "FF"), 0, 1));
+    COMPARE(PNL_CASE_EXTENDS, case_of(LIST(HOUSE), 0, 3));
+    COMPARE(PNL_CASE_MERGES, case_of(LIST(HEADER "FFFF" PIPE "P\2\0\3\0\1\0\0\0"), 1, 2));
+    COMPARE(PNL_CASE_SPLITS_AND_EXTENDS, case_of(LIST(HOUSE), 1, 2));
+    COMPARE(PNL_CASE_SPLITS, case_of(LIST(HOUSE), 1, 3));
+    compare("the tags re-hung by a split", 0, pnl_number(answer, 1));
+    COMPARE(PNL_CASE_SPLITS_TWICE, case_of(LIST(LINE), 1, 2));
+    COMPARE(PNL_CASE_RING, case_of(LIST(HOUSE), 2, 0));
+    COMPARE(PNL_CASE_SPLITS, case_of(LIST(RING), 3, 0));
+    compare("the tags re-hung by a tap", 2, pnl_number(answer, 1));
+    COMPARE(PNL_REFUSED_NO_MARK, pnl_quote(LIST("PN"), 4, 4, 0, 1000001, answer, 0));
+    COMPARE(PNL_REFUSED_NOT_LANDED, pnl_quote(LIST(HOUSE), 4, 4, 0, 1000001, answer, 0));
+    COMPARE(PNL_REFUSED_NOT_LANDED, pnl_quote(LIST(HOUSE), 0, 65537, 0, 1000001, answer, 0));
+    COMPARE(PNL_REFUSED_SAME_FITTING, pnl_quote(LIST(HOUSE), 3, 3, 0, 1000001, answer, 0));
+    COMPARE(PNL_REFUSED_LENGTH, pnl_quote(LIST(HOUSE), 0, 3, 100001, 1000001, answer, 0));
+    COMPARE(PNL_REFUSED_VOLUME, pnl_quote(LIST(HOUSE), 0, 3, 100000, 1000001, answer, 0));
+    COMPARE(PNL_REFUSED_SHORT_ANSWER, pnl_quote(LIST(HOUSE), 0, 3, 100000, 1000000, answer, PNL_QUOTE_SIZE - 1));
+    COMPARE(PNL_SHEET_MOST, full_sheet(4, 4096));
+    COMPARE(PNL_REFUSED_TOO_MANY_PIPES, pnl_quote(full, sizeof full - 9, 0, 1, 1, 0, answer, 0));
+}
+
 static void compare_valve(void)
 {
     static struct pnl_valve valve;
@@ -145,6 +180,7 @@ int main(void)
 {
     compare_refusals();
     compare_answers();
+    compare_quotes();
     compare_valve();
     compare_plan();
     compare_functions();

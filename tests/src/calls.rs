@@ -1,12 +1,13 @@
-//! The calls from C (document 01, "What may be called").
+//! The calls from C (document 01, "What may be called", and document 02's quote).
 //!
 //! Each grows a list of its own and answers in little-endian 32-bit numbers. It returns the count
 //! of answer bytes, or the refusal's number made negative: first that of the list, then the
 //! question's own, and 9 last.
 
-use crate::house::{Fitting, House, Tag};
+use crate::house::{Fitting, House, Pipe, Tag};
 use crate::list;
 use crate::queries::{self, Distances, Wearers};
+use crate::quote;
 use crate::refusal::Refusal;
 
 /// The answer to a distance where there is no way.
@@ -58,6 +59,18 @@ impl Grown {
             Err(refusal) => Err(*refusal),
         };
         to.iter().map(answer).collect()
+    }
+
+    /// A pipe's case and its re-hangings: two fittings, a length and a volume are asked.
+    pub fn quote(&self, [first, second, length, volume]: [u32; 4]) -> Answer {
+        let pipe = Pipe {
+            first: fitting_number(first),
+            second: fitting_number(second),
+            length,
+            volume,
+        };
+        let (case, re_hung) = quote::terms(self.house()?, pipe)?;
+        Ok(vec![case, re_hung])
     }
 }
 
@@ -127,6 +140,14 @@ mod tests {
             answered(4, &distance(&grown, 0, 5)),
             (4, 4500_u32.to_le_bytes().to_vec())
         );
+        let before = Grown::of(&pipes(
+            7,
+            &[(0, 1, 1000), (1, 2, 2000), (3, 4, 500), (4, 5, 700)],
+        ));
+        assert_eq!(
+            answered(9, &before.quote([2, 3, 300, 0])),
+            (8, vec![3, 0, 0, 0, 1, 0, 0, 0, UNTOUCHED])
+        );
         let (value, slice) = answered(73, &grown.sheet());
         assert_eq!(value, 72);
         assert_eq!(slice[..4], [0, 0, 0, 0]);
@@ -158,6 +179,13 @@ mod tests {
             (distance(&grown, 0, 7), 5),
             (distance(&grown, u32::MAX, 0), 5),
             (distance(&grown, 0, 0), 9),
+            (stopped.quote([7, 7, 0, 1_000_001]), 4),
+            (grown.quote([7, 7, 0, 1_000_001]), 5),
+            (grown.quote([0, 65_537, 0, 1_000_001]), 5),
+            (grown.quote([6, 6, 0, 1_000_001]), 6),
+            (grown.quote([5, 6, 100_001, 1_000_001]), 7),
+            (grown.quote([5, 6, 100_000, 1_000_001]), 31),
+            (grown.quote([5, 6, 100_000, 1_000_000]), 9),
         ];
         for (answer, refusal) in refusals {
             assert_eq!(answered(3, &answer), (-refusal, vec![UNTOUCHED; 3]));

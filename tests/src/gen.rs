@@ -5,6 +5,7 @@
 pub mod damage;
 pub mod full;
 pub mod layout;
+pub mod pipes;
 pub mod random;
 pub mod records;
 pub mod series;

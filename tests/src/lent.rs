@@ -317,7 +317,10 @@ impl Lent {
                 numbers = [pipe.first, pipe.second].map(number_of).to_vec();
                 numbers.extend([pipe.length, pipe.volume]);
                 let terms = u64::from(case) << 32 | u64::from(number);
-                Ok((terms, u64::from(quote.fittings) << 32 | u64::from(quote.pipes)))
+                Ok((
+                    terms,
+                    u64::from(quote.fittings) << 32 | u64::from(quote.pipes),
+                ))
             }
             Call::Find(tag) => {
                 let (name, taken) = queries::search(&house, tag);
@@ -372,7 +375,11 @@ impl Lent {
         let (tables, head) = tables_of(&house);
         (self.tables, self.head) = (tables.clone(), head);
         self.grown = Some((tables, head, Some(house)));
-        self.answer(call, result.map(|()| (0, 0)).map_err(|number| (0, number)), &[])
+        self.answer(
+            call,
+            result.map(|()| (0, 0)).map_err(|number| (0, number)),
+            &[],
+        )
     }
 
     /// The answer to a call, with the state after it. 25 writes nothing, and no number of the scratch is

@@ -18,27 +18,34 @@ pub struct Quote {
     pub pipes: u32,
 }
 
-/// The quote of a pipe, made now: the pipe is landed on a copy.
+/// The case of a pipe and its re-hangings, or its refusal: the pipe is landed on a copy.
+pub fn terms(house: &House, pipe: Pipe) -> Result<(u32, u32), Refusal> {
+    let mut after = house.clone();
+    after.land_pipe(pipe)?;
+    Ok((case(house, &pipe), after.re_hung() - house.re_hung()))
+}
+
+/// The quote of a pipe, made now.
 pub fn quote(house: &House, pipe: Pipe) -> Quote {
     let counts = [house.fittings(), house.pipes().len()];
     let [fittings, pipes] = counts.map(|count| u32::try_from(count).expect("at most 4,096"));
-    let mut after = house.clone();
-    let terms = match after.land_pipe(pipe) {
-        Ok(()) => Ok((case(house, &pipe), after.re_hung() - house.re_hung())),
-        Err(refusal) => Err(refusal.number().unsigned_abs()),
-    };
     Quote {
         pipe,
-        terms,
+        terms: terms(house, pipe).map_err(number),
         fittings,
         pipes,
     }
 }
 
+fn number(refusal: Refusal) -> u32 {
+    refusal.number().unsigned_abs()
+}
+
 /// By the degrees of both ends; a ring closes where both are free ends of one run.
 fn case(house: &House, pipe: &Pipe) -> u32 {
     use Standing::{Coupling, Free, Settled};
-    let closes = || house.run_from(pipe.first).is_some_and(|run| run.ends_at(pipe.second));
+    let first_run = || house.run_from(pipe.first);
+    let closes = || first_run().is_some_and(|run| run.ends_at(pipe.second));
     match [pipe.first, pipe.second].map(|end| house.standing(end)) {
         [Settled, Settled] => 1,
         [Free, Settled] | [Settled, Free] => 2,
@@ -55,6 +62,5 @@ pub fn commit(house: &mut House, quoted: &Quote) -> Result<(), u32> {
     if quote(house, quoted.pipe) != *quoted {
         return Err(OTHER_QUOTE);
     }
-    let number = |refusal: Refusal| refusal.number().unsigned_abs();
     house.land_pipe(quoted.pipe).map_err(number)
 }

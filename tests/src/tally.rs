@@ -8,6 +8,7 @@ use crate::cases::Case;
 use crate::house::House;
 use crate::list::Stop;
 use crate::print::Outcome;
+use crate::quote::Terms;
 use crate::refusal::Refusal;
 
 /// What became of a list, as far as it is counted.
@@ -99,6 +100,41 @@ impl Cases {
     /// How many of all cases came up.
     fn seen(&self) -> usize {
         Case::all().len() - self.missing().len()
+    }
+}
+
+/// Quotes by their case and whether tags are re-hung, or by their refusal.
+#[derive(Debug, Default)]
+pub struct Quotes {
+    counts: BTreeMap<Result<(u32, bool), u32>, usize>,
+}
+
+impl Quotes {
+    pub fn count(&mut self, terms: Terms) {
+        let kind = terms.map(|(case, re_hung)| (case, re_hung > 0));
+        *self.counts.entry(kind).or_default() += 1;
+    }
+
+    pub fn add(&mut self, other: &Quotes) {
+        for (&kind, count) in &other.counts {
+            *self.counts.entry(kind).or_default() += count;
+        }
+    }
+
+    /// What no quote came to: a new run, an extension and a closing re-hang nothing; a merge and a
+    /// landing on couplings may, the latter by a tap.
+    pub fn missing(&self) -> Vec<String> {
+        let offered = [1, 2, 3, 4, 5, 6, 7].map(|case| Ok((case, false)));
+        let re_hung = [3, 4, 5, 6].map(|case| Ok((case, true)));
+        let declined = [5, 6, 7, 31, 23].map(Err);
+        let all = offered.into_iter().chain(re_hung).chain(declined);
+        let missing = all.filter(|kind| !self.counts.contains_key(kind));
+        let words = missing.map(|kind| match kind {
+            Ok((case, true)) => format!("quote of case {case} with tags re-hung"),
+            Ok((case, false)) => format!("quote of case {case} without"),
+            Err(refusal) => format!("quote with refusal {refusal}"),
+        });
+        words.collect()
     }
 }
 

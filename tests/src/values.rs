@@ -1,10 +1,12 @@
-//! Document 01's "Values to hold" and the faults that it names as near at hand; document 02's rings.
+//! Document 01's "Values to hold" and the faults that it names as near at hand; document 02's rings and
+//! quotes.
 
 use crate::gen::records;
-use crate::house::{House, MOST_FITTINGS, MOST_PIPES};
+use crate::house::{House, Pipe, MOST_FITTINGS, MOST_PIPES};
 use crate::list::{self, Record, Stop};
 use crate::print::Outcome;
 use crate::queries::{self, Found};
+use crate::quote::{self, Quote, OTHER_QUOTE};
 use crate::refusal::Refusal;
 
 /// A list of so many fittings and then these pipes.
@@ -397,4 +399,129 @@ fn merging_without_couplings_is_a_birth() {
     let house = joined(4, &[(0, 1), (2, 3), (3, 0)]);
     assert_eq!(house.tags(), [8193, 0, 0, 8192]);
     assert_eq!((house.births(), house.re_hung()), (1, 0));
+}
+
+/// The house of the listing before its pipe 2-3.
+fn before_the_join() -> House {
+    let joins = [(0, 1, 1000), (1, 2, 2000), (3, 4, 500), (4, 5, 700)];
+    grown(&pipes(7, &joins))
+}
+
+fn asked(first: usize, second: usize, length: u32, volume: u32) -> Pipe {
+    Pipe {
+        first,
+        second,
+        length,
+        volume,
+    }
+}
+
+/// Document 02, S-5: landing a list is a quote and a commit for each pipe.
+#[test]
+fn the_listing_by_quotes() {
+    let mut house = joined(7, &[]);
+    let costs = [
+        ((0, 1, 1000), (1, 0)),
+        ((1, 2, 2000), (2, 0)),
+        ((3, 4, 500), (1, 0)),
+        ((4, 5, 700), (2, 0)),
+        ((2, 3, 300), (3, 1)),
+        ((3, 6, 900), (5, 0)),
+    ];
+    for (((first, second, length), terms), landed) in costs.into_iter().zip(0..) {
+        let made = quote::quote(&house, asked(first, second, length, 0));
+        assert_eq!(made.terms, Ok(terms));
+        assert_eq!((made.fittings, made.pipes), (7, landed));
+        assert_eq!(quote::commit(&mut house, &made), Ok(()));
+    }
+    assert_eq!(house, grown(&listing()));
+}
+
+#[test]
+fn a_quote_of_every_case() {
+    let terms = |house: &House, (a, b)| quote::quote(house, asked(a, b, 1, 0)).terms;
+    let house = before_the_join();
+    let cases = [(2, 6), (6, 2), (2, 3), (1, 5), (6, 4), (1, 4), (0, 2)];
+    let expected = [(2, 0), (2, 0), (3, 1), (4, 0), (5, 0), (6, 0), (7, 0)];
+    assert_eq!(cases.map(|join| terms(&house, join)), expected.map(Ok));
+    assert_eq!(terms(&joined(2, &[]), (0, 1)), Ok((1, 0)));
+    // A ring of four, one of two, and a line without couplings: taps, two taps, two fittings of one ring.
+    let ring = [(0, 1), (1, 2), (2, 3), (3, 0), (4, 5), (5, 4), (6, 7)];
+    let house = joined(9, &ring);
+    let taps = [(8, 1), (7, 1), (0, 5), (0, 2), (3, 2), (4, 5)];
+    let expected = [(5, 3), (4, 3), (6, 4), (6, 2), (6, 2), (6, 0)];
+    assert_eq!(taps.map(|join| terms(&house, join)), expected.map(Ok));
+}
+
+#[test]
+fn a_refused_pipe_is_a_quote_too() {
+    let mut house = grown(&listing());
+    let refused = [
+        (asked(3, 7, 1200, 0), 5),
+        (asked(65_535, 65_535, 0, 0), 5),
+        (asked(3, 3, 0, 0), 6),
+        (asked(0, 6, 100_001, 1_000_001), 7),
+        (asked(0, 6, 1, 1_000_001), 31),
+    ];
+    for (pipe, refusal) in refused {
+        let made = quote::quote(&house, pipe);
+        assert_eq!(made.terms, Err(refusal));
+        assert_eq!((made.pipe, made.fittings, made.pipes), (pipe, 7, 6));
+        // Its commit gives the refusal, while it holds.
+        assert_eq!(quote::commit(&mut house, &made), Err(refusal));
+        assert_eq!(house, grown(&listing()));
+    }
+    let made = quote::quote(&house, refused[0].0);
+    assert_eq!(house.land_fitting(), Ok(()));
+    assert_eq!(quote::commit(&mut house, &made), Err(OTHER_QUOTE));
+}
+
+#[test]
+fn a_quote_that_differs_in_any_part() {
+    let house = before_the_join();
+    let made = quote::quote(&house, asked(2, 3, 300, 0));
+    let differing = [
+        Quote {
+            terms: Ok((3, 0)),
+            ..made
+        },
+        Quote {
+            terms: Ok((2, 1)),
+            ..made
+        },
+        Quote {
+            terms: Err(5),
+            ..made
+        },
+        Quote {
+            fittings: 6,
+            ..made
+        },
+        Quote { pipes: 5, ..made },
+        Quote {
+            pipe: asked(2, 6, 300, 0),
+            ..made
+        },
+    ];
+    for other in differing {
+        let mut after = house.clone();
+        assert_eq!(quote::commit(&mut after, &other), Err(OTHER_QUOTE));
+        assert_eq!(after, house);
+    }
+    // Another length is another pipe, with the same terms here.
+    let longer = Quote {
+        pipe: asked(2, 3, 400, 0),
+        ..made
+    };
+    assert_eq!(quote::commit(&mut house.clone(), &longer), Ok(()));
+    // A fitting or a pipe in between changes a count; what was committed is not committed again.
+    let mut after = house.clone();
+    assert_eq!(after.land_fitting(), Ok(()));
+    assert_eq!(quote::commit(&mut after, &made), Err(OTHER_QUOTE));
+    let mut after = house.clone();
+    assert_eq!(after.land_pipe(asked(5, 6, 1, 0)), Ok(()));
+    assert_eq!(quote::commit(&mut after, &made), Err(OTHER_QUOTE));
+    let mut after = house;
+    assert_eq!(quote::commit(&mut after, &made), Ok(()));
+    assert_eq!(quote::commit(&mut after, &made), Err(OTHER_QUOTE));
 }

@@ -29,6 +29,16 @@ extern "C" {
         answer: *mut u8,
         answer_len: usize,
     ) -> i32;
+    fn pnl_quote(
+        list: *const u8,
+        list_len: usize,
+        first: u32,
+        second: u32,
+        length: u32,
+        volume: u32,
+        answer: *mut u8,
+        answer_len: usize,
+    ) -> i32;
 }
 
 /// One call, by its arguments.
@@ -38,6 +48,8 @@ pub enum Call {
     Find(u32),
     FindAt(u32),
     Distance(u32, u32),
+    /// Of a pipe: its fittings, its length, its volume.
+    Quote([u32; 4]),
 }
 
 impl Call {
@@ -60,6 +72,9 @@ impl Call {
                 Call::Find(tag) => pnl_find(list, list_len, tag, to, room),
                 Call::FindAt(fitting) => pnl_find_at(list, list_len, fitting, to, room),
                 Call::Distance(from, end) => pnl_distance(list, list_len, from, end, to, room),
+                Call::Quote([first, second, length, volume]) => {
+                    pnl_quote(list, list_len, first, second, length, volume, to, room)
+                }
             }
         }
     }
@@ -70,6 +85,7 @@ impl Call {
             Call::Sheet => 48,
             Call::Find(_) | Call::FindAt(_) => 16,
             Call::Distance(..) => 4,
+            Call::Quote(_) => 8,
         }
     }
 }

@@ -21,11 +21,12 @@ const CUT_MOST: usize = 400;
 /// The largest sheet.
 const SHEET_MOST: usize = 98_304;
 /// One call of each kind.
-const CALLS: [Call; 4] = [
+const CALLS: [Call; 5] = [
     Call::Sheet,
     Call::Find(8_192),
     Call::FindAt(1),
     Call::Distance(0, 1),
+    Call::Quote([0, 1, 1, 0]),
 ];
 
 /// What differs, in words.
@@ -38,9 +39,9 @@ pub fn null_pointers() -> Result<(), Difference> {
     let joined = [records::pipe(0, 1, 1), records::pipe(1, 2, 1)];
     let house = list::write(2, &[&[Record::Fitting; 3][..], &joined].concat());
     let cases = [
-        (None, [-1; 4]),
-        (Some(&header[..]), [0, -8, -8, -5]),
-        (Some(&house), [-9; 4]),
+        (None, [-1; 5]),
+        (Some(&header[..]), [0, -8, -8, -5, -5]),
+        (Some(&house), [-9; 5]),
     ];
     for (list, expected) in cases {
         let returned = CALLS.map(|call| call.make_at_null(list));
@@ -80,6 +81,9 @@ fn one(list: &[u8], random: &mut Random, tally: &mut Tally) -> Result<(), Differ
         for &room in &question.rooms {
             let returned = ask(list, &question, room)?;
             tally.count_call(question.call, &question.answer, returned);
+            if matches!(question.call, Call::Quote(_)) && house.is_some() {
+                tally.count_quote(&question.answer, returned);
+            }
         }
     }
     Ok(())

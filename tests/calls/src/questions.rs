@@ -4,8 +4,9 @@ use std::collections::BTreeSet;
 use std::ops::Range;
 
 use reference::calls::{Answer, Grown};
+use reference::gen::pipes;
 use reference::gen::random::Random;
-use reference::house::{House, MOST_FITTINGS};
+use reference::house::{House, LARGEST_VOLUME, MOST_FITTINGS};
 
 use crate::archive::Call;
 
@@ -16,6 +17,9 @@ const SMALL: usize = 40;
 /// On a larger house, so many fittings are measured from, each to so many others.
 const SOURCES: usize = 6;
 const TARGETS: usize = 24;
+/// So many pipes are quoted, and so many that are refused.
+const PIPES: usize = 6;
+const REFUSED: usize = 3;
 /// On a house that is not tiny, one question in so many, the sheet among them, has slices of more
 /// lengths than the answer's own.
 const LENGTHS_EVERY: usize = 40;
@@ -27,8 +31,8 @@ pub struct Question {
     pub rooms: Vec<usize>,
 }
 
-/// The sheet, every tag in use and its neighbours, every fitting, pairs of fittings, and numbers
-/// that are none of them. A list that stops has no house to ask about: its refusal is the answer,
+/// The sheet, every tag in use and its neighbours, every fitting, pairs of fittings, numbers that are
+/// none of them, and pipes. A list that stops has no house to ask about: its refusal is the answer,
 /// whatever is asked.
 pub fn of(grown: &Grown, random: &mut Random) -> Vec<Question> {
     let empty = House::default();
@@ -39,6 +43,7 @@ pub fn of(grown: &Grown, random: &mut Random) -> Vec<Question> {
         finds(grown, house),
         finds_at(grown, house),
         distances(grown, house, random),
+        quotes(grown, house, random),
     ];
     let questions = asked.concat().into_iter().enumerate();
     let with_rooms = |(place, (call, answer)): (usize, (Call, Answer))| {
@@ -102,6 +107,37 @@ fn pairs(house: &House, random: &mut Random) -> Vec<(u32, Vec<u32>)> {
         .map(|from| (from, [&near(from)[..], &targets].concat()));
     let missing = not_landed(house).map(|from| (from, vec![0, from]));
     joined.chain(missing).collect()
+}
+
+/// Pipes by the places of their ends, taps and closings among them; and some that are refused.
+fn quotes(grown: &Grown, house: &House, random: &mut Random) -> Vec<(Call, Answer)> {
+    let drawn = |_| {
+        let pipe = pipes::pipe(random, house);
+        let [first, second] = [pipe.first, pipe.second].map(number);
+        [first, second, pipe.length, pipe.volume]
+    };
+    let mut asked: Vec<[u32; 4]> = (0..PIPES).map(drawn).collect();
+    let mut refused = refused_pipes(house);
+    random.shuffle(&mut refused);
+    asked.extend(&refused[..REFUSED]);
+    let quote = |pipe| (Call::Quote(pipe), grown.quote(pipe));
+    asked.into_iter().map(quote).collect()
+}
+
+/// Each with what the refusals behind its own look for. With 16 bits alone of the fittings, some would
+/// land.
+fn refused_pipes(house: &House) -> Vec<[u32; 4]> {
+    let above = LARGEST_VOLUME + 1;
+    let named = |missing| [[missing, 0, 0, above], [0, missing, 0, above]];
+    let mut refused: Vec<[u32; 4]> = not_landed(house).flat_map(named).collect();
+    refused.extend([[65_536, 1, 1, 0], [0, 65_537, 1, 0], [65_537, 65_536, 1, 0]]);
+    refused.extend([[0, 0, 0, above], [1, 0, 0, above], [1, 0, 100_001, above]]);
+    refused.extend([
+        [1, 0, 100_000, above],
+        [0, 1, u32::MAX, 0],
+        [0, 1, 1, u32::MAX],
+    ]);
+    refused
 }
 
 fn landed(house: &House) -> Range<u32> {

@@ -5,7 +5,7 @@ use std::fmt;
 
 use reference::calls::{Answer, NOT_JOINED};
 use reference::house::House;
-use reference::tally::Cases;
+use reference::tally::{Cases, Quotes};
 
 use crate::archive::Call;
 
@@ -17,6 +17,7 @@ pub struct Tally {
     returned: BTreeMap<i32, usize>,
     not_joined: usize,
     cases: Cases,
+    quotes: Quotes,
     /// The number of fittings of the largest house.
     largest: usize,
     most_stack: usize,
@@ -38,12 +39,21 @@ impl Tally {
             Call::Find(_) => "find",
             Call::FindAt(_) => "find_at",
             Call::Distance(..) => "distance",
+            Call::Quote(_) => "quote",
         };
         *self.calls.entry(name).or_default() += 1;
         *self.returned.entry(-returned.min(0)).or_default() += 1;
         let measured = matches!(call, Call::Distance(..)) && returned > 0;
         if measured && answer.as_deref() == Ok(&[NOT_JOINED]) {
             self.not_joined += 1;
+        }
+    }
+
+    /// A quote on a list that did not stop.
+    pub fn count_quote(&mut self, answer: &Answer, returned: i32) {
+        match answer.as_deref() {
+            Ok(&[case, re_hung]) if returned > 0 => self.quotes.count(Ok((case, re_hung))),
+            _ => self.quotes.count(Err(returned.unsigned_abs())),
         }
     }
 
@@ -57,17 +67,19 @@ impl Tally {
         add_counts(&mut self.returned, other.returned);
         self.not_joined += other.not_joined;
         self.cases.add(&other.cases);
+        self.quotes.add(&other.quotes);
         self.largest = self.largest.max(other.largest);
         self.count_stack(other.most_stack);
     }
 
-    /// The refusals that no call returned, the cases of landing that no pipe came to, and whether no two
-    /// fittings were found not joined, and no stack was measured.
+    /// The refusals that no call returned, the cases of landing that no pipe came to, what no quote came
+    /// to, and whether no two fittings were found not joined, and no stack was measured.
     pub fn missing(&self) -> Vec<String> {
         let refusals = (1..=9).chain([22, 23, 31]);
         let unseen = refusals.filter(|refusal| !self.returned.contains_key(refusal));
         let mut missing: Vec<String> = unseen.map(|refusal| format!("refusal {refusal}")).collect();
         missing.extend(self.cases.missing());
+        missing.extend(self.quotes.missing());
         if self.not_joined == 0 {
             missing.push("not joined".to_string());
         }

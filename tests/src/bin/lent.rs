@@ -11,25 +11,26 @@ use reference::arguments::count_and_seed;
 use reference::gen::random::Random;
 use reference::gen::series::{self, Source};
 use reference::lent::{self, Answer, Call, Command, Lent};
-use reference::tally::{verdict, Cases};
+use reference::tally::{verdict, Cases, Quotes};
 
 const DEFAULT_COUNT: usize = 6;
 /// How often a series is led on, by some commands each time. Its calls have to be answered within the
 /// time that a program has for one run.
-const TURNS: usize = 240;
+const TURNS: usize = 200;
 
-/// Calls by their kind and refusal, those that leave a ring of two or of more pipes standing, and the
-/// cases of the pipes landed.
+/// Calls by their kind and refusal, those that leave a ring of two or of more pipes standing, the
+/// cases of the pipes landed, and the quotes that were committed while they held.
 #[derive(Default)]
 struct Tally {
     calls: BTreeMap<(&'static str, u32), usize>,
     rings: BTreeMap<bool, usize>,
     cases: Cases,
+    committed: Quotes,
 }
 
 /// The refusals of each call, 0 for an answer.
 const OUTCOMES: [(&str, &[u32]); 12] = [
-    ("grow", &[0, 3, 4, 5, 7, 22, 23, 25, 31]),
+    ("grow", &[0, 1, 3, 4, 5, 7, 22, 23, 25, 31]),
     ("land", &[0, 1, 2, 3, 4, 5, 6, 7, 21, 25, 31]),
     ("find", &[0, 8, 21, 25]),
     ("find_at", &[0, 8, 21, 25]),
@@ -37,7 +38,7 @@ const OUTCOMES: [(&str, &[u32]); 12] = [
     ("sheet", &[0, 9, 21, 25]),
     ("write", &[0, 9, 21, 25]),
     ("quote", &[0, 21, 25]),
-    ("commit", &[0, 5, 21, 25, 32]),
+    ("commit", &[0, 5, 6, 7, 21, 23, 25, 31, 32]),
     ("open", &[0, 21, 25]),
     ("fetch", &[0, 21, 25, 33]),
     ("fetch done", &[0]),
@@ -50,6 +51,12 @@ impl Tally {
             _ => name(call),
         };
         *self.calls.entry((name, answer.refusal)).or_default() += 1;
+        match call {
+            Call::Commit(quote) if ![21, 25, 32].contains(&answer.refusal) => {
+                self.committed.count(quote.terms);
+            }
+            _ => {}
+        }
         let house = lent.house().unwrap_or_default();
         let of_two = house.rings().iter().map(|ring| ring.pipes().len() == 2);
         for of_two in of_two.collect::<BTreeSet<bool>>() {
@@ -70,6 +77,7 @@ impl Tally {
         let unseen = all.filter(|outcome| !self.calls.contains_key(outcome));
         let mut missing: Vec<String> = unseen.map(|(name, r)| format!("{name} {r}")).collect();
         missing.extend(self.cases.missing());
+        missing.extend(self.committed.missing());
         if self.rings.len() < 2 {
             missing.push("a standing ring of two, or of more".to_string());
         }

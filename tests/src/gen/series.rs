@@ -5,8 +5,8 @@ use std::collections::BTreeSet;
 
 use super::random::Random;
 use super::shapes::{self, Shape};
-use super::{full, list, records, version, whole_of};
-use crate::house::{House, Pipe, Standing, LARGEST_VOLUME};
+use super::{full, list, pipes, version, whole_of};
+use crate::house::{House, LARGEST_VOLUME};
 use crate::lent::{Call, Command, Lent, BYTES, SIZES, SLICE};
 use crate::list::{self as lists, Record};
 use crate::opened::{self, OpenSheet};
@@ -52,7 +52,10 @@ pub fn next(source: &mut Source, turn: usize, lent: &mut Lent) -> Vec<Command> {
     let random = &mut source.random;
     if turn == FULL_SIZE_TURN {
         let list = full::list(random, FIRST_FULL_SIZE + source.number);
-        return vec![Command::Call(Call::Grow(list))];
+        let house = lists::grow(&list).0;
+        let mut commands = vec![Command::Call(Call::Grow(list))];
+        commands.extend(committed(random, Some(&house)));
+        return commands;
     }
     let house = lent.house();
     match random.below(40) {
@@ -65,7 +68,8 @@ pub fn next(source: &mut Source, turn: usize, lent: &mut Lent) -> Vec<Command> {
             vec![landed, Command::Call(Call::Sheet(SLICE))]
         }
         14..=19 => vec![Command::Call(land(random, house.as_ref()))],
-        20..=21 => committed(random, house.as_ref()),
+        20 => one_by_one(random),
+        21 => committed(random, house.as_ref()),
         22 => every_tag(house.as_ref()),
         23..=25 => fetches(source, house.as_ref()),
         _ => vec![Command::Call(question(random, house.as_ref()))],
@@ -84,6 +88,9 @@ fn grow(source: &mut Source, turn: usize) -> Command {
         lists::write(version(random), &records)
     };
     list.truncate(LONGEST_LIST);
+    if random.one_in(30) {
+        damage_mark(random, &mut list);
+    }
     Command::Call(Call::Grow(list))
 }
 
@@ -94,7 +101,7 @@ fn land(random: &mut Random, house: Option<&House>) -> Call {
     let mut after = house.unwrap_or(&empty).clone();
     let mut landed = Vec::new();
     for _ in 0..random.below(16) {
-        let record = record(random, &after);
+        let record = pipes::record(random, &after);
         // A refused record is not the last: nothing after it may be read.
         let _ = lists::land_record(&mut after, record);
         landed.push(record);
@@ -105,110 +112,61 @@ fn land(random: &mut Random, house: Option<&House>) -> Call {
         1 => list.push(random.byte()),
         // No version, or the other one.
         2 => list[3] ^= random.pick(&[2, 3, 4]),
+        3 => damage_mark(random, &mut list),
         _ => {}
     }
     Call::Land(list)
 }
 
-fn record(random: &mut Random, house: &House) -> Record {
-    let fittings = house.fittings();
-    if fittings < 2 || random.one_in(5) {
-        return Record::Fitting;
-    }
-    let first = fitting_of_some_place(random, house);
-    let mut second = match house.run_from(first) {
-        // It closes a ring, if that end is free too.
-        Some(run) if random.one_in(3) && run.low() == first => run.high(),
-        Some(run) if random.one_in(3) => run.low(),
-        _ => fitting_of_some_place(random, house),
-    };
-    if first == second && !random.one_in(30) {
-        second = (first + 1) % fittings;
-    }
-    let missing = usize::from(random.one_in(40)) * fittings;
-    let length = if random.one_in(60) {
-        random.pick(&[0, 100_001])
-    } else {
-        1 + random.u32() % 500
-    };
-    records::with_volume(first + missing, second, length, volume(random))
-}
-
-/// Mostly known, now and then refused.
-fn volume(random: &mut Random) -> u32 {
-    let known = 1 + random.u32() % 900;
-    let above = (LARGEST_VOLUME + 1).max(random.u32());
-    match random.below(60) {
-        0 => random.pick(&[LARGEST_VOLUME + 1, above]),
-        1 | 2 => LARGEST_VOLUME,
-        3..=10 => 0,
-        _ => known,
+/// One bit of a list's mark is another, if the byte is there.
+fn damage_mark(random: &mut Random, list: &mut [u8]) {
+    let (place, bit) = (random.below(3), random.below(8));
+    if let Some(byte) = list.get_mut(place) {
+        *byte ^= 1 << bit;
     }
 }
 
-/// A fitting of a ring, or of some standing.
-fn fitting_of_some_place(random: &mut Random, house: &House) -> usize {
-    if house.rings().is_empty() || !random.one_in(3) {
-        return fitting_of_some_standing(random, house);
-    }
-    let ring = &house.rings()[random.below(house.rings().len())];
-    random.pick(ring.fittings())
-}
-
-/// A look around finds a fitting of the standing wanted, or gives the one where it starts.
-fn fitting_of_some_standing(random: &mut Random, house: &House) -> usize {
-    use Standing::{Coupling, Free, Settled};
-    let wanted = random.pick(&[Coupling, Free, Free, Free, Settled]);
-    let start = random.below(house.fittings());
-    let around = (start..house.fittings()).chain(0..start).take(40);
-    let found = around.into_iter().find(|&at| house.standing(at) == wanted);
-    found.unwrap_or(start)
-}
-
-/// A pipe is quoted, and mostly its quote committed: at once; after something was landed; twice; or with
-/// one part forged.
+/// A pipe is quoted and its quote committed: at once; after something was landed; twice; or with one
+/// part forged.
 fn committed(random: &mut Random, house: Option<&House>) -> Vec<Command> {
     let empty = House::default();
     let house = house.unwrap_or(&empty);
-    let made = quote::quote(house, pipe(random, house));
-    let commit = Command::Call(Call::Commit(made));
-    let quoted = Command::Call(Call::Quote(made.pipe));
-    match random.below(10) {
-        0..=3 => vec![quoted, commit],
-        4 => vec![quoted, commit.clone(), commit],
-        5 => vec![quoted, Command::Call(land(random, Some(house))), commit],
+    let made = quote::quote(house, pipes::pipe(random, house));
+    let [quoted, commit] = pair(made);
+    match random.below(8) {
+        0 | 1 => vec![quoted, commit],
+        2 => vec![quoted, commit.clone(), commit],
+        3 => vec![quoted, Command::Call(land(random, Some(house))), commit],
         _ => vec![Command::Call(Call::Commit(forged_quote(random, made)))],
     }
+}
+
+/// A quote, and its commit.
+fn pair(made: Quote) -> [Command; 2] {
+    [Call::Quote(made.pipe), Call::Commit(made)].map(Command::Call)
+}
+
+/// A house of lines and rings, and then some pipes, each quoted and committed, refused ones among them.
+fn one_by_one(random: &mut Random) -> Vec<Command> {
+    let size = random.between(8, 30);
+    let records = whole_of(random, shapes::lines_and_rings, size);
+    let list = lists::write(version(random), &records);
+    let mut house = lists::grow(&list).0;
+    let mut commands = vec![Command::Call(Call::Grow(list))];
+    for _ in 0..random.between(4, 12) {
+        let made = quote::quote(&house, pipes::pipe(random, &house));
+        // What is declined changes nothing.
+        let _ = quote::commit(&mut house, &made);
+        commands.extend(pair(made));
+    }
+    commands
 }
 
 /// The commit of a quote made now, before the tables are damaged.
 fn commit(random: &mut Random, house: Option<&House>) -> Call {
     let empty = House::default();
     let house = house.unwrap_or(&empty);
-    Call::Commit(quote::quote(house, pipe(random, house)))
-}
-
-/// A pipe as a list would name it, or one that no list has.
-fn pipe(random: &mut Random, house: &House) -> Pipe {
-    match record(random, house) {
-        Record::Pipe {
-            first,
-            second,
-            length,
-            volume,
-        } => Pipe {
-            first: first.into(),
-            second: second.into(),
-            length,
-            volume,
-        },
-        Record::Fitting => Pipe {
-            first: random.pick(&[0, 1, 4_096, 65_535]),
-            second: random.pick(&[0, 1, 65_535]),
-            length: random.pick(&[1, 100_000, 100_001, u32::MAX]),
-            volume: random.pick(&[0, 1, u32::MAX]),
-        },
-    }
+    Call::Commit(quote::quote(house, pipes::pipe(random, house)))
 }
 
 /// One part is another.
@@ -233,7 +191,7 @@ fn forged_quote(random: &mut Random, quote: Quote) -> Quote {
 fn question(random: &mut Random, house: Option<&House>) -> Call {
     let fittings = house.map_or(0, House::fittings);
     match random.below(12) {
-        10 => Call::Quote(pipe(random, house.unwrap_or(&House::default()))),
+        10 => Call::Quote(pipes::pipe(random, house.unwrap_or(&House::default()))),
         0 | 1 => Call::Find(tag(random, house)),
         2 | 3 => Call::FindAt(coupling(random, house)),
         4 | 5 => Call::Distance(fitting(random, fittings), fitting(random, fittings)),
@@ -336,7 +294,7 @@ fn fetches(source: &mut Source, house: Option<&House>) -> Vec<Command> {
     match random.below(12) {
         0 => sheet.place = count.saturating_sub(1),
         1 => sheet.place = random.pick(&[count, count + 1, u16::MAX]),
-        2 => sheet = forged(random, sheet, house),
+        2 => sheet = forged_sheet(random, sheet, house),
         _ => {}
     }
     let mut commands = Vec::new();
@@ -354,7 +312,7 @@ fn fetches(source: &mut Source, house: Option<&House>) -> Vec<Command> {
 }
 
 /// A sheet that no opening gave, or not of this register: a count is changed by a little, or for any.
-fn forged(random: &mut Random, sheet: OpenSheet, house: Option<&House>) -> OpenSheet {
+fn forged_sheet(random: &mut Random, sheet: OpenSheet, house: Option<&House>) -> OpenSheet {
     let now = house.map_or(sheet, opened::open);
     let near = |random: &mut Random, count: u16| {
         let any = u16::from_le_bytes([random.byte(), random.byte()]);

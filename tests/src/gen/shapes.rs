@@ -301,6 +301,20 @@ pub fn rings(random: &mut Random, size: usize) -> Layout {
     layout.maybe_shuffled(random)
 }
 
+/// Lines of two to seven fittings, and rings, none of them tapped: what may be joined, split and closed.
+pub fn lines_and_rings(random: &mut Random, size: usize) -> Layout {
+    let mut layout = Layout::default();
+    while layout.fittings < size {
+        if random.one_in(3) {
+            let fittings = small_ring(random);
+            layout.ring(fittings);
+        } else {
+            layout.line(random.between(2, 7));
+        }
+    }
+    layout.maybe_shuffled(random)
+}
+
 /// Rings closed by a pipe of theirs drawn at random, each then tapped once or more: by a fitting, by
 /// the end of a line with or without couplings, or by a pipe between two of its own.
 pub fn tapped_rings(random: &mut Random, size: usize) -> Layout {
