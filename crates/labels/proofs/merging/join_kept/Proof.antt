@@ -2,50 +2,34 @@ use Rattle.labels.proofs.Merges.{answer-joined, answer-begun}
 use borrow.Author.Needs.{needs}
 use Rattle.labels.proofs.merging.join_kept.Statement.{statement}
 use Rattle.labels.proofs.merging.join_kept.Tie as tie
-use Rattle.labels.proofs.merging.join_kept.Reads as reads
-use Rattle.labels.proofs.merging.join_kept.Lts as lts
-use Rattle.labels.proofs.merging.ChainChange.new.Reads as new-reads
-use Rattle.labels.proofs.merging.begin_chain.Reads as begin-chain-reads
-use Rattle.labels.proofs.merging.join_chains.Reads as join-chains-reads
-use Rattle.tables.proofs.access.one_more16.Reads as one-more16-reads
 
--- src/merging.rt:211:17
 enum-told : tie.Need-enum-told
 enum-told c = search needs
 
--- src/merging.rt:211:17
 one-more16-requires : tie.Need-one-more16-requires
 one-more16-requires c κs = search needs
 
--- src/merging.rt:212:13
 begin-chain-requires : tie.Need-begin-chain-requires
 begin-chain-requires c κs = search needs
 
--- src/merging.rt:213:13
 new-requires : tie.Need-new-requires
 new-requires c κs = search needs
 
--- src/merging.rt:215:23
 enum-known-keeper : tie.Need-enum-known-keeper
 enum-known-keeper c = search needs
 
--- src/merging.rt:216:17
 join-chains-requires : tie.Need-join-chains-requires
 join-chains-requires c κs = search needs
 
--- src/merging.rt:217:13
 new-requires-2 : tie.Need-new-requires-2
 new-requires-2 c κs = search needs
 
--- src/merging.rt:191:1
 same-length : tie.Need-same-length
 same-length c = search needs
 
--- src/merging.rt:191:1
 same-length-2 : tie.Need-same-length-2
 same-length-2 c = search needs
 
--- src/merging.rt:191:1
 returns : tie.Need-returns
 returns c =
     let at-begin-chain = c .before .before .before .before .before in
@@ -53,15 +37,12 @@ returns c =
     let at-enum-told = at-one-more16 .before in
     answer-begun _ _ _ _ _ _ _ _ _ _ _ _ _ _ _ _ _ _ (at-enum-told .enum-told .given .1) (at-one-more16 .one-more16 .ensures) (at-begin-chain .begin-chain .ensures) (c .new .ensures)
 
--- src/merging.rt:191:1
 same-length-3 : tie.Need-same-length-3
 same-length-3 c = search needs
 
--- src/merging.rt:191:1
 same-length-4 : tie.Need-same-length-4
 same-length-4 c = search needs
 
--- src/merging.rt:191:1
 returns-2 : tie.Need-returns-2
 returns-2 c =
     let at-join-chains = c .before .before .before .before .before in

@@ -2,36 +2,25 @@ use Rattle.labels.proofs.Merges.{merger-closes, merger-joins}
 use borrow.Author.Needs.{needs}
 use Rattle.labels.proofs.merging.merger_of.Statement.{statement}
 use Rattle.labels.proofs.merging.merger_of.Tie as tie
-use Rattle.labels.proofs.merging.merger_of.Reads as reads
-use Rattle.labels.proofs.merging.merger_of.Lts as lts
-use Rattle.labels.proofs.merging.keeper_of.Reads as keeper-of-reads
-use Rattle.tables.proofs.walks.leave_leaf.Reads as leave-leaf-reads
-use Rattle.tables.proofs.walks.walk_lockstep.Reads as walk-lockstep-reads
 
--- src/merging.rt:174:9
 leave-leaf-requires : tie.Need-leave-leaf-requires
 leave-leaf-requires c κs = search needs
 
--- src/merging.rt:175:9
 leave-leaf-requires-2 : tie.Need-leave-leaf-requires-2
 leave-leaf-requires-2 c κs = search needs
 
--- src/merging.rt:176:9
 walk-lockstep-requires : tie.Need-walk-lockstep-requires
 walk-lockstep-requires c κs = search needs
 
--- src/merging.rt:178:9
 returns : tie.Need-returns
 returns c =
     let at-leave-leaf2 = c .before .before .before .before in
     let at-leave-leaf = at-leave-leaf2 .before in
     merger-closes _ _ _ _ _ _ _ _ _ _ _ (at-leave-leaf .leave-leaf .ensures) (at-leave-leaf2 .leave-leaf2 .ensures) (c .before .before .before .walk-lockstep .ensures) (c .if1 .taken)
 
--- src/merging.rt:183:9
 keeper-of-requires : tie.Need-keeper-of-requires
 keeper-of-requires c κs = search needs
 
--- src/merging.rt:164:1
 returns-2 : tie.Need-returns-2
 returns-2 c =
     let at-walk-lockstep = c .before .before .before .before in

@@ -3,33 +3,22 @@ use mathlib.Core.Path.{_∙_}
 use borrow.Author.Needs.{needs}
 use Rattle.labels.proofs.splitting.rounds_both.Statement.{statement}
 use Rattle.labels.proofs.splitting.rounds_both.Tie as tie
-use Rattle.labels.proofs.splitting.rounds_both.Reads as reads
-use Rattle.labels.proofs.splitting.rounds_both.Lts as lts
-use Rattle.labels.proofs.splitting.Rounds.none.Reads as none-reads
-use Rattle.labels.proofs.splitting.left_for.Reads as left-for-reads
-use Rattle.tables.proofs.rings.ring_at.Reads as ring-at-reads
 
--- src/splitting.rt:153:13
 ring-at-requires : tie.Need-ring-at-requires
 ring-at-requires c κs = search needs
 
--- src/splitting.rt:154:31
 ring-at-requires-2 : tie.Need-ring-at-requires-2
 ring-at-requires-2 c κs = search needs
 
--- src/splitting.rt:154:13
 left-for-requires : tie.Need-left-for-requires
 left-for-requires c κs = search needs
 
--- src/splitting.rt:155:9
 returns : tie.Need-returns
 returns c = both-looked _ _ _ _ _ _ _ _ _ _ (c .before .before .before .if1 .taken) (c .before .before .ring-at .ensures) (c .before .ring-at2 .ensures) (c .left-for .ensures)
 
--- src/splitting.rt:157:5
 none-requires : tie.Need-none-requires
 none-requires c κs = search needs
 
--- src/splitting.rt:141:1
 returns-2 : tie.Need-returns-2
 returns-2 c = c .none .ensures ∙ both-left _ _ _ _ _ _ _ (c .before .if1 .left)
 

@@ -3,24 +3,16 @@ use mathlib.Core.Path.{_∙_}
 use borrow.Author.Needs.{needs}
 use Rattle.labels.proofs.splitting.rounds_one.Statement.{statement}
 use Rattle.labels.proofs.splitting.rounds_one.Tie as tie
-use Rattle.labels.proofs.splitting.rounds_one.Reads as reads
-use Rattle.labels.proofs.splitting.rounds_one.Lts as lts
-use Rattle.labels.proofs.splitting.Rounds.none.Reads as none-reads
-use Rattle.tables.proofs.rings.ring_at.Reads as ring-at-reads
 
--- src/splitting.rt:131:13
 ring-at-requires : tie.Need-ring-at-requires
 ring-at-requires c κs = search needs
 
--- src/splitting.rt:132:9
 returns : tie.Need-returns
 returns c = one-looked _ _ _ _ _ _ _ _ (c .before .if1 .taken) (c .ring-at .ensures)
 
--- src/splitting.rt:137:5
 none-requires : tie.Need-none-requires
 none-requires c κs = search needs
 
--- src/splitting.rt:119:1
 returns-2 : tie.Need-returns-2
 returns-2 c = c .none .ensures ∙ one-left _ _ _ _ _ _ _ (c .before .if1 .left)
 

@@ -2,37 +2,25 @@ use Rattle.labels.proofs.Splits.{both-law}
 use borrow.Author.Needs.{needs}
 use Rattle.labels.proofs.splitting.split_both.Statement.{statement}
 use Rattle.labels.proofs.splitting.split_both.Tie as tie
-use Rattle.labels.proofs.splitting.split_both.Reads as reads
-use Rattle.labels.proofs.splitting.split_both.Lts as lts
-use Rattle.labels.proofs.merging.ChainChange.new.Reads as new-reads
-use Rattle.labels.proofs.splitting.split_by.Reads as split-by-reads
-use Rattle.tables.proofs.access.add32.Reads as add32-reads
 
--- src/splitting.rt:197:9
 split-by-requires : tie.Need-split-by-requires
 split-by-requires c κs = search needs
 
--- src/splitting.rt:198:9
 split-by-requires-2 : tie.Need-split-by-requires-2
 split-by-requires-2 c κs = search needs
 
--- src/splitting.rt:199:32
 add32-requires : tie.Need-add32-requires
 add32-requires c κs = search needs
 
--- src/splitting.rt:199:5
 new-requires : tie.Need-new-requires
 new-requires c κs = search needs
 
--- src/splitting.rt:182:1
 same-length : tie.Need-same-length
 same-length c = search needs
 
--- src/splitting.rt:182:1
 same-length-2 : tie.Need-same-length-2
 same-length-2 c = search needs
 
--- src/splitting.rt:182:1
 returns : tie.Need-returns
 returns c =
     let at-split-by2 = c .before .before .before .before .before .before in

@@ -3,64 +3,46 @@ use mathlib.Core.Path.{refl}
 use borrow.Author.Needs.{needs}
 use Rattle.labels.proofs.splitting.split_ends.Statement.{statement}
 use Rattle.labels.proofs.splitting.split_ends.Tie as tie
-use Rattle.labels.proofs.splitting.split_ends.Reads as reads
-use Rattle.labels.proofs.splitting.split_ends.Lts as lts
-use Rattle.labels.proofs.merging.ChainChange.new.Reads as new-reads
-use Rattle.labels.proofs.splitting.split_both.Reads as split-both-reads
-use Rattle.labels.proofs.splitting.split_by.Reads as split-by-reads
 
--- src/splitting.rt:218:28
 enum-told : tie.Need-enum-told
 enum-told c = search needs
 
--- src/splitting.rt:218:28
 new-requires : tie.Need-new-requires
 new-requires c κs = search needs
 
--- src/splitting.rt:219:21
 enum-known-splits : tie.Need-enum-known-splits
 enum-known-splits c = search needs
 
--- src/splitting.rt:221:13
 split-by-requires : tie.Need-split-by-requires
 split-by-requires c κs = search needs
 
--- src/splitting.rt:223:53
 enum-told-2 : tie.Need-enum-told-2
 enum-told-2 c = search needs
 
--- src/splitting.rt:223:25
 split-both-requires : tie.Need-split-both-requires
 split-both-requires c κs = search needs
 
--- src/splitting.rt:203:1
 returns : tie.Need-returns
 returns c = ends-neither _ _ _ _ _ _ _ _ _ _ _ _ _ _ (c .before .enum-told .given .1) refl refl (c .new .ensures)
 
--- src/splitting.rt:203:1
 same-length : tie.Need-same-length
 same-length c = search needs
 
--- src/splitting.rt:203:1
 same-length-2 : tie.Need-same-length-2
 same-length-2 c = search needs
 
--- src/splitting.rt:203:1
 returns-2 : tie.Need-returns-2
 returns-2 c =
     let at-split-by = c .before .before .before .before in
     let at-splits = at-split-by .before .before .before .before in
     ends-one _ _ _ _ _ _ _ _ _ _ _ _ _ _ _ _ (at-splits .splits .given .1) (at-split-by .split-by .ensures)
 
--- src/splitting.rt:203:1
 same-length-3 : tie.Need-same-length-3
 same-length-3 c = search needs
 
--- src/splitting.rt:203:1
 same-length-4 : tie.Need-same-length-4
 same-length-4 c = search needs
 
--- src/splitting.rt:203:1
 returns-3 : tie.Need-returns-3
 returns-3 c =
     let at-split-both = c .before .before .before .before in
