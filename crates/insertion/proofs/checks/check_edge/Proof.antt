@@ -4,8 +4,8 @@ use Rattle.counters.proofs.Within.{landed-is, landed-none}
 use Rattle.counters.specs.Numbers.{asMillimetres, asVertex}
 use mathlib.Core.Path.{ap, sym, _∙_}
 use borrow.Author.Needs.{needs}
-use Rattle.insertion.proofs.edges.check_edge.Statement.{statement}
-use Rattle.insertion.proofs.edges.check_edge.Tie as tie
+use Rattle.insertion.proofs.checks.check_edge.Statement.{statement}
+use Rattle.insertion.proofs.checks.check_edge.Tie as tie
 
 returns : tie.Need-returns
 returns c = check-first _ _ _ _ _ (landed-none _ _ (ap asVertex (sym (c .enum-told .given .1)) ∙ c .before .before .landed .ensures))

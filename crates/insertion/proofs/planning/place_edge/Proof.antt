@@ -1,10 +1,6 @@
-use Rattle.insertion.proofs.Places.{work-given}
 use borrow.Author.Needs.{needs}
-use Rattle.insertion.proofs.placing.place_edge.Statement.{statement}
-use Rattle.insertion.proofs.placing.place_edge.Tie as tie
-
-work-of-requires : tie.Need-work-of-requires
-work-of-requires c κs = search needs
+use Rattle.insertion.proofs.planning.place_edge.Statement.{statement}
+use Rattle.insertion.proofs.planning.place_edge.Tie as tie
 
 enum-told : tie.Need-enum-told
 enum-told c = search needs
@@ -31,8 +27,7 @@ returns : tie.Need-returns
 returns c =
     let at-place-merged = c .before .before .before .before .before .before in
     let at-enum-told = at-place-merged .before .before .before .before in
-    let at-work-of = at-enum-told .before .before in
-    work-given _ _ _ _ _ _ _ _ _ _ _ _ _ (at-enum-told .enum-told .given .1) (at-work-of .work-of .ensures) (at-place-merged .place-merged .ensures)
+    rw (at-enum-told .enum-told .given .1) (at-place-merged .place-merged .ensures)
 
 same-length-4 : tie.Need-same-length-4
 same-length-4 c = search needs
@@ -47,14 +42,12 @@ returns-2 : tie.Need-returns-2
 returns-2 c =
     let at-place-open = c .before .before .before .before .before .before in
     let at-work = at-place-open .before .before .before .before .before in
-    let at-work-of = at-work .before .before in
-    work-given _ _ _ _ _ _ _ _ _ _ _ _ _ (at-work .work .given .1) (at-work-of .work-of .ensures) (at-place-open .place-open .ensures)
+    rw (at-work .work .given .1) (at-place-open .place-open .ensures)
 
 pub place-edge-spec : {M : Type 1} → statement M
 place-edge-spec =
     tie.close
     (tie.spec
-    work-of-requires
     enum-told
     place-merged-requires
     enum-known-work
