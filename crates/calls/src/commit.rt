@@ -4,7 +4,7 @@ use admission::gate::pass_gate;
 use counters::counts::Counts;
 use counters::quotes::CommitAnswer;
 use counters::quotes::Quote;
-use insertion::committing::commit_edge;
+use insertion::committing::commit_quote;
 use insertion::edges::Inserted;
 ghost use mathlib.Core.Path.{_≡_};
 ghost use mathlib.Core.List.{[]};
@@ -91,7 +91,7 @@ fn commit_with(
     );
     match passed {
         Gate::Open => {
-            let inserted = commit_edge(
+            let inserted = commit_quote(
                 degrees,
                 sides,
                 ends,

@@ -1,6 +1,6 @@
--- Laws of the counts that are read: the loop along a chain, two chains joined, and the ways out of a merge.
+-- Laws of the counts that are read: the loop along a chain, two chains joined, taps, and that they are those of what was decided.
 use mathlib.Core.Path.{_≡_, refl, sym}
-use mathlib.Core.Bool.{Bool, true, false, not}
+use mathlib.Core.Bool.{Bool, true, false}
 use mathlib.Core.List.{List}
 use Prim.Native.Nat.{ℕ, zero, suc, _+_, _*_, _-_, _<_, _≤_}
 use native.Mathlib.Nat.{not-suc-le-zero}
@@ -14,18 +14,17 @@ use Rattle.model.specs.Labels.{isRelabelled}
 use Rattle.model.proofs.Basics.Booleans.{one-most}
 use Rattle.counters.specs.declared.numbers.Vertex.{Vertex}
 use Rattle.tables.specs.Steps.{farIn, turnIn}
-use Rattle.tables.specs.Walks.{Met, lockstepIn}
-use Rattle.tables.specs.Rounds.{ringIn}
+use Rattle.tables.specs.Walks.{Met}
 use Rattle.tables.specs.declared.rings.Round.{Round}
-use Rattle.tables.specs.declared.rings.Round.the-variants.{NoRing, Ring, Shared}
+use Rattle.tables.specs.declared.rings.Round.the-variants.{Shared}
 use Rattle.labels.specs.Labelling.{nextIn, risesIn}
-use Rattle.labels.specs.Merging.{keeperFor}
-use Rattle.labels.specs.Splitting.{leftFor}
+use Rattle.labels.specs.Merging.{mergerAt, mergerFor}
+use Rattle.labels.specs.Splitting.{roundsOne, roundsBoth, roundsFor}
 use Rattle.labels.specs.declared.splitting.Splits.{Splits}
 use Rattle.labels.specs.declared.splitting.Splits.the-variants as splits
-use Rattle.counting.specs.Counting.{Estimated, countIn, estimated, joinCountIn, keeperCountIn, mergeCountAt, mergeCountIn, movedIn, roundCount, splitCountIn}
+use Rattle.counting.specs.Counting.{countIn, joinCountIn, keeperCountIn, mergeCountAt, mergeCountIn, mergerCount, movedIn, roundCount, roundsCount, splitCountIn}
 use Rattle.labels.specs.declared.merging.Keeper.{Keeper}
-use Rattle.labels.specs.declared.merging.Keeper.the-variants.{Neither, Chain}
+use Rattle.labels.specs.declared.merging.Keeper.the-variants.{Chain}
 
 pub moved-le : (m old new : ℕ) → m ≡ movedIn old new → m ≤ 1
 unfolding movedIn
@@ -75,67 +74,33 @@ unfolding joinCountIn
 join-count degrees s ends l x y n dx dy ux uy old lx ly lz r up a b f g h i j k =
     rw (← a .0, ← a .1, ← b .0, ← b .1, ← f, ← g, ← h, ← i, ← j) k
 
-module _ (degrees s ends l : List ℕ) (a b n da ua db ub : ℕ) (m : Met) (h : (da ≡ getD s (2 * a) 0) × (ua ≡ farIn ends da a))
-    (i : (db ≡ getD s (2 * b) 0) × (ub ≡ farIn ends db b)) (is : m ≡ lockstepIn degrees s ends n da ua db ub) where
-  pub count-closes : m .first ≡ b → estimated true 0 ≡ mergeCountIn degrees s ends l a b n
-  unfolding mergeCountIn mergeCountAt
-  count-closes o = rw (← h .0, ← h .1, ← i .0, ← i .1, ← is, eq-eqb _ _ o)
-
-  pub count-kept : (keeper : Keeper) (c : ℕ) → (m .first ≡ b → ⊥) → keeper ≡ keeperFor degrees a b m → c ≡ keeperCountIn keeper degrees s ends l n
-      → estimated false c ≡ mergeCountIn degrees s ends l a b n
-  unfolding mergeCountIn mergeCountAt
-  count-kept keeper c o k e = rw (← h .0, ← h .1, ← i .0, ← i .1, ← is, ne-eqb _ _ o, ← k, ← e)
-
-pub neither-count : (degrees s ends l : List ℕ) (n : ℕ) (keeper : Keeper) → keeper ≡ Neither → 0 ≡ keeperCountIn keeper degrees s ends l n
-neither-count degrees s ends l n keeper e = rw e
-
 pub chain-count : (degrees s ends l : List ℕ) (n c : ℕ) (keeper : Keeper) (x y : Vertex) → keeper ≡ Chain x y → c ≡ joinCountIn degrees s ends l (x .0) (y .0) n
     → c ≡ keeperCountIn keeper degrees s ends l n
 chain-count degrees s ends l n c keeper x y e f = rw e f
 
--- a test of `!b`
-pub not-then : (b : Bool) → not b ≡ true → b ≡ false
-not-then true h = sym h
-not-then false h = refl
-
-pub not-else : (b : Bool) → not b ≡ false → b ≡ true
-not-else true h = refl
-not-else false h = sym h
-
 -- ---- taps
-
-pub no-round : (round : Round) → round ≡ NoRing → 0 ≡ roundCount round
-no-round round e = rw e
-
-pub a-round : (round : Round) (n : ℕ) → round ≡ Ring n → n ≡ roundCount round
-a-round round n e = rw e
 
 pub shared-round : (round : Round) (n m : ℕ) → round ≡ Shared n → m ≡ n - 1 → m ≡ roundCount round
 shared-round round n m e f = rw e f
 
-module _ (degrees s ends : List ℕ) (a b n : ℕ) where
-  pub both-count : (p q q′ : Round) (f g : ℕ) → p ≡ ringIn degrees s ends a b n → f ≡ roundCount p → q ≡ ringIn degrees s ends b a n → q′ ≡ leftFor q
-      → g ≡ roundCount q′ → f + g ≡ splitCountIn splits.Both degrees s ends a b n true
-  unfolding splitCountIn
-  both-count p q q′ f g h i j k l = rw (← h, ← i, ← j, ← k, ← l)
+-- ---- counted of what was decided is counted at once
 
-  -- where no ring stands
-  pub no-count : (x : Splits) (rings : Bool) → rings ≡ false → 0 ≡ splitCountIn x degrees s ends a b n rings
-  unfolding splitCountIn
-  no-count splits.Neither rings e = refl
-  no-count (splits.One v w) rings e = rw e
-  no-count splits.Both rings e = rw e
+merged-at : (degrees s ends l : List ℕ) (a b n : ℕ) (m : Met) (t : Bool) → eqb (m .first) b ≡ t
+    → mergerCount (mergerAt degrees a b m) degrees s ends l n ≡ mergeCountAt degrees s ends l a b n m
+unfolding mergerAt mergeCountAt
+merged-at degrees s ends l a b n m true o = rw o
+merged-at degrees s ends l a b n m false o = rw o
 
-  -- where one may
-  pub neither-split : (x : Splits) (rings : Bool) → x ≡ splits.Neither → 0 ≡ splitCountIn x degrees s ends a b n rings
-  unfolding splitCountIn
-  neither-split x rings e = rw e
+pub merger-counts : (degrees s ends l : List ℕ) (a b n : ℕ)
+    → mergerCount (mergerFor degrees s ends a b n) degrees s ends l n ≡ mergeCountIn degrees s ends l a b n
+unfolding mergerFor mergeCountIn
+merger-counts degrees s ends l a b n = merged-at degrees s ends l a b n _ _ refl
 
-  pub one-split : (x : Splits) (rings : Bool) (v w : Vertex) (p : Round) (r : ℕ) → rings ≡ true → x ≡ splits.One v w → p ≡ ringIn degrees s ends (v .0) (w .0) n
-      → r ≡ roundCount p → r ≡ splitCountIn x degrees s ends a b n rings
-  unfolding splitCountIn
-  one-split x rings v w p r e f g h = rw (f, e, ← g) h
-
-  pub both-split : (x : Splits) (rings : Bool) (r : ℕ) → rings ≡ true → x ≡ splits.Both → r ≡ splitCountIn splits.Both degrees s ends a b n true
-      → r ≡ splitCountIn x degrees s ends a b n rings
-  both-split x rings r e f g = rw (f, e) g
+pub rounds-count : (x : Splits) (degrees s ends : List ℕ) (a b n : ℕ) (rings : Bool)
+    → roundsCount (roundsFor x degrees s ends a b n rings) ≡ splitCountIn x degrees s ends a b n rings
+unfolding splitCountIn roundsOne roundsBoth
+rounds-count splits.Neither degrees s ends a b n rings = refl
+rounds-count (splits.One v w) degrees s ends a b n true = omega arith
+rounds-count (splits.One v w) degrees s ends a b n false = refl
+rounds-count splits.Both degrees s ends a b n true = refl
+rounds-count splits.Both degrees s ends a b n false = refl

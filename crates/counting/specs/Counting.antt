@@ -16,6 +16,8 @@ use Rattle.labels.specs.Merging.{keeperFor}
 use Rattle.labels.specs.Splitting.{leftFor}
 use Rattle.labels.specs.declared.merging.Keeper.{Keeper}
 use Rattle.labels.specs.declared.merging.Keeper.the-variants.{Neither, Chain}
+use Rattle.labels.specs.declared.merging.Merger.{Merger}
+use Rattle.labels.specs.declared.splitting.Rounds.{Rounds}
 use Rattle.labels.specs.declared.splitting.Splits.{Splits}
 use Rattle.labels.specs.declared.splitting.Splits.the-variants as splits
 
@@ -76,3 +78,13 @@ splitCountIn splits.Neither degrees sides ends a b n rings = 0
 splitCountIn (splits.One v w) degrees sides ends a b n rings = if rings then roundCount (ringIn degrees sides ends (v .0) (w .0) n) else 0
 splitCountIn splits.Both degrees sides ends a b n rings =
     if rings then roundCount (ringIn degrees sides ends a b n) + roundCount (leftFor (ringIn degrees sides ends b a n)) else 0
+
+-- ---- of what was decided before (labels/specs: `mergerFor`, `roundsFor`)
+
+-- the chains merged; a ring relabels nothing, since neither chain keeps labels then
+abbrev pub mergerCount : Merger → List ℕ → List ℕ → List ℕ → List ℕ → ℕ → Estimated
+mergerCount by degrees sides ends labels n = estimated (by .ring) (keeperCountIn (by .keeper) degrees sides ends labels n)
+
+-- the regular ends split
+abbrev pub roundsCount : Rounds → ℕ
+roundsCount by = roundCount (by .first) + roundCount (by .second)

@@ -5,22 +5,17 @@ use labels::labelling::is_relabelled;
 use labels::labelling::next_label;
 use labels::labelling::rises;
 use labels::merging::Keeper;
-use labels::merging::keeper_of;
-use labels::splitting::Splits;
-use labels::splitting::left_for;
+use labels::merging::Merger;
+use labels::splitting::Rounds;
 use tables::kinds::degree_of;
 use tables::kinds::label_of;
 use tables::rings::Round;
-use tables::rings::ring_at;
 use tables::walks::Walker;
 use tables::walks::leave_leaf;
 use tables::walks::step_over;
-use tables::walks::walk_lockstep;
 ghost use mathlib.Core.Path.{_≡_};
 ghost use lib.ListN.{getD};
-ghost use mathlib.Core.Bool.{true};
-ghost use Rattle.labels.specs.declared.splitting.Splits.the-variants.{Both};
-ghost use Rattle.counting.specs.Counting.{movedIn, countIn, joinCountIn, estimated, mergeCountIn, roundCount, splitCountIn};
+ghost use Rattle.counting.specs.Counting.{movedIn, countIn, joinCountIn, keeperCountIn, estimated, mergerCount, roundCount, roundsCount};
 
 // Whether the edge would close a ring, and how many vertices would be relabelled.
 pub struct Estimate {
@@ -88,38 +83,40 @@ fn count_joined(
     count_relabelled(degrees, sides, ends, labels, other, lz, up, fuel)
 }
 
-// The chains of the leaves a and b would be merged, or closed to a ring, which relabels nothing.
-pub fn count_merged(
+// The chains would be joined, by which of them keeps its labels.
+fn count_kept(
+    keeper: Keeper,
     degrees: &[u16],
     sides: &[u16],
     ends: &[u16],
     labels: &[u32],
-    a: Vertex,
-    b: Vertex,
+    fuel: u16,
+) -> u32
+    ensures { λ r. ⌜ r ≡ keeperCountIn keeper (now (degrees .entry)) (now (sides .entry)) (now (ends .entry)) (now (labels .entry)) fuel ⌝ }
+{
+    match keeper {
+        Keeper::Neither => 0,
+        Keeper::Chain(x, y) => count_joined(degrees, sides, ends, labels, x, y, fuel),
+    }
+}
+
+// The chains of two leaves would be merged, as `merger_of` found; or closed to a ring, which relabels nothing.
+pub fn count_merged(
+    merger: Merger,
+    degrees: &[u16],
+    sides: &[u16],
+    ends: &[u16],
+    labels: &[u32],
     fuel: u16,
 ) -> Estimate
     ensures { λ r. ⌜ estimated (r .ring) (r .count)
-        ≡ mergeCountIn (now (degrees .entry)) (now (sides .entry)) (now (ends .entry)) (now (labels .entry)) (a .0) (b .0) fuel ⌝ }
+        ≡ mergerCount merger (now (degrees .entry)) (now (sides .entry)) (now (ends .entry)) (now (labels .entry)) fuel ⌝ }
 {
-    let first = leave_leaf(sides, ends, a);
-    let second = leave_leaf(sides, ends, b);
-    let met = walk_lockstep(degrees, sides, ends, first, second, fuel);
-    if met.first.at.0 == b.0 {
-        return Estimate {
-            ring: true,
-            count: 0,
-        };
-    }
-    let keeper = keeper_of(degrees, met, a, b);
-    match keeper {
-        Keeper::Neither => Estimate {
-            ring: false,
-            count: 0,
-        },
-        Keeper::Chain(x, y) => {
-            let count = count_joined(degrees, sides, ends, labels, x, y, fuel);
-            Estimate { ring: false, count }
-        }
+    let keeper = merger.keeper;
+    let count = count_kept(keeper, degrees, sides, ends, labels, fuel);
+    Estimate {
+        ring: merger.ring,
+        count,
     }
 }
 
@@ -140,37 +137,13 @@ fn round_count(round: Round) -> u16
     }
 }
 
-// The regular vertices a and b would be split, a first.
-fn count_both(degrees: &[u16], sides: &[u16], ends: &[u16], a: Vertex, b: Vertex, fuel: u16) -> u32
-    ensures { λ r. ⌜ r ≡ splitCountIn Both (now (degrees .entry)) (now (sides .entry)) (now (ends .entry)) (a .0) (b .0) fuel true ⌝ }
+// The regular ends of an edge would be split, as `rounds_for` found them.
+pub fn count_split(rounds: Rounds) -> u32
+    ensures { λ r. ⌜ r ≡ roundsCount rounds ⌝ }
 {
-    let first = round_count(ring_at(degrees, sides, ends, a, b, fuel));
-    let second = round_count(left_for(ring_at(degrees, sides, ends, b, a, fuel)));
-    (first as u32) + (second as u32)
-}
-
-// The regular ends of the edge between a and b would be split. Where no ring stands, none is looked for.
-pub fn count_split(
-    splits: Splits,
-    degrees: &[u16],
-    sides: &[u16],
-    ends: &[u16],
-    a: Vertex,
-    b: Vertex,
-    fuel: u16,
-    rings: bool,
-) -> u32
-    ensures { λ r. ⌜ r ≡ splitCountIn splits (now (degrees .entry)) (now (sides .entry)) (now (ends .entry)) (a .0) (b .0) fuel rings ⌝ }
-{
-    if !rings {
-        return 0;
-    }
-    match splits {
-        Splits::Neither => 0,
-        Splits::One(v, w) => {
-            let count = round_count(ring_at(degrees, sides, ends, v, w, fuel));
-            count as u32
-        }
-        Splits::Both => count_both(degrees, sides, ends, a, b, fuel),
-    }
+    let first = rounds.first;
+    let second = rounds.second;
+    let n = round_count(first);
+    let m = round_count(second);
+    (n as u32) + (m as u32)
 }

@@ -8,23 +8,23 @@ use native.Mathlib.Omega.{arith}
 use native.Mathlib.Decide.{decLe, decLt}
 use borrow.Author.Tests.{eq-eqb, ne-eqb, lt-ltb, le-ltb, le-leb, lt-leb}
 use lib.Dec.{eqb, ltb}
-use lib.ListN.{getD, set}
+use lib.ListN.{set}
 use Rattle.model.specs.Basics.{if_then_else_, maxEdges, maxLength, maxVertices, maxVolume}
 use Rattle.model.specs.Graph.{Edge}
-use Rattle.model.specs.Cases.{Case, classOf, caseOf}
 use Rattle.model.specs.Tables.{Tables, Counts}
 use Rattle.counters.specs.Answers.{counts}
 use Rattle.counters.specs.Numbers.{isLanded, within, volumeOf}
 use Rattle.counters.proofs.Within.{within-yes, within-below, within-above, volume-known, volume-unknown, volume-above}
 use Rattle.tables.specs.Meaning.{tables}
 use Rattle.tables.specs.Steps.{setPair, more16, sum32}
-use Rattle.insertion.specs.Placing.{placed, placeIn}
-use Rattle.insertion.specs.Insertion.{done, refusedIn, landingIn, landVertexIn, insertIn, passed, failed, storedVolume, checkIn, landChecked, landIn}
-use Rattle.insertion.specs.Meaning.{asChecked}
-use Rattle.insertion.specs.declared.edges.Checked.{Checked}
+use Rattle.insertion.specs.Placing.{placed}
+use Rattle.insertion.specs.Insertion.{LandingIn, done, refusedIn, landingIn, landVertexIn, passed, failed, storedVolume, checkIn}
+use Rattle.insertion.specs.Planning.{committedIn, insertPlanned, plannedIn}
+use Rattle.insertion.specs.Meaning.{asIntent}
+use Rattle.insertion.specs.declared.planning.Plan.{Plan}
+use Rattle.insertion.specs.declared.quoting.Intent.{Intent}
 
 module _ (c : Counts) (rings : Bool) where
-  -- 22 where there are 4,096 vertices; else one more is counted
   pub vertex-full : maxVertices ≤ c .vertices → refusedIn 22 ≡ landVertexIn c rings
   unfolding landVertexIn
   vertex-full h = rw (le-leb maxVertices (c .vertices) h)
@@ -34,16 +34,14 @@ module _ (c : Counts) (rings : Bool) where
   unfolding landVertexIn
   vertex-more n h e = rw (lt-leb maxVertices (c .vertices) h, e)
 
--- degrees, sides, labels, ends, length, volume and counts after an insertion are those of `insertIn`
-pub insert-done : (d s ends l u t d′ s′ t′ ends′ l′ u′ : List ℕ) (c : Counts) (rings ring after : Bool) (a b len volume da db blocks m edges n : ℕ) (k : Case)
-    → da ≡ getD d a 0 → db ≡ getD d b 0 → k ≡ caseOf (classOf da) (classOf db)
-    → placed d′ s′ t′ blocks m ring ≡ placeIn k d s ends t (c .blocks) a b (c .edges) rings → ends′ ≡ setPair ends (c .edges) a b
+pub insert-done : (d s ends l u t d′ s′ t′ ends′ l′ u′ : List ℕ) (c : Counts) (rings ring after : Bool) (a b len volume blocks m edges n : ℕ) (by : Plan)
+    → placed d′ s′ t′ blocks m ring ≡ plannedIn by d s ends t (c .blocks) a b (c .edges) → ends′ ≡ setPair ends (c .edges) a b
     → l′ ≡ set l (c .edges) len → u′ ≡ set u (c .edges) volume → edges ≡ more16 (c .edges) → n ≡ sum32 (c .relabellings) m → after ≡ (rings || ring)
     → landingIn (tables d′ s′ ends′ l′ u′ t′) (done (counts (c .vertices) edges blocks n) after)
-    ≡ insertIn (tables d s ends l u t) c rings (record { first = a; second = b; len = len; volume = volume })
-unfolding insertIn
-insert-done d s ends l u t d′ s′ t′ ends′ l′ u′ c rings ring after a b len volume da db blocks m edges n k i j g p z x y v w o =
-    rw (← i, ← j, ← g, ← p, z, x, y, v, w, o)
+    ≡ insertPlanned by (tables d s ends l u t) c rings (record { first = a; second = b; len = len; volume = volume })
+unfolding insertPlanned
+insert-done d s ends l u t d′ s′ t′ ends′ l′ u′ c rings ring after a b len volume blocks m edges n by p z x y v w o =
+    rw (← p, z, x, y, v, w, o)
 
 -- a ring may stand where one did before, or is closed now
 pub ring-before : (rings ring : Bool) → rings ≡ true → rings ≡ (rings || ring)
@@ -88,7 +86,6 @@ module _ (c : Counts) (a b n v : ℕ) where
   abbrev edge : Edge
   edge = record { first = a; second = b; len = n; volume = v }
 
-  -- an end that is not landed: 5, the first named or the second
   pub check-first : isLanded (c .vertices) a ≡ false → failed 5 ≡ checkIn c edge
   unfolding checkIn
   check-first h = rw h
@@ -98,13 +95,11 @@ module _ (c : Counts) (a b n v : ℕ) where
   check-second h g = rw (h, g)
 
   module _ (h : isLanded (c .vertices) a ≡ true) (g : isLanded (c .vertices) b ≡ true) where
-    -- the same vertex twice: 6
     pub check-same : a ≡ b → failed 6 ≡ checkIn c edge
     unfolding checkIn
     check-same e = rw (h, g, eq-eqb _ _ e)
 
     module _ (e : a ≡ b → ⊥) where
-      -- a length out of its bounds: 7
       pub check-length : none ≡ within 1 maxLength n → failed 7 ≡ checkIn c edge
       unfolding checkIn
       check-length l = rw (h, g, ne-eqb _ _ e, if-none (eqb n 0 || ltb maxLength n) n (l ∙ length-test n))
@@ -113,7 +108,6 @@ module _ (c : Counts) (a b n v : ℕ) where
         length-is : ((eqb n 0 || ltb maxLength n) ≡ false) × (m ≡ n)
         length-is = if-some (eqb n 0 || ltb maxLength n) m n (l ∙ length-test n)
 
-        -- a volume out of its bounds: 31
         pub check-volume : none ≡ storedVolume (volumeOf v) → failed 31 ≡ checkIn c edge
         unfolding checkIn
         check-volume w = rw (h, g, ne-eqb _ _ e, length-is .0, if-none (ltb maxVolume v) v (w ∙ volume-test v))
@@ -122,19 +116,16 @@ module _ (c : Counts) (a b n v : ℕ) where
           volume-is : (ltb maxVolume v ≡ false) × (u ≡ v)
           volume-is = if-some (ltb maxVolume v) u v (w ∙ volume-test v)
 
-          -- 4,096 edges: 23
           pub check-edges : maxEdges ≤ c .edges → failed 23 ≡ checkIn c edge
           unfolding checkIn
           check-edges o = rw (h, g, ne-eqb _ _ e, length-is .0, volume-is .0, le-leb _ _ o)
 
-          -- any other edge passes, with its numbers
           pub check-passed : (a′ b′ : ℕ) → a′ ≡ a → b′ ≡ b → c .edges < maxEdges → passed a′ b′ m u ≡ checkIn c edge
           unfolding checkIn
           check-passed a′ b′ x y o =
               rw (h, g, ne-eqb _ _ e, length-is .0, volume-is .0, lt-leb _ _ o, length-is .1, volume-is .1, x, y)
 
--- landing goes on as the check's answer says
-pub checked-given : (t : Tables) (c : Counts) (rings : Bool) (e : Edge) (k k′ : Checked) → k ≡ k′ → asChecked k ≡ checkIn c e
-    → landChecked t c rings e (asChecked k′) ≡ landIn t c rings e
-unfolding landIn
-checked-given t c rings e k k′ q h = rw (← h, q)
+-- a commit goes on as its intent says
+pub intent-given : (t : Tables) (c : Counts) (rings : Bool) (k k′ : Intent) (x : LandingIn) → k ≡ k′ → x ≡ committedIn t c rings (asIntent k′)
+    → x ≡ committedIn t c rings (asIntent k)
+intent-given t c rings k k′ x q h = rw q h

@@ -1,16 +1,8 @@
 -- Classes and cases.
 use mathlib.Core.Path.{_≡_, refl}
-use mathlib.Core.List.{[], _∷_}
 use Prim.Native.Nat.{ℕ, zero, suc}
-use denote.Enum.Declared.{tagOf}
-use types.Run.{OneOf, miss}
 use Rattle.model.specs.Cases.{Class, isolated, leaf, regular, branch, classOf, caseOf}
-use Rattle.insertion.specs.Meaning.{asClass, leafless}
-use Rattle.insertion.specs.declared.cases.Class as declared
-use Rattle.insertion.specs.declared.cases.Class.the-variants.{Isolated, Leaf, Regular, Branch}
-use Rattle.insertion.proofs.cases.Class.{the-type}
 
--- a degree other than 0, 1 and 2 is a branch's
 pub class-branch : (n : ℕ) → (n ≡ 0 → ⊥) → (n ≡ 1 → ⊥) → (n ≡ 2 → ⊥) → branch ≡ classOf n
 unfolding classOf
 class-branch zero a b c = absurd (a refl)
@@ -26,19 +18,10 @@ case-branch leaf = refl
 case-branch regular = refl
 case-branch branch = refl
 
--- an arm for several variants tells the variant's position: it is no leaf
-pub no-leaf : (x : declared.Class) → OneOf (0 ∷ 2 ∷ 3 ∷ []) (tagOf the-type x) → leafless (asClass x) ≡ asClass x
-unfolding leafless
-no-leaf Isolated h = refl
-no-leaf Leaf h = absurd (miss (0 ∷ 2 ∷ 3 ∷ []) 1 tt h)
-no-leaf Regular h = refl
-no-leaf Branch h = refl
-
--- .. and here no regular vertex
-pub not-regular : (x : declared.Class) (second : Class) → OneOf (0 ∷ 1 ∷ 3 ∷ []) (tagOf the-type x)
-    → caseOf isolated second ≡ caseOf (leafless (asClass x)) second
-unfolding leafless
-not-regular Isolated second h = refl
-not-regular Leaf second h = refl
-not-regular Regular second h = absurd (miss (0 ∷ 1 ∷ 3 ∷ []) 2 tt h)
-not-regular Branch second h = case-branch second
+-- .. and so does every degree but 1 and 2
+pub case-singular : (n : ℕ) (second : Class) → (n ≡ 1 → ⊥) → (n ≡ 2 → ⊥) → caseOf isolated second ≡ caseOf (classOf n) second
+unfolding classOf
+case-singular zero second a b = refl
+case-singular (suc zero) second a b = absurd (a refl)
+case-singular (suc (suc zero)) second a b = absurd (b refl)
+case-singular (suc (suc (suc n))) second a b = case-branch second

@@ -2,4 +2,5 @@ pub mod Placing
 pub mod Insertion
 pub mod Quoting
 pub mod Committing
+pub mod Planning
 pub mod Meaning

@@ -5,29 +5,25 @@ use mathlib.Core.Option.{Option, none, some}
 use Rattle.counters.specs.Refusals.{numberOf}
 use Rattle.counters.specs.Answers.{asCounts}
 use Rattle.insertion.specs.Insertion.{AnswerIn, done, refusedIn, CheckIn, passed, failed}
+use Rattle.insertion.specs.Planning.{IntentIn, place, refuse}
 use Rattle.insertion.specs.declared.cases.Class.{Class}
 use Rattle.insertion.specs.declared.cases.Class.the-variants.{Isolated, Leaf, Regular, Branch}
 use Rattle.insertion.specs.declared.cases.Case.{Case}
 use Rattle.insertion.specs.declared.cases.Case.the-variants.{New, ExtendFirst, ExtendSecond, Merge, SplitExtendFirst, SplitExtendSecond, SplitFirst, SplitSecond, SplitBoth}
 use Rattle.insertion.specs.declared.edges.Inserted.{Inserted}
 use Rattle.insertion.specs.declared.edges.Inserted.the-variants as inserted
-use Rattle.insertion.specs.declared.edges.Checked.{Checked}
-use Rattle.insertion.specs.declared.edges.Checked.the-variants as checked
-use Rattle.insertion.specs.declared.edges.CheckedVolume.{CheckedVolume}
-use Rattle.insertion.specs.declared.edges.CheckedVolume.the-variants as volume
+use Rattle.insertion.specs.declared.checks.Checked.{Checked}
+use Rattle.insertion.specs.declared.checks.Checked.the-variants as checked
+use Rattle.insertion.specs.declared.checks.CheckedVolume.{CheckedVolume}
+use Rattle.insertion.specs.declared.checks.CheckedVolume.the-variants as volume
+use Rattle.insertion.specs.declared.quoting.Intent.{Intent}
+use Rattle.insertion.specs.declared.quoting.Intent.the-variants as intent
 
 abbrev pub asClass : Class → C.Class
 asClass Isolated = C.isolated
 asClass Leaf = C.leaf
 asClass Regular = C.regular
 asClass Branch = C.branch
-
--- a class, with a leaf taken as isolated
-unfoldable pub leafless : C.Class → C.Class
-leafless C.isolated = C.isolated
-leafless C.leaf = C.isolated
-leafless C.regular = C.regular
-leafless C.branch = C.branch
 
 abbrev pub asCase : Case → C.Case
 asCase New = C.newChain
@@ -51,3 +47,7 @@ asChecked (checked.Refused x) = failed (numberOf x)
 abbrev pub asVolume : CheckedVolume → Option ℕ
 asVolume (volume.Is v) = some (v .0)
 asVolume volume.OutOfRange = none
+
+abbrev pub asIntent : Intent → IntentIn
+asIntent (intent.Place a b l v plan) = place (a .0) (b .0) (l .0) (v .0) plan
+asIntent (intent.Refuse x) = refuse (numberOf x)

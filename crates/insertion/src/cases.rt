@@ -1,7 +1,7 @@
 // The case of an insertion, by the degrees of the two ends before it.
 ghost use mathlib.Core.Path.{_≡_};
 ghost use Rattle.model.specs.Cases.{isolated, leaf, regular, classOf, caseOf};
-ghost use Rattle.insertion.specs.Meaning.{asClass, leafless, asCase};
+ghost use Rattle.insertion.specs.Meaning.{asClass, asCase};
 
 // Degrees 0, 1, 2, 3 and up. Document 01 calls a regular vertex a coupling, every other one a junction, and a leaf free.
 pub enum Class {
@@ -35,23 +35,15 @@ pub fn class_of(degree: u16) -> Class
     }
 }
 
-// A leaf is told from the others first: the processor mispredicts this test most, and so it has two outcomes, not four.
-pub fn case_of(first: Class, second: Class) -> Case
-    ensures { λ r. ⌜ asCase r ≡ caseOf (asClass first) (asClass second) ⌝ }
+// The first end's degree: 0 makes the cases that 3 and up make, and so the test that the processor mispredicts most has three outcomes, not
+// four.
+pub fn case_of(first: u16, second: Class) -> Case
+    ensures { λ r. ⌜ asCase r ≡ caseOf (classOf first) (asClass second) ⌝ }
 {
     match first {
-        Class::Leaf => case_of_leaf(second),
-        Class::Isolated | Class::Regular | Class::Branch => case_of_other(first, second),
-    }
-}
-
-// The first end is no leaf; a leaf would be taken as isolated.
-fn case_of_other(first: Class, second: Class) -> Case
-    ensures { λ r. ⌜ asCase r ≡ caseOf (leafless (asClass first)) (asClass second) ⌝ }
-{
-    match first {
-        Class::Regular => case_of_regular(second),
-        Class::Isolated | Class::Leaf | Class::Branch => case_of_singular(second),
+        1 => case_of_leaf(second),
+        2 => case_of_regular(second),
+        _ => case_of_singular(second),
     }
 }
 

@@ -16,7 +16,7 @@ ghost use Rattle.insertion.specs.Meaning.{asAnswer};
 
 // A quote with a refusal that still holds is the same as one made now, and landing its edge gives that refusal. `rings` may be false only
 // where no ring stands.
-pub fn commit_edge(
+pub fn commit_quote(
     degrees: &mut [u16],
     sides: &mut [u16],
     ends: &mut [u16],

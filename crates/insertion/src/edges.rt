@@ -1,84 +1,32 @@
-// The landing of one edge: the refusals in their order, then the tables and the counts.
-use crate::cases::case_of;
-use crate::cases::class_of;
-use crate::placing::place_edge;
+// The landing of one edge: a quote, and its commit, which writes down the edge, and leaves the tables and the counts.
+use crate::planning::Plan;
+use crate::planning::place_edge;
+use crate::quoting::Intent;
+use crate::quoting::prepare_edge;
 use counters::counts::Counts;
-use counters::numbers::CheckedMillilitres;
-use counters::numbers::CheckedMillimetres;
-use counters::numbers::CheckedVertex;
 use counters::numbers::Edge;
 use counters::numbers::Millilitres;
 use counters::numbers::Millimetres;
 use counters::numbers::Vertex;
 use counters::refusals::Refusal;
-use counters::sizes::MAX_EDGES;
 use tables::access::add32;
 use tables::access::one_more16;
-use tables::kinds::degree_of;
 use tables::kinds::put_ends;
 use tables::kinds::put_length;
 use tables::kinds::put_volume;
 ghost use mathlib.Core.Path.{_≡_};
 ghost use lib.ListN.{set};
 ghost use Rattle.counters.specs.Answers.{asCounts};
-ghost use Rattle.counters.specs.Numbers.{volumeOf};
 ghost use Rattle.tables.specs.Meaning.{tables};
 ghost use Rattle.tables.specs.Steps.{setPair};
-ghost use Rattle.insertion.specs.Insertion.{landingIn, insertIn, storedVolume, checkIn, landIn};
-ghost use Rattle.insertion.specs.Meaning.{asAnswer, asChecked, asVolume};
+ghost use Rattle.insertion.specs.Insertion.{landingIn, landIn};
+ghost use Rattle.insertion.specs.Planning.{insertPlanned, committedIn};
+ghost use Rattle.insertion.specs.Meaning.{asAnswer, asIntent};
 
 // The counts after the edge (document 01: the head) and whether a ring may stand then; or the edge's refusal.
 pub enum Inserted {
     Done(Counts, bool),
     Refused(Refusal),
-}
-
-// A volume as the register has it, if it is within its bounds.
-pub enum CheckedVolume {
-    Is(Millilitres),
-    OutOfRange,
-}
-
-// "0 means unknown in the register".
-fn check_volume(volume: u32) -> CheckedVolume
-    ensures { λ r. ⌜ asVolume r ≡ storedVolume (volumeOf volume) ⌝ }
-{
-    match Millilitres::new(volume) {
-        CheckedMillilitres::Known(known) => CheckedVolume::Is(known),
-        CheckedMillilitres::Unknown => CheckedVolume::Is(Millilitres(Millilitres::UNKNOWN)),
-        CheckedMillilitres::OutOfRange => CheckedVolume::OutOfRange,
-    }
-}
-
-// The first of refusals 5, 6, 7, 31 and 23 that holds of an edge (document 01: pipe), or its ends, length and volume where none does.
-pub enum Checked {
-    Passed(Vertex, Vertex, Millimetres, Millilitres),
-    Refused(Refusal),
-}
-
-// Document 01's order, with 31 just after 7. These refusals look at no table. What a record says is a plain number until it is tested here.
-pub fn check_edge(counts: Counts, first: u16, second: u16, length: u32, volume: u32) -> Checked
-    ensures { λ r. ⌜ asChecked r ≡ checkIn (asCounts counts) (record { first = first; second = second; len = length; volume = volume }) ⌝ }
-{
-    let CheckedVertex::Is(a) = Vertex::landed(first, counts.vertices) else {
-        return Checked::Refused(Refusal::NotLanded);
-    };
-    let CheckedVertex::Is(b) = Vertex::landed(second, counts.vertices) else {
-        return Checked::Refused(Refusal::NotLanded);
-    };
-    if first == second {
-        return Checked::Refused(Refusal::SameVertex);
-    }
-    let CheckedMillimetres::Is(millimetres) = Millimetres::new(length) else {
-        return Checked::Refused(Refusal::Length);
-    };
-    let CheckedVolume::Is(millilitres) = check_volume(volume) else {
-        return Checked::Refused(Refusal::Volume);
-    };
-    if MAX_EDGES <= counts.edges {
-        return Checked::Refused(Refusal::TooManyEdges);
-    }
-    Checked::Passed(a, b, millimetres, millilitres)
 }
 
 // Edge e is written down, and nothing that another edge wrote is touched.
@@ -101,8 +49,8 @@ fn record_edge(
     put_volume(volumes, e, volume);
 }
 
-// An edge that no refusal of `check_edge` holds of. Whether a ring may stand is carried along: a ring comes by a closing alone, so that
-// a list grown without one never looks for it.
+// The edge between first and second is placed as planned, and written down. Whether a ring may stand is carried along: a ring comes by a
+// closing alone, so that a list grown without one never looks for it.
 fn insert_edge(
     degrees: &mut [u16],
     sides: &mut [u16],
@@ -115,22 +63,19 @@ fn insert_edge(
     second: Vertex,
     length: Millimetres,
     volume: Millilitres,
+    plan: Plan,
     rings: bool,
 ) -> Inserted
     ensures { λ r. ⌜ landingIn
         (tables (now (degrees .exit)) (now (sides .exit)) (now (ends .exit)) (now (lengths .exit)) (now (volumes .exit)) (now (labels .exit))) (asAnswer r)
-        ≡ insertIn
+        ≡ insertPlanned plan
         (tables (now (degrees .entry)) (now (sides .entry)) (now (ends .entry)) (now (lengths .entry)) (now (volumes .entry)) (now (labels .entry)))
         (asCounts counts) rings (record { first = first .0; second = second .0; len = length .0; volume = volume .0 }) ⌝ }
 {
     // below MAX_EDGES: 23 was tested
     let e = Edge(counts.edges);
-    let case = case_of(
-        class_of(degree_of(degrees, first)),
-        class_of(degree_of(degrees, second)),
-    );
     let p = place_edge(
-        case,
+        plan,
         degrees,
         sides,
         ends,
@@ -139,7 +84,6 @@ fn insert_edge(
         first,
         second,
         e,
-        rings,
     );
     record_edge(ends, lengths, volumes, e, first, second, length, volume);
     let after = Counts {
@@ -151,8 +95,46 @@ fn insert_edge(
     Inserted::Done(after, rings || p.ring)
 }
 
-// Every refusal in its order; a refused edge leaves the tables. `rings` may be false only where no ring stands; the
-// answer's is then false only where none stands after the edge.
+// The commit of a quote that was made now: what was planned with it is done, or its refusal is given, and the tables stay.
+fn commit_edge(
+    degrees: &mut [u16],
+    sides: &mut [u16],
+    ends: &mut [u16],
+    lengths: &mut [u32],
+    volumes: &mut [u32],
+    labels: &mut [u32],
+    counts: Counts,
+    intent: Intent,
+    rings: bool,
+) -> Inserted
+    ensures { λ r. ⌜ landingIn
+        (tables (now (degrees .exit)) (now (sides .exit)) (now (ends .exit)) (now (lengths .exit)) (now (volumes .exit)) (now (labels .exit))) (asAnswer r)
+        ≡ committedIn
+        (tables (now (degrees .entry)) (now (sides .entry)) (now (ends .entry)) (now (lengths .entry)) (now (volumes .entry)) (now (labels .entry)))
+        (asCounts counts) rings (asIntent intent) ⌝ }
+{
+    match intent {
+        Intent::Place(a, b, millimetres, millilitres, plan) => insert_edge(
+            degrees,
+            sides,
+            ends,
+            lengths,
+            volumes,
+            labels,
+            counts,
+            a,
+            b,
+            millimetres,
+            millilitres,
+            plan,
+            rings,
+        ),
+        Intent::Refuse(refusal) => Inserted::Refused(refusal),
+    }
+}
+
+// Document 02, S-5: a quote and its commit. Every refusal in its order; a refused edge leaves the tables. `rings` may be false only where
+// no ring stands; the answer's is then false only where none stands after the edge.
 pub fn land_edge(
     degrees: &mut [u16],
     sides: &mut [u16],
@@ -173,22 +155,28 @@ pub fn land_edge(
         (tables (now (degrees .entry)) (now (sides .entry)) (now (ends .entry)) (now (lengths .entry)) (now (volumes .entry)) (now (labels .entry)))
         (asCounts counts) rings (record { first = first; second = second; len = length; volume = volume }) ⌝ }
 {
-    let checked = check_edge(counts, first, second, length, volume);
-    match checked {
-        Checked::Passed(a, b, millimetres, millilitres) => insert_edge(
-            degrees,
-            sides,
-            ends,
-            lengths,
-            volumes,
-            labels,
-            counts,
-            a,
-            b,
-            millimetres,
-            millilitres,
-            rings,
-        ),
-        Checked::Refused(refusal) => Inserted::Refused(refusal),
-    }
+    let prepared = prepare_edge(
+        degrees,
+        sides,
+        ends,
+        labels,
+        counts,
+        first,
+        second,
+        length,
+        volume,
+        rings,
+    );
+    let intent = prepared.intent;
+    commit_edge(
+        degrees,
+        sides,
+        ends,
+        lengths,
+        volumes,
+        labels,
+        counts,
+        intent,
+        rings,
+    )
 }

@@ -1,18 +1,21 @@
-// What an edge does to the degrees, the sides and the labels, case by case. e edges were landed before, which is fuel enough for every
-// walk.
+// What an edge does to the degrees, the sides and the labels, once it is known what lies about its ends. e edges were landed before, which
+// is fuel enough for every walk.
 use crate::cases::Case;
 use counters::numbers::Edge;
 use counters::numbers::Vertex;
 use labels::labelling::extend_chain;
 use labels::merging::ChainChange;
+use labels::merging::Merger;
 use labels::merging::merge_chains;
+use labels::splitting::Rounds;
 use labels::splitting::Splits;
 use labels::splitting::split_ends;
 use tables::kinds::degree_of;
 use tables::kinds::put_sides;
 use tables::steps::raise_both;
 ghost use mathlib.Core.Path.{_≡_};
-ghost use Rattle.insertion.specs.Placing.{meetIn, placed, openedIn, openIn, mergedIn, workFor, placeIn};
+ghost use Rattle.insertion.specs.Placing.{meetIn, placed, workFor};
+ghost use Rattle.insertion.specs.Planning.{openedBy, openBy, mergedBy};
 ghost use Rattle.insertion.specs.Meaning.{asCase};
 
 // The leaf whose chain goes on over the edge, if one does.
@@ -57,6 +60,7 @@ fn meet_end(degrees: &[u16], sides: &mut [u16], v: Vertex, e: Edge)
 // Both ends before the edge comes to them.
 fn open_both(
     splits: Splits,
+    rounds: Rounds,
     degrees: &mut [u16],
     sides: &mut [u16],
     ends: &[u16],
@@ -65,23 +69,11 @@ fn open_both(
     a: Vertex,
     b: Vertex,
     e: Edge,
-    rings: bool,
 ) -> ChainChange
     ensures { λ r. ⌜ placed (now (degrees .exit)) (now (sides .exit)) (now (labels .exit)) (r .blocks) (r .relabellings) (r .ring)
-        ≡ openedIn splits (now (degrees .entry)) (now (sides .entry)) (now (ends .entry)) (now (labels .entry)) blocks (a .0) (b .0) (e .0) rings ⌝ }
+        ≡ openedBy splits rounds (now (degrees .entry)) (now (sides .entry)) (now (ends .entry)) (now (labels .entry)) blocks (a .0) (b .0) (e .0) ⌝ }
 {
-    let c = split_ends(
-        splits,
-        degrees,
-        sides,
-        ends,
-        labels,
-        blocks,
-        a,
-        b,
-        e.0,
-        rings,
-    );
+    let c = split_ends(splits, rounds, degrees, sides, ends, labels, blocks, a, b);
     meet_end(degrees, sides, a, e);
     meet_end(degrees, sides, b, e);
     raise_both(degrees, a, b);
@@ -90,8 +82,9 @@ fn open_both(
 
 // Both ends are opened, and then the chain of a leaf goes on over the edge, if one does. If it is the leaf's own chain that was split,
 // which the edge makes a loop, the leaf is labelled by what the split left, with the new degrees.
-fn place_open(
+pub fn place_open(
     splits: Splits,
+    rounds: Rounds,
     extension: Extension,
     degrees: &mut [u16],
     sides: &mut [u16],
@@ -101,12 +94,22 @@ fn place_open(
     a: Vertex,
     b: Vertex,
     e: Edge,
-    rings: bool,
 ) -> ChainChange
     ensures { λ r. ⌜ placed (now (degrees .exit)) (now (sides .exit)) (now (labels .exit)) (r .blocks) (r .relabellings) (r .ring)
-        ≡ openIn splits extension (now (degrees .entry)) (now (sides .entry)) (now (ends .entry)) (now (labels .entry)) blocks (a .0) (b .0) (e .0) rings ⌝ }
+        ≡ openBy splits rounds extension (now (degrees .entry)) (now (sides .entry)) (now (ends .entry)) (now (labels .entry)) blocks (a .0) (b .0) (e .0) ⌝ }
 {
-    let c = open_both(splits, degrees, sides, ends, labels, blocks, a, b, e, rings);
+    let c = open_both(
+        splits,
+        rounds,
+        degrees,
+        sides,
+        ends,
+        labels,
+        blocks,
+        a,
+        b,
+        e,
+    );
     match extension {
         Extension::Nothing => c,
         Extension::Leaf(x) => {
@@ -117,7 +120,8 @@ fn place_open(
 }
 
 // The chains of both ends are merged, or become a ring.
-fn place_merged(
+pub fn place_merged(
+    merger: Merger,
     degrees: &mut [u16],
     sides: &mut [u16],
     ends: &[u16],
@@ -128,44 +132,9 @@ fn place_merged(
     e: Edge,
 ) -> ChainChange
     ensures { λ r. ⌜ placed (now (degrees .exit)) (now (sides .exit)) (now (labels .exit)) (r .blocks) (r .relabellings) (r .ring)
-        ≡ mergedIn (now (degrees .entry)) (now (sides .entry)) (now (ends .entry)) (now (labels .entry)) blocks (a .0) (b .0) (e .0) ⌝ }
+        ≡ mergedBy merger (now (degrees .entry)) (now (sides .entry)) (now (ends .entry)) (now (labels .entry)) blocks (a .0) (b .0) (e .0) ⌝ }
 {
-    let c = merge_chains(degrees, sides, ends, labels, blocks, a, b, e, e.0);
+    let c = merge_chains(merger, degrees, sides, ends, labels, blocks, a, b, e, e.0);
     raise_both(degrees, a, b);
     c
-}
-
-// By the case. rings: a ring may stand.
-pub fn place_edge(
-    case: Case,
-    degrees: &mut [u16],
-    sides: &mut [u16],
-    ends: &[u16],
-    labels: &mut [u32],
-    blocks: u16,
-    a: Vertex,
-    b: Vertex,
-    e: Edge,
-    rings: bool,
-) -> ChainChange
-    ensures { λ r. ⌜ placed (now (degrees .exit)) (now (sides .exit)) (now (labels .exit)) (r .blocks) (r .relabellings) (r .ring)
-        ≡ placeIn (asCase case) (now (degrees .entry)) (now (sides .entry)) (now (ends .entry)) (now (labels .entry)) blocks (a .0) (b .0) (e .0) rings ⌝ }
-{
-    let work = work_of(case, a, b);
-    match work {
-        Work::Merge => place_merged(degrees, sides, ends, labels, blocks, a, b, e),
-        Work::Open(splits, extension) => place_open(
-            splits,
-            extension,
-            degrees,
-            sides,
-            ends,
-            labels,
-            blocks,
-            a,
-            b,
-            e,
-            rings,
-        ),
-    }
 }

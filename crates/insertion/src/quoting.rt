@@ -1,55 +1,51 @@
-// A quote (document 02, S-5): what landing an edge would come to, read before anything is written.
+// The quote of an edge (document 02, S-5), made together with what its commit does. Nothing is written.
 use crate::cases::Case;
 use crate::cases::case_of;
 use crate::cases::class_of;
-use crate::edges::Checked;
-use crate::edges::check_edge;
-use crate::placing::Work;
+use crate::checks::Checked;
+use crate::checks::check_edge;
 use crate::placing::work_of;
+use crate::planning::Plan;
+use crate::planning::count_planned;
+use crate::planning::plan_work;
 use counters::counts::Counts;
+use counters::numbers::Millilitres;
+use counters::numbers::Millimetres;
 use counters::numbers::Vertex;
 use counters::quotes::Quote;
 use counters::quotes::QuotedCase;
 use counters::quotes::Terms;
+use counters::refusals::Refusal;
 use counting::counts::Estimate;
-use counting::counts::count_merged;
-use counting::counts::count_split;
 use tables::kinds::degree_of;
 ghost use mathlib.Core.Path.{_≡_};
 ghost use Rattle.model.specs.Register.{caseNumber};
 ghost use Rattle.counters.specs.Answers.{asCounts};
 ghost use Rattle.counters.specs.Quotes.{numberOfCase, asTerms, asQuote};
 ghost use Rattle.counting.specs.Counting.{estimated};
-ghost use Rattle.insertion.specs.Meaning.{asCase};
-ghost use Rattle.insertion.specs.Meaning.{asChecked};
-ghost use Rattle.insertion.specs.Quoting.{workCountIn, offerIn, caseIn, termsIn, quoteIn};
 ghost use Rattle.insertion.specs.Placing.{workFor};
+ghost use Rattle.insertion.specs.Planning.{planFor, intentIn};
+ghost use Rattle.insertion.specs.Quoting.{caseIn, offerIn, workCountIn, quoteIn};
+ghost use Rattle.insertion.specs.Meaning.{asCase, asIntent};
 
-// Whether a ring would be closed, and how many vertices relabelled.
-fn work_count(
-    work: Work,
-    degrees: &[u16],
-    sides: &[u16],
-    ends: &[u16],
-    labels: &[u32],
-    a: Vertex,
-    b: Vertex,
-    fuel: u16,
-    rings: bool,
-) -> Estimate
-    ensures { λ r. ⌜ estimated (r .ring) (r .count)
-        ≡ workCountIn work (now (degrees .entry)) (now (sides .entry)) (now (ends .entry)) (now (labels .entry)) (a .0) (b .0) fuel rings ⌝ }
-{
-    match work {
-        Work::Merge => count_merged(degrees, sides, ends, labels, a, b, fuel),
-        Work::Open(splits, extension) => {
-            let count = count_split(splits, degrees, sides, ends, a, b, fuel, rings);
-            Estimate { ring: false, count }
-        }
-    }
+// What the commit of a quote does: the edge is placed as planned, or refused.
+pub enum Intent {
+    Place(Vertex, Vertex, Millimetres, Millilitres, Plan),
+    Refuse(Refusal),
 }
 
-// The case as a quote names it, where no ring is closed.
+// A quote, with what its commit does.
+pub struct Prepared {
+    pub quote: Quote,
+    pub intent: Intent,
+}
+
+// The terms of an edge that no refusal holds of, with its plan.
+pub struct Offer {
+    pub terms: Terms,
+    pub plan: Plan,
+}
+
 fn quoted_case(case: Case) -> QuotedCase
     ensures { λ r. ⌜ numberOfCase r ≡ caseNumber (asCase case) ⌝ }
 {
@@ -66,58 +62,109 @@ fn quoted_case(case: Case) -> QuotedCase
     }
 }
 
-// The terms of an edge of which no refusal holds.
-fn offer_of(case: Case, estimate: Estimate) -> Terms
+// "Its case (one of the six, or a ring) and re-hangings".
+fn terms_of(case: Case, estimate: Estimate) -> Terms
     ensures { λ r. ⌜ asTerms r ≡ offerIn (asCase case) (estimated (estimate .ring) (estimate .count)) ⌝ }
 {
     if estimate.ring {
         return Terms::Offers(QuotedCase::Ring, estimate.count);
     }
-    Terms::Offers(quoted_case(case), estimate.count)
+    let quoted = quoted_case(case);
+    Terms::Offers(quoted, estimate.count)
 }
 
-fn terms_for(
+// The edge between a and b, with so many edges before it. Only a quote needs the count: where it is left unused the compiler leaves out the
+// walk that counts.
+fn offer_edge(
     degrees: &[u16],
     sides: &[u16],
     ends: &[u16],
     labels: &[u32],
+    edges: u16,
     a: Vertex,
     b: Vertex,
-    edges: u16,
     rings: bool,
-) -> Terms
-    ensures { λ r. ⌜ asTerms r ≡ offerIn (caseIn (now (degrees .entry)) (a .0) (b .0))
+) -> Offer
+    ensures { λ r. ⌜ (asTerms (r .terms) ≡ offerIn (caseIn (now (degrees .entry)) (a .0) (b .0))
         (workCountIn (workFor (caseIn (now (degrees .entry)) (a .0) (b .0)) (a .0) (b .0))
-        (now (degrees .entry)) (now (sides .entry)) (now (ends .entry)) (now (labels .entry)) (a .0) (b .0) edges rings) ⌝ }
+        (now (degrees .entry)) (now (sides .entry)) (now (ends .entry)) (now (labels .entry)) (a .0) (b .0) edges rings))
+        × (r .plan ≡ planFor (workFor (caseIn (now (degrees .entry)) (a .0) (b .0)) (a .0) (b .0))
+        (now (degrees .entry)) (now (sides .entry)) (now (ends .entry)) (a .0) (b .0) edges rings) ⌝ }
 {
-    let case = case_of(class_of(degree_of(degrees, a)), class_of(degree_of(degrees, b)));
+    let case = case_of(degree_of(degrees, a), class_of(degree_of(degrees, b)));
     let work = work_of(case, a, b);
-    let estimate = work_count(work, degrees, sides, ends, labels, a, b, edges, rings);
-    offer_of(case, estimate)
+    let plan = plan_work(work, degrees, sides, ends, a, b, edges, rings);
+    let estimate = count_planned(plan, degrees, sides, ends, labels, edges);
+    let terms = terms_of(case, estimate);
+    Offer { terms, plan }
 }
 
-// The terms of an edge that was checked.
-fn checked_terms(
-    checked: Checked,
-    degrees: &[u16],
-    sides: &[u16],
-    ends: &[u16],
-    labels: &[u32],
-    edges: u16,
-    rings: bool,
-) -> Terms
-    ensures { λ r. ⌜ asTerms r
-        ≡ termsIn (now (degrees .entry)) (now (sides .entry)) (now (ends .entry)) (now (labels .entry)) edges rings (asChecked checked) ⌝ }
+// The pipe asked for, and the counts now.
+fn quote_with(
+    terms: Terms,
+    counts: Counts,
+    first: u16,
+    second: u16,
+    length: u32,
+    volume: u32,
+) -> Quote
+    ensures { λ r. ⌜ asQuote r ≡ record {
+      asked = record { first = first; second = second; len = length; volume = volume };
+      terms = asTerms terms;
+      vertices = counts .vertices;
+      edges = counts .edges;
+    } ⌝ }
 {
-    match checked {
-        Checked::Passed(a, b, length, volume) => {
-            terms_for(degrees, sides, ends, labels, a, b, edges, rings)
-        }
-        Checked::Refused(refusal) => Terms::Declines(refusal),
+    Quote {
+        first,
+        second,
+        length,
+        volume,
+        terms,
+        vertices: counts.vertices,
+        edges: counts.edges,
     }
 }
 
-// Nothing is written. `rings` may be false only where no ring stands.
+// The quote and what its commit does, decided together: nothing is walked twice.
+pub fn prepare_edge(
+    degrees: &[u16],
+    sides: &[u16],
+    ends: &[u16],
+    labels: &[u32],
+    counts: Counts,
+    first: u16,
+    second: u16,
+    length: u32,
+    volume: u32,
+    rings: bool,
+) -> Prepared
+    ensures { λ r. ⌜ (asQuote (r .quote)
+        ≡ quoteIn (now (degrees .entry)) (now (sides .entry)) (now (ends .entry)) (now (labels .entry)) (asCounts counts) rings
+        (record { first = first; second = second; len = length; volume = volume }))
+        × (asIntent (r .intent) ≡ intentIn (now (degrees .entry)) (now (sides .entry)) (now (ends .entry)) (asCounts counts) rings
+        (record { first = first; second = second; len = length; volume = volume })) ⌝ }
+{
+    let checked = check_edge(counts, first, second, length, volume);
+    match checked {
+        Checked::Passed(a, b, millimetres, millilitres) => {
+            let offer = offer_edge(degrees, sides, ends, labels, counts.edges, a, b, rings);
+            let terms = offer.terms;
+            let plan = offer.plan;
+            let quote = quote_with(terms, counts, first, second, length, volume);
+            let intent = Intent::Place(a, b, millimetres, millilitres, plan);
+            Prepared { quote, intent }
+        }
+        Checked::Refused(refusal) => {
+            let terms = Terms::Declines(refusal);
+            let quote = quote_with(terms, counts, first, second, length, volume);
+            let intent = Intent::Refuse(refusal);
+            Prepared { quote, intent }
+        }
+    }
+}
+
+// The quote alone. `rings` may be false only where no ring stands.
 pub fn quote_edge(
     degrees: &[u16],
     sides: &[u16],
@@ -130,18 +177,21 @@ pub fn quote_edge(
     volume: u32,
     rings: bool,
 ) -> Quote
-    ensures { λ r. ⌜ asQuote r ≡ quoteIn (now (degrees .entry)) (now (sides .entry)) (now (ends .entry)) (now (labels .entry)) (asCounts counts) rings
+    ensures { λ r. ⌜ asQuote r
+        ≡ quoteIn (now (degrees .entry)) (now (sides .entry)) (now (ends .entry)) (now (labels .entry)) (asCounts counts) rings
         (record { first = first; second = second; len = length; volume = volume }) ⌝ }
 {
-    let checked = check_edge(counts, first, second, length, volume);
-    let terms = checked_terms(checked, degrees, sides, ends, labels, counts.edges, rings);
-    Quote {
+    let prepared = prepare_edge(
+        degrees,
+        sides,
+        ends,
+        labels,
+        counts,
         first,
         second,
         length,
         volume,
-        terms,
-        vertices: counts.vertices,
-        edges: counts.edges,
-    }
+        rings,
+    );
+    prepared.quote
 }

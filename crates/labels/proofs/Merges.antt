@@ -1,10 +1,11 @@
 -- Two chains joined, a chain begun, a ring closed, and the ways out of a merge.
-use mathlib.Core.Path.{_≡_, _∙_}
+use mathlib.Core.Path.{_≡_, refl, _∙_}
 use mathlib.Core.Bool.{Bool, true, false}
 use mathlib.Core.List.{List}
 use Prim.Native.Nat.{ℕ, _+_, _*_, _<_}
 use native.Mathlib.Omega.{arith}
 use borrow.Author.Tests.{eq-eqb, ne-eqb}
+use lib.Dec.{eqb}
 use lib.ListN.{getD}
 use Rattle.model.specs.Labels.{base}
 use Rattle.counters.specs.Numbers.{vertexOf}
@@ -12,11 +13,11 @@ use Rattle.counters.specs.declared.numbers.Vertex.{Vertex}
 use Rattle.tables.specs.Steps.{farIn, more16, more32}
 use Rattle.tables.specs.Walks.{Met, lockstepIn}
 use Rattle.labels.specs.Labelling.{marksIn, countAhead, risesIn, labelVertexIn, relabelIn, beyondIn, nextIn}
-use Rattle.labels.specs.Merging.{joinIn, beginIn, changed, closeIn, keeperFor, keeperIn, mergeAt, mergeIn}
+use Rattle.labels.specs.Merging.{joinIn, beginIn, changed, closeIn, keeperFor, keeperIn, mergeAt, mergeIn, merger, mergerAt, mergerFor, mergeBy}
 use Rattle.labels.specs.declared.merging.Keeper.{Keeper}
 use Rattle.labels.specs.declared.merging.Keeper.the-variants.{Neither, Chain}
+use Rattle.labels.specs.declared.merging.Merger.{Merger}
 
--- both leaves labelled on from the chain that keeps its labels, then the other chain
 pub join-law : (degrees s ends l s₁ l₁ s₂ l₂ s₃ l₃ : List ℕ) (x y e n dx dy ux uy old lx ly ly′ m₁ m₂ m₃ : ℕ) (up : Bool)
     → (dx ≡ getD s (2 * x) 0) × (ux ≡ farIn ends dx x) → (dy ≡ getD s (2 * y) 0) × (uy ≡ farIn ends dy y)
     → up ≡ risesIn s dx ux → old ≡ getD l ux 0 → lx ≡ nextIn up old → ly ≡ nextIn up lx
@@ -32,7 +33,6 @@ base-next : (k : ℕ) → k < 65536 → nextIn true (base k) ≡ base k + 1
 unfolding nextIn more32 base
 base-next k h = omega arith
 
--- two vertices labelled from a new base on
 pub begin-law : (s l s₁ l₁ s₂ l₂ : List ℕ) (a before b after between k low up m₁ m₂ : ℕ) → k < 65536 → low ≡ base k
     → marksIn s₁ l₁ m₁ ≡ labelVertexIn s l a low before between true → up ≡ nextIn true low
     → marksIn s₂ l₂ m₂ ≡ labelVertexIn s₁ l₁ b up between after true
@@ -42,7 +42,6 @@ begin-law s l s₁ l₁ s₂ l₂ a before b after between k low up m₁ m₂ f 
 
 -- which chain keeps its labels, the walks having met at m
 module _ (degrees : List ℕ) (a b : ℕ) (m : Met) where
-  -- the second, if its chain is longer; the first, if its is, or on a tie; neither, where there are no regular vertices
   pub second-keeps : getD degrees (m .second) 0 ≡ 2 → Chain (vertexOf b) (vertexOf a) ≡ keeperFor degrees a b m
   unfolding keeperFor
   second-keeps h = rw (eq-eqb _ _ h)
@@ -62,7 +61,6 @@ module _ (degrees : List ℕ) (a b : ℕ) (m : Met) where
 
 module _ (degrees s ends l : List ℕ) (blocks a b e n da ua db ub : ℕ) (m : Met) (h : (da ≡ getD s (2 * a) 0) × (ua ≡ farIn ends da a))
     (i : (db ≡ getD s (2 * b) 0) × (ub ≡ farIn ends db b)) (is : m ≡ lockstepIn degrees s ends n da ua db ub) where
-  -- a walk that ended at the other leaf closes a ring; else one of the chains keeps its labels
   pub merge-closes : m .first ≡ b → closeIn s l blocks a b e da ua db ub ≡ mergeIn degrees s ends l blocks a b e n
   unfolding mergeIn mergeAt
   merge-closes o = rw (← h .0, ← h .1, ← i .0, ← i .1, ← is, eq-eqb _ _ o)
@@ -72,9 +70,43 @@ module _ (degrees s ends l : List ℕ) (blocks a b e n da ua db ub : ℕ) (m : M
   unfolding mergeIn mergeAt
   merge-kept keeper o k = rw (← h .0, ← h .1, ← i .0, ← i .1, ← is, ne-eqb _ _ o, ← k)
 
+-- what the walks decide, having met at m
+module _ (degrees s ends : List ℕ) (a b n da ua db ub : ℕ) (m : Met) (h : (da ≡ getD s (2 * a) 0) × (ua ≡ farIn ends da a))
+    (i : (db ≡ getD s (2 * b) 0) × (ub ≡ farIn ends db b)) (is : m ≡ lockstepIn degrees s ends n da ua db ub) where
+  pub merger-closes : m .first ≡ b → merger true Neither ≡ mergerFor degrees s ends a b n
+  unfolding mergerFor mergerAt
+  merger-closes o = rw (← h .0, ← h .1, ← i .0, ← i .1, ← is, eq-eqb _ _ o)
+
+  pub merger-joins : (keeper : Keeper) → (m .first ≡ b → ⊥) → keeper ≡ keeperFor degrees a b m → merger false keeper ≡ mergerFor degrees s ends a b n
+  unfolding mergerFor mergerAt
+  merger-joins keeper o k = rw (← h .0, ← h .1, ← i .0, ← i .1, ← is, ne-eqb _ _ o, ← k)
+
+-- the chains merged as decided
+module _ (degrees s ends l : List ℕ) (blocks a b e n da ua db ub : ℕ) (by : Merger) (h : (da ≡ getD s (2 * a) 0) × (ua ≡ farIn ends da a))
+    (i : (db ≡ getD s (2 * b) 0) × (ub ≡ farIn ends db b)) where
+  pub by-closing : by .ring ≡ true → closeIn s l blocks a b e da ua db ub ≡ mergeBy by degrees s ends l blocks a b e n
+  unfolding mergeBy
+  by-closing o = rw (← h .0, ← h .1, ← i .0, ← i .1, o)
+
+  pub by-joining : by .ring ≡ false → keeperIn (by .keeper) degrees s ends l blocks a b e n da db ≡ mergeBy by degrees s ends l blocks a b e n
+  unfolding mergeBy
+  by-joining o = rw (← h .0, ← i .0, o)
+
+-- decided and then done is done at once
+decided-at : (degrees s ends l : List ℕ) (blocks a b e n : ℕ) (m : Met) (t : Bool) → eqb (m .first) b ≡ t
+    → mergeBy (mergerAt degrees a b m) degrees s ends l blocks a b e n
+    ≡ mergeAt degrees s ends l blocks a b e n (getD s (2 * a) 0) (getD s (2 * b) 0) m
+unfolding mergeBy mergerAt mergeAt
+decided-at degrees s ends l blocks a b e n m true o = rw o
+decided-at degrees s ends l blocks a b e n m false o = rw o
+
+pub merge-decided : (degrees s ends l : List ℕ) (blocks a b e n : ℕ)
+    → mergeBy (mergerFor degrees s ends a b n) degrees s ends l blocks a b e n ≡ mergeIn degrees s ends l blocks a b e n
+unfolding mergerFor mergeIn
+merge-decided degrees s ends l blocks a b e n = decided-at degrees s ends l blocks a b e n _ _ refl
+
 -- what the code answers, by the chain that keeps its labels
 module _ (degrees s ends l s′ l′ : List ℕ) (blocks a b e n da db blocks′ m′ : ℕ) (ring : Bool) (keeper : Keeper) where
-  -- the chains are joined, or a block begins
   pub answer-joined : (x y : Vertex) (m : ℕ) → keeper ≡ Chain x y → marksIn s′ l′ m ≡ joinIn degrees s ends l (x .0) (y .0) e n
       → (blocks′ ≡ blocks) × (m′ ≡ m) × (ring ≡ false) → changed s′ l′ blocks′ m′ ring ≡ keeperIn keeper degrees s ends l blocks a b e n da db
   answer-joined x y m o j z = rw (o, z .0, z .1, z .2, ← j)
@@ -85,7 +117,6 @@ module _ (degrees s ends l s′ l′ : List ℕ) (blocks a b e n da db blocks′
 
 -- a ring is closed
 module _ (s l s′ l′ : List ℕ) (blocks a b e da ua db ub blocks′ m′ : ℕ) (ring : Bool) where
-  -- both ends begin a block, or each goes on from its neighbour
   pub closes-begun : (k : ℕ) → ua ≡ b → k ≡ more16 blocks → marksIn s′ l′ 0 ≡ beginIn s l a e b e da k
       → (blocks′ ≡ k) × (m′ ≡ 0) × (ring ≡ true) → changed s′ l′ blocks′ m′ ring ≡ closeIn s l blocks a b e da ua db ub
   unfolding closeIn

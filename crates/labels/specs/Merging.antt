@@ -12,6 +12,7 @@ use Rattle.tables.specs.Walks.{Met, lockstepIn}
 use Rattle.labels.specs.Labelling.{MarksIn, marksIn, countAhead, risesIn, labelVertexIn, relabelIn, beyondIn, nextIn}
 use Rattle.labels.specs.declared.merging.Keeper.{Keeper}
 use Rattle.labels.specs.declared.merging.Keeper.the-variants.{Neither, Chain}
+use Rattle.labels.specs.declared.merging.Merger.{Merger}
 
 -- the chains of the leaves x and y joined by edge e: x's keeps its labels, y's gets those that follow
 unfoldable pub joinIn : List ℕ → List ℕ → List ℕ → List ℕ → ℕ → ℕ → ℕ → ℕ → MarksIn
@@ -84,3 +85,26 @@ mergeIn degrees sides ends labels blocks a b e n =
     let db = getD sides (2 * b) 0 in
     mergeAt degrees sides ends labels blocks a b e n da db
     (lockstepIn degrees sides ends n da (farIn ends da a) db (farIn ends db b))
+
+-- ---- decided first, and then done
+
+abbrev pub merger : Bool → Keeper → Merger
+merger ring keeper = record { ring = ring; keeper = keeper }
+
+-- whether a ring would be closed and, if not, which chain would keep its labels, by where the walks in lockstep met
+unfoldable pub mergerAt : List ℕ → ℕ → ℕ → Met → Merger
+mergerAt degrees a b m = if eqb (m .first) b then merger true Neither else merger false (keeperFor degrees a b m)
+
+unfoldable pub mergerFor : List ℕ → List ℕ → List ℕ → ℕ → ℕ → ℕ → Merger
+mergerFor degrees sides ends a b n =
+    let da = getD sides (2 * a) 0 in
+    let db = getD sides (2 * b) 0 in
+    mergerAt degrees a b (lockstepIn degrees sides ends n da (farIn ends da a) db (farIn ends db b))
+
+-- the chains of the leaves a and b merged as decided; by `merge-decided` in Merges this is `mergeIn` where `mergerFor` decided
+unfoldable pub mergeBy : Merger → List ℕ → List ℕ → List ℕ → List ℕ → ℕ → ℕ → ℕ → ℕ → ℕ → Changed
+mergeBy by degrees sides ends labels blocks a b e n =
+    let da = getD sides (2 * a) 0 in
+    let db = getD sides (2 * b) 0 in
+    if by .ring then closeIn sides labels blocks a b e da (farIn ends da a) db (farIn ends db b)
+    else keeperIn (by .keeper) degrees sides ends labels blocks a b e n da db

@@ -13,6 +13,7 @@ use Rattle.labels.specs.Labelling.{MarksIn, marksIn, relabelIn}
 use Rattle.labels.specs.Merging.{Changed, changed}
 use Rattle.labels.specs.declared.splitting.Splits.{Splits}
 use Rattle.labels.specs.declared.splitting.Splits.the-variants.{Neither, One, Both}
+use Rattle.labels.specs.declared.splitting.Rounds.{Rounds}
 
 -- vertex v without label and sides
 unfoldable pub bareIn : List ℕ → List ℕ → ℕ → MarksIn
@@ -73,3 +74,38 @@ splitEndsIn Neither degrees sides ends labels blocks a b n rings = changed sides
 splitEndsIn (One v w) degrees sides ends labels blocks a b n rings =
     splitOneIn degrees sides ends labels blocks (v .0) (w .0) n rings
 splitEndsIn Both degrees sides ends labels blocks a b n rings = splitTwoIn degrees sides ends labels blocks a b n rings
+
+-- ---- looked for first, and then done
+
+abbrev pub rounds : Round → Round → Rounds
+rounds first second = record { first = first; second = second }
+
+abbrev pub noRounds : Rounds
+noRounds = rounds NoRing NoRing
+
+-- what lies round about v, or about a and b; a ring is looked for where one may stand
+unfoldable pub roundsOne : List ℕ → List ℕ → List ℕ → ℕ → ℕ → ℕ → Bool → Rounds
+roundsOne degrees sides ends v w n rings = if rings then rounds (ringIn degrees sides ends v w n) NoRing else noRounds
+
+unfoldable pub roundsBoth : List ℕ → List ℕ → List ℕ → ℕ → ℕ → ℕ → Bool → Rounds
+roundsBoth degrees sides ends a b n rings =
+    if rings then rounds (ringIn degrees sides ends a b n) (leftFor (ringIn degrees sides ends b a n)) else noRounds
+
+-- .. about the regular ends of the edge between a and b
+abbrev pub roundsFor : Splits → List ℕ → List ℕ → List ℕ → ℕ → ℕ → ℕ → Bool → Rounds
+roundsFor Neither degrees sides ends a b n rings = noRounds
+roundsFor (One v w) degrees sides ends a b n rings = roundsOne degrees sides ends (v .0) (w .0) n rings
+roundsFor Both degrees sides ends a b n rings = roundsBoth degrees sides ends a b n rings
+
+-- a and b split, a first, with what lies round about them
+unfoldable pub bothBy : Rounds → List ℕ → List ℕ → List ℕ → List ℕ → ℕ → ℕ → ℕ → Changed
+bothBy by degrees sides ends labels blocks a b =
+    let c = splitBy (by .first) degrees sides ends labels blocks a b in
+    let d = splitBy (by .second) degrees (c .sides) ends (c .labels) (c .blocks) b a in
+    changed (d .sides) (d .labels) (d .blocks) (sum32 (c .relabellings) (d .relabellings)) false
+
+-- the regular ends of the edge between a and b split; by `ends-found` in Splits this is `splitEndsIn` with what `roundsFor` found
+abbrev pub endsBy : Splits → Rounds → List ℕ → List ℕ → List ℕ → List ℕ → ℕ → ℕ → ℕ → Changed
+endsBy Neither by degrees sides ends labels blocks a b = changed sides labels blocks 0 false
+endsBy (One v w) by degrees sides ends labels blocks a b = splitBy (by .first) degrees sides ends labels blocks (v .0) (w .0)
+endsBy Both by degrees sides ends labels blocks a b = bothBy by degrees sides ends labels blocks a b

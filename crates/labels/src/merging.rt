@@ -18,7 +18,7 @@ ghost use mathlib.Core.Path.{_≡_};
 ghost use mathlib.Core.Bool.{true, false};
 ghost use Rattle.tables.specs.Walks.{met};
 ghost use Rattle.labels.specs.Labelling.{marksIn};
-ghost use Rattle.labels.specs.Merging.{joinIn, beginIn, changed, closeIn, keeperFor, mergeIn};
+ghost use Rattle.labels.specs.Merging.{joinIn, beginIn, changed, closeIn, keeperFor, keeperIn, mergerFor, mergeBy};
 
 // What an edge makes of the chains: the number of blocks (document 01: births) then, and of the vertices relabelled (re-hung); and
 // whether it closes a ring.
@@ -153,9 +153,43 @@ pub fn keeper_of(degrees: &[u16], meeting: Meeting, a: Vertex, b: Vertex) -> Kee
     Keeper::Chain(a, b)
 }
 
-// The chains of the leaves a and b are merged over edge e. Walking in lockstep costs what the shorter one has. It shows which keeps its
-// labels; and it shows a ring, where a's walk ends at b.
-pub fn merge_chains(
+// What an edge between two leaves would make of their chains: whether it closes a ring; if not, which of the two keeps its labels.
+pub struct Merger {
+    pub ring: bool,
+    pub keeper: Keeper,
+}
+
+// Walking in lockstep costs what the shorter chain has. It shows which keeps its labels; and it shows a ring, where a's walk ends at b.
+// Nothing is written.
+pub fn merger_of(
+    degrees: &[u16],
+    sides: &[u16],
+    ends: &[u16],
+    a: Vertex,
+    b: Vertex,
+    fuel: u16,
+) -> Merger
+    ensures { λ r. ⌜ r ≡ mergerFor (now (degrees .entry)) (now (sides .entry)) (now (ends .entry)) (a .0) (b .0) fuel ⌝ }
+{
+    let first = leave_leaf(sides, ends, a);
+    let second = leave_leaf(sides, ends, b);
+    let met = walk_lockstep(degrees, sides, ends, first, second, fuel);
+    if met.first.at.0 == b.0 {
+        return Merger {
+            ring: true,
+            keeper: Keeper::Neither,
+        };
+    }
+    let keeper = keeper_of(degrees, met, a, b);
+    Merger {
+        ring: false,
+        keeper,
+    }
+}
+
+// The chains of the leaves a and b, which `first` and `second` have left, become one over edge e.
+fn join_kept(
+    keeper: Keeper,
     degrees: &[u16],
     sides: &mut [u16],
     ends: &[u16],
@@ -164,18 +198,14 @@ pub fn merge_chains(
     a: Vertex,
     b: Vertex,
     e: Edge,
+    first: Walker,
+    second: Walker,
     fuel: u16,
 ) -> ChainChange
     ensures { λ r. ⌜ changed (now (sides .exit)) (now (labels .exit)) (r .blocks) (r .relabellings) (r .ring)
-        ≡ mergeIn (now (degrees .entry)) (now (sides .entry)) (now (ends .entry)) (now (labels .entry)) blocks (a .0) (b .0) (e .0) fuel ⌝ }
+        ≡ keeperIn keeper (now (degrees .entry)) (now (sides .entry)) (now (ends .entry)) (now (labels .entry)) blocks (a .0) (b .0) (e .0) fuel
+        (first .edge .0) (second .edge .0) ⌝ }
 {
-    let first = leave_leaf(sides, ends, a);
-    let second = leave_leaf(sides, ends, b);
-    let met = walk_lockstep(degrees, sides, ends, first, second, fuel);
-    if met.first.at.0 == b.0 {
-        return close_ring(sides, labels, blocks, a, b, e, first, second);
-    }
-    let keeper = keeper_of(degrees, met, a, b);
     match keeper {
         Keeper::Neither => {
             let k = one_more16(blocks);
@@ -187,4 +217,42 @@ pub fn merge_chains(
             ChainChange::new(blocks, n)
         }
     }
+}
+
+// The chains of the leaves a and b are merged over edge e, as `merger_of` found.
+pub fn merge_chains(
+    merger: Merger,
+    degrees: &[u16],
+    sides: &mut [u16],
+    ends: &[u16],
+    labels: &mut [u32],
+    blocks: u16,
+    a: Vertex,
+    b: Vertex,
+    e: Edge,
+    fuel: u16,
+) -> ChainChange
+    ensures { λ r. ⌜ changed (now (sides .exit)) (now (labels .exit)) (r .blocks) (r .relabellings) (r .ring)
+        ≡ mergeBy merger (now (degrees .entry)) (now (sides .entry)) (now (ends .entry)) (now (labels .entry)) blocks (a .0) (b .0) (e .0) fuel ⌝ }
+{
+    let first = leave_leaf(sides, ends, a);
+    let second = leave_leaf(sides, ends, b);
+    if merger.ring {
+        return close_ring(sides, labels, blocks, a, b, e, first, second);
+    }
+    let keeper = merger.keeper;
+    join_kept(
+        keeper,
+        degrees,
+        sides,
+        ends,
+        labels,
+        blocks,
+        a,
+        b,
+        e,
+        first,
+        second,
+        fuel,
+    )
 }

@@ -15,7 +15,7 @@ use tables::rings::ring_at;
 ghost use mathlib.Core.Path.{_≡_};
 ghost use Rattle.labels.specs.Labelling.{marksIn};
 ghost use Rattle.labels.specs.Merging.{changed};
-ghost use Rattle.labels.specs.Splitting.{bareIn, tapIn, splitBy, leftFor, splitIn, splitBothIn, splitOneIn, splitTwoIn, splitEndsIn};
+ghost use Rattle.labels.specs.Splitting.{bareIn, tapIn, splitBy, leftFor, noRounds, roundsOne, roundsBoth, roundsFor, bothBy, endsBy};
 
 // Vertex v loses its label and its sides. The pieces of its chain keep theirs: no other vertex is touched.
 fn bare_vertex(sides: &mut [u16], labels: &mut [u32], v: Vertex)
@@ -79,22 +79,29 @@ fn split_by(
     }
 }
 
-// The regular vertex v is split; w is the other end of the edge, and singular.
-fn split_chain(
-    degrees: &[u16],
-    sides: &mut [u16],
-    ends: &[u16],
-    labels: &mut [u32],
-    blocks: u16,
-    v: Vertex,
-    w: Vertex,
-    fuel: u16,
-) -> ChainChange
-    ensures { λ r. ⌜ changed (now (sides .exit)) (now (labels .exit)) (r .blocks) (r .relabellings) (r .ring)
-        ≡ splitIn (now (degrees .entry)) (now (sides .entry)) (now (ends .entry)) (now (labels .entry)) blocks (v .0) (w .0) fuel ⌝ }
-{
-    let round = ring_at(degrees, sides, ends, v, w, fuel);
-    split_by(round, degrees, sides, ends, labels, blocks, v, w)
+// Which ends of an edge are regular: neither; one, and then the other end; both.
+pub enum Splits {
+    Neither,
+    One(Vertex, Vertex),
+    Both,
+}
+
+// What lies round about the vertices that are split when their turn comes: the first, or the only one; and the second.
+pub struct Rounds {
+    pub first: Round,
+    pub second: Round,
+}
+
+impl Rounds {
+    // No ring stands.
+    pub fn none() -> Rounds
+        ensures { λ r. ⌜ r ≡ noRounds ⌝ }
+    {
+        Rounds {
+            first: Round::NoRing,
+            second: Round::NoRing,
+        }
+    }
 }
 
 // What the first split leaves round about the second vertex: a ring that they shared is one no more.
@@ -108,8 +115,72 @@ pub fn left_for(second: Round) -> Round
     }
 }
 
-// The regular vertices a and b are split, a first. What lies round about them is read before anything is written.
+// Round about v alone; w is the other end of the edge, and singular. A ring is looked for where one may stand.
+fn rounds_one(
+    degrees: &[u16],
+    sides: &[u16],
+    ends: &[u16],
+    v: Vertex,
+    w: Vertex,
+    fuel: u16,
+    rings: bool,
+) -> Rounds
+    ensures { λ r. ⌜ r ≡ roundsOne (now (degrees .entry)) (now (sides .entry)) (now (ends .entry)) (v .0) (w .0) fuel rings ⌝ }
+{
+    if rings {
+        let first = ring_at(degrees, sides, ends, v, w, fuel);
+        return Rounds {
+            first,
+            second: Round::NoRing,
+        };
+    }
+    Rounds::none()
+}
+
+// Round about a and b, a first.
+fn rounds_both(
+    degrees: &[u16],
+    sides: &[u16],
+    ends: &[u16],
+    a: Vertex,
+    b: Vertex,
+    fuel: u16,
+    rings: bool,
+) -> Rounds
+    ensures { λ r. ⌜ r ≡ roundsBoth (now (degrees .entry)) (now (sides .entry)) (now (ends .entry)) (a .0) (b .0) fuel rings ⌝ }
+{
+    if rings {
+        let first = ring_at(degrees, sides, ends, a, b, fuel);
+        let second = left_for(ring_at(degrees, sides, ends, b, a, fuel));
+        return Rounds { first, second };
+    }
+    Rounds::none()
+}
+
+// What lies round about the regular ends of an edge between a and b. Nothing is written. Which ends they are is tested before whether a
+// ring may stand: the compiler then makes one branch of this and of `split_ends`.
+pub fn rounds_for(
+    splits: Splits,
+    degrees: &[u16],
+    sides: &[u16],
+    ends: &[u16],
+    a: Vertex,
+    b: Vertex,
+    fuel: u16,
+    rings: bool,
+) -> Rounds
+    ensures { λ r. ⌜ r ≡ roundsFor splits (now (degrees .entry)) (now (sides .entry)) (now (ends .entry)) (a .0) (b .0) fuel rings ⌝ }
+{
+    match splits {
+        Splits::Neither => Rounds::none(),
+        Splits::One(v, w) => rounds_one(degrees, sides, ends, v, w, fuel, rings),
+        Splits::Both => rounds_both(degrees, sides, ends, a, b, fuel, rings),
+    }
+}
+
+// The regular vertices a and b are split, a first.
 fn split_both(
+    rounds: Rounds,
     degrees: &[u16],
     sides: &mut [u16],
     ends: &[u16],
@@ -117,73 +188,21 @@ fn split_both(
     blocks: u16,
     a: Vertex,
     b: Vertex,
-    fuel: u16,
 ) -> ChainChange
     ensures { λ r. ⌜ changed (now (sides .exit)) (now (labels .exit)) (r .blocks) (r .relabellings) (r .ring)
-        ≡ splitBothIn (now (degrees .entry)) (now (sides .entry)) (now (ends .entry)) (now (labels .entry)) blocks (a .0) (b .0) fuel ⌝ }
+        ≡ bothBy rounds (now (degrees .entry)) (now (sides .entry)) (now (ends .entry)) (now (labels .entry)) blocks (a .0) (b .0) ⌝ }
 {
-    let first = ring_at(degrees, sides, ends, a, b, fuel);
-    let second = left_for(ring_at(degrees, sides, ends, b, a, fuel));
+    let first = rounds.first;
+    let second = rounds.second;
     let c = split_by(first, degrees, sides, ends, labels, blocks, a, b);
     let d = split_by(second, degrees, sides, ends, labels, c.blocks, b, a);
     ChainChange::new(d.blocks, add32(c.relabellings, d.relabellings))
 }
 
-// Which ends of an edge are regular: neither; one, and then the other end; both.
-pub enum Splits {
-    Neither,
-    One(Vertex, Vertex),
-    Both,
-}
-
-// The regular vertex v is split. Where no ring stands, none is looked for: v loses its label and its sides.
-fn split_one(
-    degrees: &[u16],
-    sides: &mut [u16],
-    ends: &[u16],
-    labels: &mut [u32],
-    blocks: u16,
-    v: Vertex,
-    w: Vertex,
-    fuel: u16,
-    rings: bool,
-) -> ChainChange
-    ensures { λ r. ⌜ changed (now (sides .exit)) (now (labels .exit)) (r .blocks) (r .relabellings) (r .ring)
-        ≡ splitOneIn (now (degrees .entry)) (now (sides .entry)) (now (ends .entry)) (now (labels .entry)) blocks (v .0) (w .0) fuel rings ⌝ }
-{
-    if rings {
-        return split_chain(degrees, sides, ends, labels, blocks, v, w, fuel);
-    }
-    bare_vertex(sides, labels, v);
-    ChainChange::new(blocks, 0)
-}
-
-// The same of both ends.
-fn split_two(
-    degrees: &[u16],
-    sides: &mut [u16],
-    ends: &[u16],
-    labels: &mut [u32],
-    blocks: u16,
-    a: Vertex,
-    b: Vertex,
-    fuel: u16,
-    rings: bool,
-) -> ChainChange
-    ensures { λ r. ⌜ changed (now (sides .exit)) (now (labels .exit)) (r .blocks) (r .relabellings) (r .ring)
-        ≡ splitTwoIn (now (degrees .entry)) (now (sides .entry)) (now (ends .entry)) (now (labels .entry)) blocks (a .0) (b .0) fuel rings ⌝ }
-{
-    if rings {
-        return split_both(degrees, sides, ends, labels, blocks, a, b, fuel);
-    }
-    bare_vertex(sides, labels, a);
-    bare_vertex(sides, labels, b);
-    ChainChange::new(blocks, 0)
-}
-
-// The regular ends of the edge between a and b are split.
+// The regular ends of the edge between a and b are split, as `rounds_for` found them.
 pub fn split_ends(
     splits: Splits,
+    rounds: Rounds,
     degrees: &[u16],
     sides: &mut [u16],
     ends: &[u16],
@@ -191,15 +210,16 @@ pub fn split_ends(
     blocks: u16,
     a: Vertex,
     b: Vertex,
-    fuel: u16,
-    rings: bool,
 ) -> ChainChange
     ensures { λ r. ⌜ changed (now (sides .exit)) (now (labels .exit)) (r .blocks) (r .relabellings) (r .ring)
-        ≡ splitEndsIn splits (now (degrees .entry)) (now (sides .entry)) (now (ends .entry)) (now (labels .entry)) blocks (a .0) (b .0) fuel rings ⌝ }
+        ≡ endsBy splits rounds (now (degrees .entry)) (now (sides .entry)) (now (ends .entry)) (now (labels .entry)) blocks (a .0) (b .0) ⌝ }
 {
     match splits {
         Splits::Neither => ChainChange::new(blocks, 0),
-        Splits::One(v, w) => split_one(degrees, sides, ends, labels, blocks, v, w, fuel, rings),
-        Splits::Both => split_two(degrees, sides, ends, labels, blocks, a, b, fuel, rings),
+        Splits::One(v, w) => {
+            let round = rounds.first;
+            split_by(round, degrees, sides, ends, labels, blocks, v, w)
+        }
+        Splits::Both => split_both(rounds, degrees, sides, ends, labels, blocks, a, b),
     }
 }

@@ -10,7 +10,7 @@ use Rattle.calls.proofs.commit.commit_with.Reads as reads
 use Rattle.calls.proofs.commit.commit_with.Lts as lts
 use Rattle.admission.proofs.gate.pass_gate.Reads as pass-gate-reads
 use Rattle.calls.proofs.commit.keep_counts.Reads as keep-counts-reads
-use Rattle.insertion.proofs.committing.commit_edge.Reads as commit-edge-reads
+use Rattle.insertion.proofs.committing.commit_quote.Reads as commit-quote-reads
 
 -- src/commit.rt:77:9
 pass-gate-requires : tie.Need-pass-gate-requires
@@ -21,8 +21,8 @@ enum-told : tie.Need-enum-told
 enum-told c = search needs
 
 -- src/commit.rt:94:17
-commit-edge-requires : tie.Need-commit-edge-requires
-commit-edge-requires c κs = search needs
+commit-quote-requires : tie.Need-commit-quote-requires
+commit-quote-requires c κs = search needs
 
 -- src/commit.rt:105:13
 keep-counts-requires : tie.Need-keep-counts-requires
@@ -83,10 +83,10 @@ same-length-12 c = search needs
 -- src/commit.rt:44:1
 returns : tie.Need-returns
 returns c =
-    let at-commit-edge = c .before .before .before .before .before .before .before .before .before .before .before .before .before .before .before .before .before in
-    let at-enum-told = at-commit-edge .before .before .before .before .before .before .before in
+    let at-commit-quote = c .before .before .before .before .before .before .before .before .before .before .before .before .before .before .before .before .before in
+    let at-enum-told = at-commit-quote .before .before .before .before .before .before .before in
     let at-pass-gate = at-enum-told .before .before .before .before .before .before .before .before .before .before .before .before .before .before in
-    commit-done _ _ _ _ _ _ _ _ _ (ap gateRefusal (sym (at-enum-told .enum-told .given .1)) ∙ at-pass-gate .pass-gate .ensures .0) (at-pass-gate .pass-gate .ensures .1) (at-commit-edge .commit-edge .ensures) (c .keep-counts .ensures .0) (c .keep-counts .ensures .1)
+    commit-done _ _ _ _ _ _ _ _ _ (ap gateRefusal (sym (at-enum-told .enum-told .given .1)) ∙ at-pass-gate .pass-gate .ensures .0) (at-pass-gate .pass-gate .ensures .1) (at-commit-quote .commit-quote .ensures) (c .keep-counts .ensures .0) (c .keep-counts .ensures .1)
 
 -- src/commit.rt:44:1
 same-length-13 : tie.Need-same-length-13
@@ -149,7 +149,7 @@ commit-with-spec =
     (tie.spec
     pass-gate-requires
     enum-told
-    commit-edge-requires
+    commit-quote-requires
     keep-counts-requires
     enum-known-passed
     same-length

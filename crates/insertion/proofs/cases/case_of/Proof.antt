@@ -1,28 +1,37 @@
-use mathlib.Core.Path.{_∙_, ap}
+use mathlib.Core.Path.{_∙_}
+use Rattle.model.specs.Cases.{classOf}
+use Rattle.insertion.proofs.Classes.{case-singular}
 use borrow.Author.Needs.{needs}
-use Rattle.model.specs.Cases.{Class, caseOf}
-use Rattle.insertion.specs.Meaning.{asClass}
-use Rattle.insertion.proofs.Classes.{no-leaf}
 use Rattle.insertion.proofs.cases.case_of.Statement.{statement}
 use Rattle.insertion.proofs.cases.case_of.Tie as tie
-
-enum-told : tie.Need-enum-told
-enum-told c = search needs
 
 case-of-leaf-requires : tie.Need-case-of-leaf-requires
 case-of-leaf-requires c κs = search needs
 
-case-of-other-requires : tie.Need-case-of-other-requires
-case-of-other-requires c κs = search needs
+case-of-regular-requires : tie.Need-case-of-regular-requires
+case-of-regular-requires c κs = search needs
+
+case-of-singular-requires : tie.Need-case-of-singular-requires
+case-of-singular-requires c κs = search needs
 
 returns : tie.Need-returns
-returns c = rw (c .before .enum-told .given .1) (c .case-of-leaf .ensures)
+unfolding classOf
+returns c = rw (c .before .match .keys1) (c .case-of-leaf .ensures)
 
 returns-2 : tie.Need-returns-2
-returns-2 c =
-    let known = c .before .before .args in
-    c .case-of-other .ensures
-    ∙ ap (λ (k : Class). caseOf k (asClass (known .second))) (no-leaf (known .first) (c .before .match .keys2))
+unfolding classOf
+returns-2 c = rw (c .before .match .keys2) (c .case-of-regular .ensures)
+
+returns-3 : tie.Need-returns-3
+returns-3 c = c .case-of-singular .ensures ∙ case-singular _ _ (c .before .match .rest .0 .1) (c .before .match .rest .1)
 
 pub case-of-spec : {M : Type 1} → statement M
-case-of-spec = tie.close (tie.spec enum-told case-of-leaf-requires case-of-other-requires returns returns-2)
+case-of-spec =
+    tie.close
+    (tie.spec
+    case-of-leaf-requires
+    case-of-regular-requires
+    case-of-singular-requires
+    returns
+    returns-2
+    returns-3)

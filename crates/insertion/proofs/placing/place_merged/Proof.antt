@@ -2,36 +2,26 @@ use Rattle.insertion.proofs.Places.{merged-law}
 use borrow.Author.Needs.{needs}
 use Rattle.insertion.proofs.placing.place_merged.Statement.{statement}
 use Rattle.insertion.proofs.placing.place_merged.Tie as tie
-use Rattle.insertion.proofs.placing.place_merged.Reads as reads
-use Rattle.insertion.proofs.placing.place_merged.Lts as lts
-use Rattle.labels.proofs.merging.merge_chains.Reads as merge-chains-reads
-use Rattle.tables.proofs.steps.raise_both.Reads as raise-both-reads
 
--- src/placing.rt:120:9
 merge-chains-requires : tie.Need-merge-chains-requires
 merge-chains-requires c κs = search needs
 
--- src/placing.rt:121:5
 raise-both-requires : tie.Need-raise-both-requires
 raise-both-requires c κs = search needs
 
--- src/placing.rt:107:1
 same-length : tie.Need-same-length
 same-length c = search needs
 
--- src/placing.rt:107:1
 same-length-2 : tie.Need-same-length-2
 same-length-2 c = search needs
 
--- src/placing.rt:107:1
 same-length-3 : tie.Need-same-length-3
 same-length-3 c = search needs
 
--- src/placing.rt:107:1
 returns : tie.Need-returns
 returns c =
     let at-merge-chains = c .before .before .before .before .before .before .before .before in
-    merged-law _ _ _ _ _ _ _ _ _ _ _ _ _ _ (at-merge-chains .merge-chains .ensures) (c .before .before .raise-both .ensures)
+    merged-law _ _ _ _ _ _ _ _ _ _ _ _ _ _ _ (at-merge-chains .merge-chains .ensures) (c .before .before .raise-both .ensures)
 
 pub place-merged-spec : {M : Type 1} → statement M
 place-merged-spec =

@@ -2,86 +2,66 @@ use Rattle.model.specs.Register.{caseNumber}
 use borrow.Author.Needs.{needs}
 use Rattle.insertion.proofs.quoting.quoted_case.Statement.{statement}
 use Rattle.insertion.proofs.quoting.quoted_case.Tie as tie
-use Rattle.insertion.proofs.quoting.quoted_case.Reads as reads
-use Rattle.insertion.proofs.quoting.quoted_case.Lts as lts
 
--- src/quoting.rt:57:22
 enum-told : tie.Need-enum-told
 enum-told c = search needs
 
--- src/quoting.rt:58:30
 enum-told-2 : tie.Need-enum-told-2
 enum-told-2 c = search needs
 
--- src/quoting.rt:59:31
 enum-told-3 : tie.Need-enum-told-3
 enum-told-3 c = search needs
 
--- src/quoting.rt:60:24
 enum-told-4 : tie.Need-enum-told-4
 enum-told-4 c = search needs
 
--- src/quoting.rt:61:35
 enum-told-5 : tie.Need-enum-told-5
 enum-told-5 c = search needs
 
--- src/quoting.rt:62:36
 enum-told-6 : tie.Need-enum-told-6
 enum-told-6 c = search needs
 
--- src/quoting.rt:63:29
 enum-told-7 : tie.Need-enum-told-7
 enum-told-7 c = search needs
 
--- src/quoting.rt:64:30
 enum-told-8 : tie.Need-enum-told-8
 enum-told-8 c = search needs
 
--- src/quoting.rt:65:28
 enum-told-9 : tie.Need-enum-told-9
 enum-told-9 c = search needs
 
--- src/quoting.rt:53:1
 returns : tie.Need-returns
 unfolding caseNumber
 returns c = rw (c .enum-told .given .1)
 
--- src/quoting.rt:53:1
 returns-2 : tie.Need-returns-2
 unfolding caseNumber
 returns-2 c = rw (c .enum-told2 .given .1)
 
--- src/quoting.rt:53:1
 returns-3 : tie.Need-returns-3
 unfolding caseNumber
 returns-3 c = rw (c .enum-told3 .given .1)
 
--- src/quoting.rt:53:1
 returns-4 : tie.Need-returns-4
 unfolding caseNumber
 returns-4 c = rw (c .enum-told4 .given .1)
 
--- src/quoting.rt:53:1
 returns-5 : tie.Need-returns-5
 unfolding caseNumber
 returns-5 c = rw (c .enum-told5 .given .1)
 
--- src/quoting.rt:53:1
 returns-6 : tie.Need-returns-6
 unfolding caseNumber
 returns-6 c = rw (c .enum-told6 .given .1)
 
--- src/quoting.rt:53:1
 returns-7 : tie.Need-returns-7
 unfolding caseNumber
 returns-7 c = rw (c .enum-told7 .given .1)
 
--- src/quoting.rt:53:1
 returns-8 : tie.Need-returns-8
 unfolding caseNumber
 returns-8 c = rw (c .enum-told8 .given .1)
 
--- src/quoting.rt:53:1
 returns-9 : tie.Need-returns-9
 unfolding caseNumber
 returns-9 c = rw (c .enum-told9 .given .1)

@@ -3,15 +3,6 @@ use borrow.Author.Needs.{needs}
 use Rattle.labels.proofs.splitting.split_both.Statement.{statement}
 use Rattle.labels.proofs.splitting.split_both.Tie as tie
 
-ring-at-requires : tie.Need-ring-at-requires
-ring-at-requires c κs = search needs
-
-ring-at-requires-2 : tie.Need-ring-at-requires-2
-ring-at-requires-2 c κs = search needs
-
-left-for-requires : tie.Need-left-for-requires
-left-for-requires c κs = search needs
-
 split-by-requires : tie.Need-split-by-requires
 split-by-requires c κs = search needs
 
@@ -34,18 +25,12 @@ returns : tie.Need-returns
 returns c =
     let at-split-by2 = c .before .before .before .before .before .before in
     let at-split-by = at-split-by2 .before .before .before .before .before .before .before in
-    let at-left-for = at-split-by .before .before .before in
-    let at-ring-at2 = at-left-for .before in
-    let at-ring-at = at-ring-at2 .before .before in
-    both-law _ _ _ _ _ _ _ _ _ _ _ _ _ _ _ _ _ _ _ _ _ _ _ _ _ (at-ring-at .ring-at .ensures) (at-ring-at2 .ring-at2 .ensures) (at-left-for .left-for .ensures) (at-split-by .split-by .ensures) (at-split-by2 .split-by2 .ensures) (c .before .add32 .ensures) (c .new .ensures)
+    both-law _ _ _ _ _ _ _ _ _ _ _ _ _ _ _ _ _ _ _ _ _ _ (at-split-by .split-by .ensures) (at-split-by2 .split-by2 .ensures) (c .before .add32 .ensures) (c .new .ensures)
 
 pub split-both-spec : {M : Type 1} → statement M
 split-both-spec =
     tie.close
     (tie.spec
-    ring-at-requires
-    ring-at-requires-2
-    left-for-requires
     split-by-requires
     split-by-requires-2
     add32-requires

@@ -1,5 +1,5 @@
-use mathlib.Core.Path.{refl}
 use Rattle.labels.proofs.Splits.{ends-neither, ends-one, ends-both}
+use mathlib.Core.Path.{refl}
 use borrow.Author.Needs.{needs}
 use Rattle.labels.proofs.splitting.split_ends.Statement.{statement}
 use Rattle.labels.proofs.splitting.split_ends.Tie as tie
@@ -13,17 +13,17 @@ new-requires c κs = search needs
 enum-known-splits : tie.Need-enum-known-splits
 enum-known-splits c = search needs
 
-split-one-requires : tie.Need-split-one-requires
-split-one-requires c κs = search needs
+split-by-requires : tie.Need-split-by-requires
+split-by-requires c κs = search needs
 
 enum-told-2 : tie.Need-enum-told-2
 enum-told-2 c = search needs
 
-split-two-requires : tie.Need-split-two-requires
-split-two-requires c κs = search needs
+split-both-requires : tie.Need-split-both-requires
+split-both-requires c κs = search needs
 
 returns : tie.Need-returns
-returns c = ends-neither _ _ _ _ _ _ _ _ _ _ _ _ _ _ _ (c .before .enum-told .given .1) refl refl (c .new .ensures)
+returns c = ends-neither _ _ _ _ _ _ _ _ _ _ _ _ _ _ (c .before .enum-told .given .1) refl refl (c .new .ensures)
 
 same-length : tie.Need-same-length
 same-length c = search needs
@@ -33,9 +33,9 @@ same-length-2 c = search needs
 
 returns-2 : tie.Need-returns-2
 returns-2 c =
-    let at-split-one = c .before .before .before .before in
-    let at-splits = at-split-one .before .before .before .before in
-    ends-one _ _ _ _ _ _ _ _ _ _ _ _ _ _ _ _ _ (at-splits .splits .given .1) (at-split-one .split-one .ensures)
+    let at-split-by = c .before .before .before .before in
+    let at-splits = at-split-by .before .before .before .before in
+    ends-one _ _ _ _ _ _ _ _ _ _ _ _ _ _ _ _ (at-splits .splits .given .1) (at-split-by .split-by .ensures)
 
 same-length-3 : tie.Need-same-length-3
 same-length-3 c = search needs
@@ -45,9 +45,9 @@ same-length-4 c = search needs
 
 returns-3 : tie.Need-returns-3
 returns-3 c =
-    let at-split-two = c .before .before .before .before in
-    let at-enum-told2 = at-split-two .before .before .before in
-    ends-both _ _ _ _ _ _ _ _ _ _ _ _ _ _ _ (at-enum-told2 .enum-told2 .given .1) (at-split-two .split-two .ensures)
+    let at-split-both = c .before .before .before .before in
+    let at-enum-told2 = at-split-both .before .before .before in
+    ends-both _ _ _ _ _ _ _ _ _ _ _ _ _ _ (at-enum-told2 .enum-told2 .given .1) (at-split-both .split-both .ensures)
 
 pub split-ends-spec : {M : Type 1} → statement M
 split-ends-spec =
@@ -56,9 +56,9 @@ split-ends-spec =
     enum-told
     new-requires
     enum-known-splits
-    split-one-requires
+    split-by-requires
     enum-told-2
-    split-two-requires
+    split-both-requires
     returns
     same-length
     same-length-2

@@ -1,0 +1,56 @@
+-- The terms of a quote, and a quote with what its commit does.
+use mathlib.Core.Path.{_≡_, _∙_}
+use mathlib.Core.Bool.{Bool, true, false}
+use mathlib.Core.List.{List}
+use Prim.Native.Nat.{ℕ}
+use Rattle.model.specs.Graph.{Edge}
+use Rattle.model.specs.Cases.{Case}
+use Rattle.model.specs.Register.{Quote, Terms, offers, caseNumber}
+use Rattle.model.specs.Tables.{Counts}
+use Rattle.counters.specs.declared.numbers.Millilitres.{Millilitres}
+use Rattle.counters.specs.declared.numbers.Millimetres.{Millimetres}
+use Rattle.counters.specs.declared.numbers.Vertex.{Vertex}
+use Rattle.counting.specs.Counting.{Estimated, estimated}
+use Rattle.insertion.specs.Placing.{workFor}
+use Rattle.insertion.specs.Insertion.{checkIn}
+use Rattle.insertion.specs.Quoting.{caseIn, offerIn, quoteIn, termsIn, workCountIn}
+use Rattle.insertion.specs.Planning.{IntentIn, place, intentFor, intentIn, planFor, plannedCount}
+use Rattle.insertion.specs.Meaning.{asChecked}
+use Rattle.insertion.specs.declared.checks.Checked.{Checked}
+use Rattle.insertion.specs.declared.checks.Checked.the-variants.{Passed}
+use Rattle.insertion.specs.declared.placing.Work.{Work}
+use Rattle.insertion.specs.declared.planning.Plan.{Plan}
+use Rattle.insertion.proofs.Plans.{planned-counts}
+
+module _ (case : Case) (n : ℕ) (ring : Bool) where
+  pub terms-ring : ring ≡ true → offers 7 n ≡ offerIn case (estimated ring n)
+  unfolding offerIn
+  terms-ring h = rw h
+
+  pub terms-case : (q : ℕ) → ring ≡ false → q ≡ caseNumber case → offers q n ≡ offerIn case (estimated ring n)
+  unfolding offerIn
+  terms-case q h g = rw (h, g)
+
+-- planned, counted and offered in the case of the edge between a and b
+pub offered : (d s ends l : List ℕ) (a b n : ℕ) (rings : Bool) (case : Case) (work : Work) (p : Plan) (m : Estimated) (terms : Terms)
+    → case ≡ caseIn d a b → work ≡ workFor case a b → p ≡ planFor work d s ends a b n rings → m ≡ plannedCount p d s ends l n → terms ≡ offerIn case m
+    → (terms ≡ offerIn (caseIn d a b) (workCountIn (workFor (caseIn d a b) a b) d s ends l a b n rings))
+    × (p ≡ planFor (workFor (caseIn d a b) a b) d s ends a b n rings)
+offered d s ends l a b n rings case work p m terms h g i j k =
+    (rw (← h, ← g, ← planned-counts work d s ends l a b n rings, ← i, ← j) k, rw (← h, ← g) i)
+
+-- an edge was checked: its quote, and what the commit does
+module _ (d s ends : List ℕ) (c : Counts) (rings : Bool) (e : Edge) (k k′ : Checked) (q : k ≡ k′) (h : asChecked k ≡ checkIn c e) where
+  pub quote-checked : (l : List ℕ) (terms : Terms) → terms ≡ termsIn d s ends l (c .edges) rings (asChecked k′)
+      → record { asked = e; terms = terms; vertices = c .vertices; edges = c .edges } ≡ quoteIn d s ends l c rings e
+  unfolding quoteIn
+  quote-checked l terms g = rw (← h, q, ← g)
+
+  pub intent-checked : (x : IntentIn) → x ≡ intentFor d s ends (c .edges) rings (asChecked k′) → x ≡ intentIn d s ends c rings e
+  unfolding intentIn
+  intent-checked x g = rw (← h, q) g
+
+pub intent-passed : (d s ends : List ℕ) (c : Counts) (rings : Bool) (e : Edge) (k : Checked) (a b : Vertex) (l : Millimetres) (v : Millilitres) (p : Plan)
+    → k ≡ Passed a b l v → asChecked k ≡ checkIn c e → p ≡ planFor (workFor (caseIn d (a .0) (b .0)) (a .0) (b .0)) d s ends (a .0) (b .0) (c .edges) rings
+    → place (a .0) (b .0) (l .0) (v .0) p ≡ intentIn d s ends c rings e
+intent-passed d s ends c rings e k a b l v p q h g = intent-checked d s ends c rings e k (Passed a b l v) q h _ (rw g)
