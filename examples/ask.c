@@ -5,7 +5,7 @@
  *     ./build
  *     cc -Iinclude examples/ask.c target/staticlib/libpnl.a -o target/ask
  *     target/ask distance 0 5 < examples/house.pnl
- *     target/ask quote 5 6 1200 < examples/house.pnl
+ *     target/ask quote 0 5 1200 < examples/house.pnl
  *
  * Status: 0 with an answer, 1 with a refusal, 2 where a word is wrong, the list cannot be read or the answer cannot be written.
  */
