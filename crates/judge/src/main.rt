@@ -30,7 +30,7 @@ fn write_verdict(right: &[u8], sheet: &[u8]) {
 }
 
 fn judge_sheet(right: &[u8]) {
-    // Room for a byte more than the right text can have: what follows in a longer sheet changes no verdict.
+    // Room for a byte more than the right text can have: what follows in a longer sheet changes no verdict (`longer-same`).
     let mut sheet = [0u8; ROOM + 1];
     let read = read_from(SHEET, &mut sheet);
     match read {
@@ -41,6 +41,7 @@ fn judge_sheet(right: &[u8]) {
     }
 }
 
+// Of a list that is refused or too long the sheet is not read.
 fn judge_list(list: &[u8]) {
     let mut out = [0u8; ROOM];
     let expected = expect_sheet(list, &mut out);

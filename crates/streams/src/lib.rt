@@ -1,3 +1,3 @@
-// What the programs read on standard input, and write on standard output and standard error.
+// What the programs read, and write on standard output and standard error.
 pub mod reading;
 pub mod writing;
