@@ -16,13 +16,15 @@ use denote.Triple.Entry.{Args, Res}
 use denote.Triple.Clauses.{AtExit, ClausesAt, Ended}
 use Rattle.model.specs.Queries.{Reply}
 use Rattle.model.specs.Tables.{Tables}
-use Rattle.model.specs.Calls.{Call, commits, finds, findsAt, grows, lands, measures, quotes, sheets, step, writes}
+use Rattle.model.specs.Calls.{Call, commits, fetches, finds, findsAt, grows, lands, measures, opens, quotes, sheets, step, writes}
 use Rattle.counters.specs.declared.counts.Counts.{Counts}
 use Rattle.counters.specs.Answers.{asCounts, listReply}
 use Rattle.counters.specs.Quotes.{asQuote, commitReply, quoteReply}
 use Rattle.tables.specs.Meaning.{tables}
 use Rattle.admission.specs.Lent.{lent, outcome}
 use Rattle.questions.specs.Meaning.{foundReply, listedReply, measuredReply, writtenReply}
+use Rattle.opening.specs.declared.sheets.OpenSheet.{OpenSheet}
+use Rattle.opening.specs.Meaning.{asSheet, fetchedReply, openedReply}
 use Rattle.calls.proofs.grow.grow as grow
 use Rattle.calls.proofs.land.land as land
 use Rattle.calls.proofs.commit.commit as commit
@@ -32,6 +34,8 @@ use Rattle.asking.proofs.sheet.sheet as sheet
 use Rattle.asking.proofs.write.write as write
 use Rattle.asking.proofs.distance.distance as distance
 use Rattle.asking.proofs.quote.quote as quote
+use Rattle.opening.proofs.sheets.OpenSheet.open as open-sheet
+use Rattle.opening.proofs.sheets.OpenSheet.fetch as fetch-line
 
 -- ---- the parameters of a call
 
@@ -99,6 +103,15 @@ module _ {M : Type 1} (𝓤 : URA M) (H : Heap 𝓤) (A : Atoms 𝓤) (mem : Mem
       ≡ Ensures quote.ended κs (λ r z. Steps a z [] (quoteReply r)
       (quotes (record { first = own a .0; second = own a .1 .0; len = own a .1 .1 .0; volume = own a .1 .1 .1 .0 })))
   quote-steps κs a = refl
+
+  pub open-steps : (κs : Lfts 12) (a : Args open-sheet.signature κs)
+      → open-sheet.clauses 𝓤 H A mem run κs a ≡ Ensures open-sheet.ended κs (λ r z. Steps a z [] (openedReply r) opens)
+  open-steps κs a = refl
+
+  -- the sheet stands before the tables
+  pub fetch-steps : (κs : Lfts 12) (a : Args fetch-line.signature κs)
+      → fetch-line.clauses 𝓤 H A mem run κs a ≡ Ensures fetch-line.ended κs (λ r z. Steps (a .1) (z .1) [] (fetchedReply r) (fetches (asSheet (a .0))))
+  fetch-steps κs a = refl
 
   -- with the arguments a, and z at its end, a landing leaves and answers what `step` has at call c
   abbrev LandSteps : {R S : Type 0} → Lands R → Lands S → Reply → Call → SProp 𝓤

@@ -1,10 +1,10 @@
 use mathlib.Core.Path.{_∙_}
 use Rattle.holding.proofs.ReplayLaws.{zeroed-again}
 use borrow.Author.Needs.{needs}
-use Rattle.fetching.proofs.named.line_cleared.Statement.{statement}
-use Rattle.fetching.proofs.named.line_cleared.Tie as tie
-use Rattle.fetching.proofs.named.line_cleared.Reads as reads
-use Rattle.fetching.proofs.named.line_cleared.Lts as lts
+use Rattle.fetching.proofs.cleared.line_cleared.Statement.{statement}
+use Rattle.fetching.proofs.cleared.line_cleared.Tie as tie
+use Rattle.fetching.proofs.cleared.line_cleared.Reads as reads
+use Rattle.fetching.proofs.cleared.line_cleared.Lts as lts
 use Rattle.fetching.proofs.named.line_named.Reads as line-named-reads
 use Rattle.tables.proofs.whole.clear_tables.Reads as clear-tables-reads
 
