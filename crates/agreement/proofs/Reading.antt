@@ -1,18 +1,22 @@
 -- The relabellings are read before they are written: a walk that reads finds as many as laying the labels then counts.
 use mathlib.Core.Path.{_≡_, ap₂, sym, ap, _∙_}
-use Prim.Native.Nat.{ℕ, zero, suc, _+_, _≤_, _<_}
+use Prim.Native.Nat.{ℕ, zero, suc, _+_, _*_, _≤_, _<_}
 use native.Mathlib.Omega.{arith}
 use native.Mathlib.Nat.{not-suc-le-zero}
-use mathlib.Core.Bool.{Bool, false}
+use mathlib.Core.Bool.{Bool, true, false}
 use mathlib.Core.List.{List}
 use lib.ListN.{length, getD}
 use lib.Seq.{getD-set-other}
+use borrow.Author.Tests.{eq-eqb, ne-eqb}
 use Rattle.model.specs.Graph.{Edge, Pass, far, isRegular}
 use Rattle.model.specs.Labels.{next}
-use Rattle.tables.specs.Steps.{most32}
+use Rattle.tables.specs.Steps.{farIn, most32}
+use Rattle.tables.specs.Walks.{Met, lockstepIn}
 use Rattle.labels.specs.Labelling.{countAhead, labelVertexIn}
+use Rattle.labels.specs.Merging.{keeperFor}
+use Rattle.labels.specs.declared.merging.Keeper.{Keeper}
 use Rattle.labels.proofs.Labels.{nextIn-is}
-use Rattle.counting.specs.Counting.{countIn, movedIn}
+use Rattle.counting.specs.Counting.{countIn, estimated, keeperCountIn, mergeCountAt, mergeCountIn, movedIn}
 use Rattle.counting.proofs.Laws.{count-end, count-on}
 use Rattle.model.proofs.Walks.Degree.{Proper}
 use Rattle.model.proofs.Walks.Turn.{At}
@@ -43,3 +47,15 @@ module _ {es : List Edge} (pr : Proper es) {degrees sides ends lows : List ℕ} 
       ∙ ap₂ {C = ℕ} (λ (p q : ℕ). p + q) m
       (count-lays k (w .sides) (w .labels) (next up label) (x .across .at) u j (omega arith) (omega (arith, n)) (once-tail _ ss o)
       (λ i s q. getD-set-other labels v (s .at) label 0 (once-head _ ss o i s q) ∙ h (suc i) s (later q)))
+
+-- the count of a merge, by where the walks in lockstep met: a ring is closed, or one chain keeps its labels
+module _ (degrees s ends l : List ℕ) (a b n da ua db ub : ℕ) (m : Met) (h : (da ≡ getD s (2 * a) 0) × (ua ≡ farIn ends da a))
+    (i : (db ≡ getD s (2 * b) 0) × (ub ≡ farIn ends db b)) (is : m ≡ lockstepIn degrees s ends n da ua db ub) where
+  pub count-closes : m .first ≡ b → estimated true 0 ≡ mergeCountIn degrees s ends l a b n
+  unfolding mergeCountIn mergeCountAt
+  count-closes o = rw (← h .0, ← h .1, ← i .0, ← i .1, ← is, eq-eqb _ _ o)
+
+  pub count-kept : (keeper : Keeper) (c : ℕ) → (m .first ≡ b → ⊥) → keeper ≡ keeperFor degrees a b m → c ≡ keeperCountIn keeper degrees s ends l n
+      → estimated false c ≡ mergeCountIn degrees s ends l a b n
+  unfolding mergeCountIn mergeCountAt
+  count-kept keeper c o k e = rw (← h .0, ← h .1, ← i .0, ← i .1, ← is, ne-eqb _ _ o, ← k, ← e)
