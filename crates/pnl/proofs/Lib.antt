@@ -2,4 +2,4 @@ pub mod Returns
 pub mod Bytes
 pub mod Rows
 pub mod CallLaws
-pub mod Quoted
+pub mod QuoteLaws
