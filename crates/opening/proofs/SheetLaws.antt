@@ -1,5 +1,5 @@
 -- Opening a sheet and fetching from it behind an open gate.
-use mathlib.Core.Path.{_≡_, refl, ap, _∙_}
+use mathlib.Core.Path.{_≡_, ap, _∙_}
 use mathlib.Core.List.{[]}
 use mathlib.Core.Option.{none}
 use Rattle.model.specs.Register.{Register}
