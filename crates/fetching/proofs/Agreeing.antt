@@ -5,25 +5,24 @@ use native.Mathlib.Omega.{arith}
 use native.Mathlib.Nat.{not-suc-le-zero}
 use mathlib.Core.Bool.{Bool, true, false}
 use mathlib.Core.List.{List, [], _∷_, map}
-use mathlib.Core.Option.{none, some}
-use lib.ListN.{length, replicate, take}
+use mathlib.Core.Option.{some}
+use lib.ListN.{length, take}
 use lib.Dec.{ltb}
 use borrow.Author.Tests.{ltb-false}
 use Rattle.model.specs.Basics.{countFrom, maxEdges, upTo}
 use Rattle.model.specs.Graph.{Edge}
 use Rattle.model.specs.Register.{Landed, Register, landed, refused}
 use Rattle.model.specs.Queries.{OpenSheet, Reply, sheet}
-use Rattle.model.specs.Opened.{anyBeyond, fetch, fetchLine, isBeyond, lineAt, openedEdges, openedLines}
+use Rattle.model.specs.Opened.{anyBeyond, fetch, fetchLine, isBeyond, lineAt, openedEdges}
 use Rattle.model.specs.Tables.{Counts, Stored, Tables, cleared, countsOf, growFrom, storedEdge, storedEdges, tablesOf}
 use Rattle.model.specs.Calls.{answer, answers, effect, fetches}
 use Rattle.model.specs.Notions.{HeldOf, NamedIn, Reachable}
-use Rattle.model.proofs.Registers.Fetched.{fetch-within}
 use Rattle.model.proofs.Registers.Named.{beyond-refused, named}
 use Rattle.model.proofs.Registers.OnlyHeld.{held-counts, held-tables}
 use Rattle.model.proofs.Registers.ReadBack.{edges-read}
 use Rattle.tables.specs.Meaning.{stored}
 use Rattle.counters.specs.Answers.{counts}
-use Rattle.insertion.specs.Insertion.{AnswerIn, LandingIn, done, refusedIn}
+use Rattle.insertion.specs.Insertion.{AnswerIn, done, refusedIn}
 use Rattle.agreement.proofs.Sheeting.{sheet-agrees, sheetOver}
 use Rattle.holding.specs.Replay.{leftAs, leftBy}
 use Rattle.holding.proofs.ReplayLaws.{none-some, stored-is}

@@ -5,9 +5,9 @@ use mathlib.Core.Bool.{true, false, true≢false}
 use mathlib.Core.List.{List, [], _∷_}
 use mathlib.Core.Option.{some}
 use lib.ListN.{drop, length}
-use Rattle.model.specs.Register.{Register, empty}
+use Rattle.model.specs.Register.{empty}
 use Rattle.model.specs.Format.{listOf}
-use Rattle.model.specs.Queries.{OpenSheet, Reply, fetched, finished, sheet}
+use Rattle.model.specs.Queries.{OpenSheet, fetched, finished, sheet}
 use Rattle.model.specs.Opened.{isBeyond, openedLines}
 use Rattle.model.specs.Tables.{cleared, fits, held}
 use Rattle.model.specs.Calls.{commits, finds, grows, lands}

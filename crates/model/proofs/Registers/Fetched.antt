@@ -1,7 +1,7 @@
 -- Document 02, S-6: what a fetch from an opened sheet answers.
 use mathlib.Core.Path.{_≡_, refl, sym, ap, _∙_}
 use mathlib.Core.Logic.{_≢_}
-use Prim.Native.Nat.{ℕ, zero, suc, _+_, min, _≤_, _<_}
+use Prim.Native.Nat.{ℕ, zero, suc, _≤_, _<_}
 use native.Mathlib.Omega.{arith}
 use native.Mathlib.Decide.{decLt}
 use native.Mathlib.Nat.{not-suc-le-zero}
@@ -10,14 +10,13 @@ use mathlib.Core.List.{List, [], _∷_}
 use mathlib.Core.Option.{Option, none, some}
 use lib.ListN.{length, getD, length-take}
 use lib.Dec.{eqb}
-use Rattle.model.specs.Basics.{if_then_else_, maxEdges, upTo}
+use Rattle.model.specs.Basics.{maxEdges, upTo}
 use Rattle.model.specs.Graph.{Edge, nameOf}
 use Rattle.model.specs.Register.{Register}
-use Rattle.model.specs.Queries.{OpenSheet, Reply, fetched, finished, refuses, rowsOf}
+use Rattle.model.specs.Queries.{OpenSheet, fetched, finished, refuses, rowsOf}
 use Rattle.model.specs.Opened.{fetch, fetchLine, isBeyond, lineAt, movedOn, openedEdges, openedLines}
 use Rattle.model.specs.Notions.{Reachable}
 use Rattle.model.proofs.Basics.Lists.{length-upTo}
-use Rattle.model.proofs.Registers.Founded.{Founded}
 use Rattle.model.proofs.Registers.Reachable.{founded}
 
 -- ---- the line at a place

@@ -1,22 +1,22 @@
 -- Document 02, S-6: the counts of an opened sheet name a register in each register of which 33 does not hold, and landing more leaves it.
 use mathlib.Core.Path.{_≡_, refl, sym, ap, _∙_, subst}
-use Prim.Native.Nat.{ℕ, zero, suc, _+_, _≤_, _<_}
+use Prim.Native.Nat.{ℕ, zero, suc, _+_, _≤_}
 use native.Mathlib.Omega.{arith}
 use native.Mathlib.Nat.{not-suc-le-zero}
 use mathlib.Core.Bool.{Bool, true, false, not, _&&_, _||_}
 use mathlib.Core.List.{List, [], _∷_, _++_, append-nil, append-assoc}
-use mathlib.Core.Option.{Option, none, some}
+use mathlib.Core.Option.{none, some}
 use lib.ListN.{length, take, length-append}
 use lib.Seq.{length-take-le, getD-take, take-append-le, take-length}
 use lib.Dec.{ltb}
-use borrow.Author.Tests.{ltb-true, ltb-false, lt-ltb, le-ltb, not-false, not-true}
-use Rattle.model.specs.Basics.{if_then_else_, maxEdges, maxVertices, upTo}
+use borrow.Author.Tests.{ltb-true, ltb-false, lt-ltb, le-ltb, not-false}
+use Rattle.model.specs.Basics.{if_then_else_, maxEdges, upTo}
 use Rattle.model.specs.Graph.{Edge, edgeAt, noEdge}
 use Rattle.model.specs.Register.{Landed, Register, edgeRefusal, landEdge, landed, refused, withEdge}
 use Rattle.model.specs.Queries.{OpenSheet, rowsOf, sheet}
 use Rattle.model.specs.Opened.{anyBeyond, isBeyond, openedEdges, openedLines, openingOf}
 use Rattle.model.specs.Tables.{growFrom, landEdges}
-use Rattle.model.specs.Notions.{Admissible, LandedSince, Lawful, NamedIn, Reachable}
+use Rattle.model.specs.Notions.{LandedSince, Lawful, NamedIn, Reachable}
 use Rattle.model.proofs.Basics.Booleans.{and-true, or-false}
 use Rattle.model.proofs.Walks.Degree.{AllLawful}
 use Rattle.model.proofs.Registers.Accepted.{edge-lands}
@@ -32,7 +32,7 @@ use Rattle.model.proofs.Registers.Reachable.{founded, with-edge-vertice
 abbrev Among : ℕ → Edge → Bool
 Among n e = ltb (e .first) n && ltb (e .second) n
 
--- the same but for its ends
+-- one that is lawful but for its ends, and these are among them
 among-lawful : (m n : ℕ) (e : Edge) → Lawful m e → Among n e ≡ true → Lawful n e
 among-lawful m n e l h =
     let p = and-true (ltb (e .first) n) (ltb (e .second) n) h in

@@ -13,10 +13,9 @@ use Rattle.model.specs.Register.{Register}
 use Rattle.model.specs.Queries.{OpenSheet, Reply, fetched, finished, opened, refuses, sheet}
 use Rattle.model.specs.Opened.{fetch, fetchLine, isBeyond, lineAt, movedOn, openedEdges, openedLines, openingOf}
 use Rattle.model.specs.Tables.{Stored, Tables, fits, held, storedOf}
-use Rattle.model.specs.Calls.{Ask, Call, Lent, Outcome, allFit, answer, answers, asks, effect, fetches, opening, opens, registerFor, step}
+use Rattle.model.specs.Calls.{Ask, Lent, Outcome, allFit, answer, answers, asks, effect, fetches, opening, opens, registerFor, step}
 use Rattle.model.specs.Series.{Made, after, makes, series}
 use Rattle.model.specs.Notions.{Fetch, HeldOf, NamedIn, Reachable, fetchedBy, linesThenDone, nextSheet}
-use Rattle.model.proofs.Registers.Kept.{kept-held}
 use Rattle.model.proofs.Registers.OnlyHeld.{only-held}
 use Rattle.model.proofs.Registers.Reachable.{kept}
 use Rattle.model.proofs.Registers.Named.{lines-stay, opened-sheet, opened-within, still-within}

@@ -8,11 +8,8 @@ use mathlib.Core.Path.{_≡_, _∙_}
 use borrow.Author.Needs.{needs}
 use Rattle.fetching.proofs.lines.line_at.Statement.{statement}
 use Rattle.fetching.proofs.lines.line_at.Tie as tie
-use Rattle.fetching.proofs.lines.line_at.Reads as reads
-use Rattle.fetching.proofs.lines.line_at.Lts as lts
-use Rattle.chains.proofs.marks.next_unmarked.Reads as next-unmarked-reads
-use Rattle.chains.proofs.rows.take_row.Reads as take-row-reads
 
+-- the chains that were passed over, and as many more as stand before the place
 abbrev Inv-loop : tie.InvT-loop
 Inv-loop degrees sides ends lengths volumes marks₀ edges place before₀ edge₀ marks before edge =
     (found : List ℕ) × (Sweeps degrees sides ends edges marks₀ edge marks found × (length found + before ≡ place))
@@ -20,19 +17,9 @@ Inv-loop degrees sides ends lengths volumes marks₀ edges place before₀ edge�
 abbrev μ-loop : tie.MeasureT-loop
 μ-loop degrees sides ends lengths volumes marks₀ edges place before₀ edge₀ marks before edge = edges - edge
 
--- src/lines.rt:35:9
-next-unmarked-requires : tie.Need-next-unmarked-requires Inv-loop μ-loop
-next-unmarked-requires c κs = search needs
-
--- src/lines.rt:36:5
 loop-holds : tie.Need-loop-holds Inv-loop μ-loop
 loop-holds c = ([], (sweep-start _ _ _ _ _ _ (c .next-unmarked .ensures), omega arith))
 
--- src/lines.rt:37:13
-take-row-requires : tie.Need-take-row-requires Inv-loop μ-loop
-take-row-requires c κs = search needs
-
--- src/lines.rt:48:35
 add-t18 : tie.Need-add-t18 Inv-loop μ-loop
 add-t18 c =
     let at-loop-test = c .before .before .before .before .before in
@@ -40,41 +27,31 @@ add-t18 c =
     let at-fits = at-loop .before .before .before .before .before .before .before .before .before in
     omega (arith, at-loop .loop .inv .1 .1, at-loop .loop .inv .1 .0 .few, at-loop-test .loop-test .taken, c .if1 .taken, at-fits .fits .edges .fits)
 
--- src/lines.rt:48:13
 same-length : tie.Need-same-length Inv-loop μ-loop
 same-length c =
     let at-loop = c .before .before .before .before .before .before in
     c .before .before .before .take-row .kept .1 .1 .1 .1 .1 .0 ∙ at-loop .loop .inv .1 .0 .as-long
 
--- src/lines.rt:48:13
 returns : tie.Need-returns Inv-loop μ-loop
 returns c =
     let at-loop-test = c .before .before .before .before .before in
     let at-loop = at-loop-test .before in
     λ vertices. line-here _ _ _ _ _ _ _ _ _ _ (at-loop .loop .inv .1 .0) vertices _ _ (at-loop .loop .inv .1 .1) _ (at-loop-test .loop-test .taken) (c .if1 .taken) (c .before .before .before .take-row .ensures .0)
 
--- src/lines.rt:50:9
 sub-before : tie.Need-sub-before Inv-loop μ-loop
 sub-before c = omega (arith, c .if1 .left)
 
--- src/lines.rt:51:37
 add-next-unmarked : tie.Need-add-next-unmarked Inv-loop μ-loop
 add-next-unmarked c =
     let at-loop-test = c .before .before .before .before .before .before in
     let at-fits = at-loop-test .before .before .before .before .before .before .before .before .before .before in
     omega (arith, at-loop-test .loop-test .taken, at-fits .fits .edges .fits)
 
--- src/lines.rt:51:9
-next-unmarked-requires-2 : tie.Need-next-unmarked-requires-2 Inv-loop μ-loop
-next-unmarked-requires-2 c κs = search needs
-
--- src/lines.rt:36:5
 loop-less : tie.Need-loop-less Inv-loop μ-loop
 loop-less c =
     let at-loop-test = c .before .before .before .before .before .before .before in
     unmarked-less _ _ _ _ (at-loop-test .loop-test .taken) (c .next-unmarked2 .ensures)
 
--- src/lines.rt:36:5
 loop-again : tie.Need-loop-again Inv-loop μ-loop
 loop-again c =
     let at-take-row = c .before .before .before .before .before in
@@ -85,29 +62,28 @@ loop-again c =
     let e = at-loop .loop .edge in
     (found ++ (e ∷ []), (sweep-on _ _ _ _ _ _ _ _ _ _ (at-loop-test .loop-test .taken) (inv .1 .0) (at-take-row .take-row .ensures .1) (at-take-row .take-row .kept .1 .1 .1 .1 .1 .0) (c .next-unmarked2 .ensures), omega (arith, inv .1 .1, length-append found (e ∷ []), c .before .before .if1 .left)))
 
--- src/lines.rt:20:1
 same-length-2 : tie.Need-same-length-2 Inv-loop μ-loop
 same-length-2 c = c .before .loop .inv .1 .0 .as-long
 
--- src/lines.rt:20:1
 returns-2 : tie.Need-returns-2 Inv-loop μ-loop
 returns-2 c = λ vertices. line-past _ _ _ _ _ _ _ _ _ _ (c .before .loop .inv .1 .0) vertices _ _ (c .before .loop .inv .1 .1) (c .loop-test .left)
 
+-- the needs in the order of the code
 pub line-at-spec : {M : Type 1} → statement M
 line-at-spec =
     tie.close
     (tie.spec
     Inv-loop
     μ-loop
-    next-unmarked-requires
+    (λ c κs. search needs)
     loop-holds
-    take-row-requires
+    (λ c κs. search needs)
     add-t18
     same-length
     returns
     sub-before
     add-next-unmarked
-    next-unmarked-requires-2
+    (λ c κs. search needs)
     loop-less
     loop-again
     same-length-2
