@@ -60,7 +60,16 @@ pub fn quote(
     match passed {
         Gate::Open => {
             let made = quote_edge(
-                degrees, sides, ends, labels, counts, first, second, length, volume, true,
+                degrees,
+                sides,
+                ends,
+                labels,
+                counts,
+                first,
+                second,
+                length,
+                volume,
+                true,
             );
             QuoteAnswer::Quoted(made)
         }

@@ -38,12 +38,32 @@ pub fn commit_quote(
     let length = quote.length;
     let volume = quote.volume;
     let made = quote_edge(
-        degrees, sides, ends, labels, counts, first, second, length, volume, rings,
+        degrees,
+        sides,
+        ends,
+        labels,
+        counts,
+        first,
+        second,
+        length,
+        volume,
+        rings,
     );
     if !same_quote(quote, made) {
         return Inserted::Refused(Refusal::OtherQuote);
     }
     land_edge(
-        degrees, sides, ends, lengths, volumes, labels, counts, first, second, length, volume, rings,
+        degrees,
+        sides,
+        ends,
+        lengths,
+        volumes,
+        labels,
+        counts,
+        first,
+        second,
+        length,
+        volume,
+        rings,
     )
 }

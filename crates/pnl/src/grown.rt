@@ -75,7 +75,15 @@ fn answer_question(
         }
         Question::Quote(first, second, length, volume) => {
             let terms = terms_checked(
-                degrees, sides, ends, labels, counts, first, second, length, volume,
+                degrees,
+                sides,
+                ends,
+                labels,
+                counts,
+                first,
+                second,
+                length,
+                volume,
             );
             answer_terms(answer, terms)
         }

@@ -38,7 +38,16 @@ fn terms_to(
     match checked {
         CheckedVertex::Is(v) => {
             let made = quote_edge(
-                degrees, sides, ends, labels, counts, first.0, v.0, length, volume, true,
+                degrees,
+                sides,
+                ends,
+                labels,
+                counts,
+                first.0,
+                v.0,
+                length,
+                volume,
+                true,
             );
             made.terms
         }
@@ -64,7 +73,15 @@ pub fn terms_checked(
     let checked = Vertex::new(first);
     match checked {
         CheckedVertex::Is(v) => terms_to(
-            degrees, sides, ends, labels, counts, v, second, length, volume,
+            degrees,
+            sides,
+            ends,
+            labels,
+            counts,
+            v,
+            second,
+            length,
+            volume,
         ),
         CheckedVertex::OutOfRange => Terms::Declines(Refusal::NotLanded),
     }
