@@ -48,7 +48,8 @@ module _ (d s es l u lb : List ℕ) (c : Counts) (r : Register) (h : HeldOf (sto
   terms-read v w v′ w′ n m q a b p =
       let e : Edge = record { first = v; second = w; len = n; volume = m } in
       let k : quoteIn d s es lb c true e ≡ quote r e = rw (held-tables h, held-counts h) at (quote-agrees r e true (h .reachable) (warns-any (r .edges))) in
-      ap (λ (x : Quote). x .terms) (p ∙ rw (a, b) k)
+      let f : q ≡ quote r e = p ∙ rw (a, b) k in
+      ap (λ (x : Quote). x .terms) f
 
 -- a quote from C answers its terms
 pub quote-question : (r : Register) (e : Edge) (slice : List ℕ) (z : Returned) (t : Terms) → t ≡ (quote r e) .terms → z ≡ returnsTerms slice t

@@ -382,6 +382,9 @@ fn with_wrong_size(random: &mut Random, house: Option<&House>) -> Vec<Command> {
     for _ in 0..random.between(1, 3) {
         commands.push(any_call(random, house));
     }
+    if random.one_in(3) {
+        commands.push(Command::Call(Call::Write(BYTES)));
+    }
     commands.push(Command::Lend(table, right));
     commands.push(Command::Call(question(random, house)));
     commands
