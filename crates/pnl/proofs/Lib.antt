@@ -2,4 +2,3 @@ pub mod Returns
 pub mod Bytes
 pub mod Rows
 pub mod CallLaws
-pub mod QuoteLaws

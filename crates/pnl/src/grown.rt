@@ -5,8 +5,6 @@ use crate::answers::refused;
 use crate::checked::find_at_checked;
 use crate::checked::find_checked;
 use crate::checked::measure_checked;
-use crate::quoted::answer_terms;
-use crate::quoted::terms_checked;
 use crate::sheet::answer_sheet;
 use counters::answers::Stop;
 use counters::counts::Counts;
@@ -31,7 +29,6 @@ pub enum Question {
     Find(u32),
     FindAt(u32),
     Distance(u32, u32),
-    Quote(u32, u32, u32, u32),
 }
 
 // The tables are a register's, so there is no gate to pass.
@@ -72,20 +69,6 @@ fn answer_question(
         Question::Distance(from, to) => {
             let measured = measure_checked(ends, lengths, counts, from, to);
             answer_distance(answer, measured)
-        }
-        Question::Quote(first, second, length, volume) => {
-            let terms = terms_checked(
-                degrees,
-                sides,
-                ends,
-                labels,
-                counts,
-                first,
-                second,
-                length,
-                volume,
-            );
-            answer_terms(answer, terms)
         }
     }
 }

@@ -1,12 +1,11 @@
 // The calls from C. Those of this file grow the list in arrays of their own, ask the register, and answer in the lent slice, and nothing is
 // kept between calls; `recipes` has the two on a valve's window, and `windows` the one that plans a change, which take no list.
 // include/pnl.h says the same in C.
-mod answers;
+pub mod answers;
 mod checked;
 mod distances;
 mod finding;
 pub mod grown;
-mod quoted;
 mod recipes;
 mod sheet;
 mod windows;
@@ -14,7 +13,7 @@ mod windows;
 use crate::grown::Question;
 use crate::grown::answer_call;
 ghost use mathlib.Core.Path.{_≡_};
-ghost use Rattle.model.specs.FromC.{cSheet, cFind, cFindAt, cDistance, cQuote};
+ghost use Rattle.model.specs.FromC.{cSheet, cFind, cFindAt, cDistance};
 ghost use Rattle.pnl.specs.FromC.{returned};
 
 // Sheet: the runs and rings by rising name, six numbers each.
@@ -48,20 +47,4 @@ pub extern "C" fn pnl_distance(list: &[u8], from: u32, to: u32, answer: &mut [u8
     ensures { λ r. ⌜ returned (now (answer .exit)) r ≡ cDistance (now (list .entry)) from to (now (answer .entry)) ⌝ }
 {
     answer_call(list, Question::Distance(from, to), answer)
-}
-
-// Quote: the case of a pipe, 1 to 6 or 7 for a ring, and how many tags it would re-hang; or the refusal that it would meet.
-#[no_mangle]
-pub extern "C" fn pnl_quote(
-    list: &[u8],
-    first: u32,
-    second: u32,
-    length: u32,
-    volume: u32,
-    answer: &mut [u8],
-) -> i32
-    ensures { λ r. ⌜ returned (now (answer .exit)) r
-        ≡ cQuote (now (list .entry)) (record { first = first; second = second; len = length; volume = volume }) (now (answer .entry)) ⌝ }
-{
-    answer_call(list, Question::Quote(first, second, length, volume), answer)
 }

@@ -1,12 +1,12 @@
 // The terms of a quote, its pipe given as C gives it: a number above the largest vertex is never landed, which is 5 in whatever register.
-use crate::answers::answer_numbers;
-use crate::answers::refused;
 use counters::counts::Counts;
 use counters::numbers::CheckedVertex;
 use counters::numbers::Vertex;
 use counters::quotes::Terms;
 use counters::refusals::Refusal;
 use insertion::quoting::quote_edge;
+use pnl::answers::answer_numbers;
+use pnl::answers::refused;
 ghost use mathlib.Core.Path.{_≡_};
 ghost use mathlib.Core.List.{List};
 ghost use Prim.Native.Nat.{ℕ};

@@ -1,13 +1,13 @@
 use Rattle.pnl.proofs.Returns.{handed, value-kept}
 use Rattle.model.specs.FromC.{returnsRefusal, returnsTerms}
 use borrow.Author.Needs.{needs}
-use Rattle.pnl.proofs.quoted.answer_terms.Statement.{statement}
-use Rattle.pnl.proofs.quoted.answer_terms.Tie as tie
-use Rattle.pnl.proofs.quoted.answer_terms.Reads as reads
-use Rattle.pnl.proofs.quoted.answer_terms.Lts as lts
+use Rattle.costs.proofs.terms.answer_terms.Statement.{statement}
+use Rattle.costs.proofs.terms.answer_terms.Tie as tie
+use Rattle.costs.proofs.terms.answer_terms.Reads as reads
+use Rattle.costs.proofs.terms.answer_terms.Lts as lts
 use Rattle.counters.proofs.quotes.QuotedCase.number.Reads as number-reads
 use Rattle.pnl.proofs.answers.answer_numbers.Reads as answer-numbers-reads
 use Rattle.pnl.proofs.answers.refused.Reads as refused-reads
 
 -- src/quoted.rt:94:23
 enum-known-terms : tie.Need-enum-known-terms

@@ -2,14 +2,14 @@ use mathlib.Core.Path.{refl, sym, ap, _∙_}
 use native.Mathlib.Omega.{arith}
 use Rattle.counters.specs.Numbers.{asVertex}
 use Rattle.counters.proofs.Within.{within-is, within-none}
-use Rattle.pnl.proofs.QuoteLaws.{beyond, first-beyond}
+use Rattle.costs.proofs.QuoteLaws.{beyond, first-beyond}
 use borrow.Author.Needs.{needs}
-use Rattle.pnl.proofs.quoted.terms_checked.Statement.{statement}
-use Rattle.pnl.proofs.quoted.terms_checked.Tie as tie
-use Rattle.pnl.proofs.quoted.terms_checked.Reads as reads
-use Rattle.pnl.proofs.quoted.terms_checked.Lts as lts
+use Rattle.costs.proofs.terms.terms_checked.Statement.{statement}
+use Rattle.costs.proofs.terms.terms_checked.Tie as tie
+use Rattle.costs.proofs.terms.terms_checked.Reads as reads
+use Rattle.costs.proofs.terms.terms_checked.Lts as lts
 use Rattle.counters.proofs.numbers.Vertex.new.Reads as new-reads
-use Rattle.pnl.proofs.quoted.terms_to.Reads as terms-to-reads
+use Rattle.costs.proofs.terms.terms_to.Reads as terms-to-reads
 
 -- src/quoted.rt:73:9
 new-requires : tie.Need-new-requires

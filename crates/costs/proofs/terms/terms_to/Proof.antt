@@ -2,12 +2,12 @@ use mathlib.Core.Path.{refl, sym, ap, _∙_}
 use native.Mathlib.Omega.{arith}
 use Rattle.counters.specs.Numbers.{asVertex}
 use Rattle.counters.proofs.Within.{within-is, within-none}
-use Rattle.pnl.proofs.QuoteLaws.{beyond, second-beyond, terms-read}
+use Rattle.costs.proofs.QuoteLaws.{beyond, second-beyond, terms-read}
 use borrow.Author.Needs.{needs}
-use Rattle.pnl.proofs.quoted.terms_to.Statement.{statement}
-use Rattle.pnl.proofs.quoted.terms_to.Tie as tie
-use Rattle.pnl.proofs.quoted.terms_to.Reads as reads
-use Rattle.pnl.proofs.quoted.terms_to.Lts as lts
+use Rattle.costs.proofs.terms.terms_to.Statement.{statement}
+use Rattle.costs.proofs.terms.terms_to.Tie as tie
+use Rattle.costs.proofs.terms.terms_to.Reads as reads
+use Rattle.costs.proofs.terms.terms_to.Lts as lts
 use Rattle.counters.proofs.numbers.Vertex.new.Reads as new-reads
 use Rattle.insertion.proofs.quoting.quote_edge.Reads as quote-edge-reads
 
