@@ -39,10 +39,14 @@ pub enum CheckedVolume {
     OutOfRange,
 }
 
-// "0 means unknown in the register".
+// "0 means unknown in the register". What is above the bound is told first, although the constructor tells it too: of its three answers two are
+// left then, which are one volume (docs/SPEED.md).
 fn check_volume(volume: u32) -> CheckedVolume
     ensures { λ r. ⌜ asVolume r ≡ storedVolume (volumeOf volume) ⌝ }
 {
+    if Millilitres::MAX < volume {
+        return CheckedVolume::OutOfRange;
+    }
     match Millilitres::new(volume) {
         CheckedMillilitres::Known(known) => CheckedVolume::Is(known),
         CheckedMillilitres::Unknown => CheckedVolume::Is(Millilitres(Millilitres::UNKNOWN)),
@@ -81,22 +85,17 @@ fn check_edge(counts: Counts, first: u16, second: u16, length: u32, volume: u32)
     Checked::Passed(a, b, millimetres, millilitres)
 }
 
-// Edge e is written down, and nothing that another edge wrote is touched.
-fn record_edge(
-    ends: &mut [u16],
+// Length and volume of edge e are written down, and nothing that another edge wrote is touched.
+fn record_sizes(
     lengths: &mut [u32],
     volumes: &mut [u32],
     e: Edge,
-    a: Vertex,
-    b: Vertex,
     length: Millimetres,
     volume: Millilitres,
 )
-    ensures { λ _. ⌜ (now (ends .exit) ≡ setPair (now (ends .entry)) (e .0) (a .0) (b .0))
-        × (now (lengths .exit) ≡ set (now (lengths .entry)) (e .0) (length .0))
+    ensures { λ _. ⌜ (now (lengths .exit) ≡ set (now (lengths .entry)) (e .0) (length .0))
         × (now (volumes .exit) ≡ set (now (volumes .entry)) (e .0) (volume .0)) ⌝ }
 {
-    put_ends(ends, e, a, b);
     put_length(lengths, e, length);
     put_volume(volumes, e, volume);
 }
@@ -125,6 +124,8 @@ fn insert_edge(
 {
     // below MAX_EDGES: 23 was tested
     let e = Edge(counts.edges);
+    // before the labels, which look at neither: so they need not be kept meanwhile
+    record_sizes(lengths, volumes, e, length, volume);
     let case = case_of(
         class_of(degree_of(degrees, first)),
         class_of(degree_of(degrees, second)),
@@ -141,7 +142,7 @@ fn insert_edge(
         e,
         rings,
     );
-    record_edge(ends, lengths, volumes, e, first, second, length, volume);
+    put_ends(ends, e, first, second);
     let after = Counts {
         vertices: counts.vertices,
         edges: one_more16(counts.edges),

@@ -6,13 +6,16 @@ use Rattle.insertion.proofs.edges.check_volume.Statement.{statement}
 use Rattle.insertion.proofs.edges.check_volume.Tie as tie
 
 returns : tie.Need-returns
-returns c = ap storedVolume (ap asMillilitres (sym (c .before .known .given .1)) ∙ c .before .before .before .new .ensures)
+returns c = ap storedVolume (volume-above _ (c .if1 .taken))
 
 returns-2 : tie.Need-returns-2
-returns-2 c = ap storedVolume (ap asMillilitres (sym (c .enum-told .given .1)) ∙ c .before .before .new .ensures)
+returns-2 c = ap storedVolume (ap asMillilitres (sym (c .before .known .given .1)) ∙ c .before .before .before .new .ensures)
 
 returns-3 : tie.Need-returns-3
-returns-3 c = ap storedVolume (ap asMillilitres (sym (c .enum-told2 .given .1)) ∙ c .before .before .new .ensures)
+returns-3 c = ap storedVolume (ap asMillilitres (sym (c .enum-told .given .1)) ∙ c .before .before .new .ensures)
+
+returns-4 : tie.Need-returns-4
+returns-4 c = ap storedVolume (ap asMillilitres (sym (c .enum-told2 .given .1)) ∙ c .before .before .new .ensures)
 
 -- the needs in the order of the code
 pub check-volume-spec : {M : Type 1} → statement M
