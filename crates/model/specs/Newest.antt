@@ -8,7 +8,7 @@ use lib.Dec.{eqb, ltb}
 use Rattle.model.specs.Basics.{least, upTo}
 use Rattle.model.specs.Graph.{chainOf, nameOf}
 use Rattle.model.specs.Register.{Register, labelOf}
-use Rattle.model.specs.Queries.{Reply, read, found, measured, listed, wrote, quoted, committed, refuses}
+use Rattle.model.specs.Queries.{Reply, read, found, measured, listed, wrote, quoted, committed, reported, allotted, refuses}
 
 -- the labels on the chain or ring named d
 unfoldable pub innerLabels : Register → ℕ → List ℕ
@@ -70,4 +70,6 @@ chainIn (listed n) = none
 chainIn (wrote n) = none
 chainIn (quoted q) = none
 chainIn committed = none
+chainIn (reported n) = none
+chainIn allotted = none
 chainIn (refuses n) = none

@@ -15,7 +15,7 @@ use Rattle.model.specs.Register.{Register, empty}
 use Rattle.model.specs.Format.{Read, whole, written}
 use Rattle.model.specs.Queries.{read, refuses, wrote}
 use Rattle.model.specs.Tables.{Stored, cleared, held, storedOf}
-use Rattle.model.specs.Calls.{Answer, Call, Lent, Outcome, allFit, answer, effect, fills, gate, grows, readEffect, registerFor, step, writes, writing}
+use Rattle.model.specs.Calls.{Answer, Call, alone, Lent, Outcome, allFit, answer, effect, fills, gate, grows, readEffect, registerFor, step, writes, writing}
 use Rattle.model.specs.Notions.{Reachable}
 use Rattle.model.proofs.Registers.OnlyHeld.{only-held}
 use Rattle.model.proofs.Registers.Written.{written-grows}
@@ -45,8 +45,8 @@ barred-21 c l a h = rw (a, step, gate, h)
 
 -- ---- the bytes that are counted are the list
 
-front-is : (slice : List ℕ) (r : Register) (n : ℕ) → (answer (writing slice) r) .reply ≡ wrote n
-    → take n ((answer (writing slice) r) .slice) ≡ written r
+front-is : (slice : List ℕ) (r : Register) (n : ℕ) → (answer (writing slice) (alone r)) .reply ≡ wrote n
+    → take n ((answer (writing slice) (alone r)) .slice) ≡ written r
 unfolding answer fills inFront
 front-is slice r n = go (ltb (length slice) (length (written r)))
   where
@@ -68,7 +68,7 @@ module _ (l : Lent) (slice : List ℕ) (n : ℕ) (w : (step (writes slice) l) .r
   unfolding outcomeOf effect
   from-held r a h =
       let o = step-fits (writes slice) l r a h in
-      let e : (answer (writing slice) r) .reply ≡ wrote n = sym (ap (λ (x : Outcome). x .reply) o) ∙ w in
+      let e : (answer (writing slice) (alone r)) .reply ≡ wrote n = sym (ap (λ (x : Outcome). x .reply) o) ∙ w in
       let b : take n ((step (writes slice) l) .slice) ≡ written r = ap (λ (x : Outcome). take n (x .slice)) o ∙ front-is slice r n e in
       let s = only-held (l .stored) r h in
       ap (λ (xs : List ℕ). step (grows xs) k) b ∙ grow-written r (s .reachable) k f ∙ ap Grown (sym (s .stored-is))
