@@ -1,0 +1,2 @@
+pub mod Licence
+pub mod Parts
