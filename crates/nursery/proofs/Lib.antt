@@ -1,2 +1,5 @@
 pub mod Licence
 pub mod Parts
+pub mod Within
+pub mod Removal
+pub mod Effects

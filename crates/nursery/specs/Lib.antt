@@ -4,3 +4,4 @@ pub mod Removal
 pub mod Nursery
 pub mod Calls
 pub mod Series
+pub mod Notions
