@@ -3,3 +3,6 @@ pub mod Parts
 pub mod Within
 pub mod Removal
 pub mod Effects
+pub mod State
+pub mod Kept
+pub mod Whole
