@@ -6,3 +6,5 @@ pub mod Effects
 pub mod State
 pub mod Kept
 pub mod Whole
+pub mod Clearing
+pub mod Times
