@@ -8,3 +8,4 @@ pub mod Kept
 pub mod Whole
 pub mod Clearing
 pub mod Times
+pub mod Gate
