@@ -1,10 +1,10 @@
 -- A call on one house: the landings that it counts leave the register that it leaves, and its edges stay within the limit.
-use mathlib.Core.Path.{_≡_, refl, ap, subst}
+use mathlib.Core.Path.{_≡_, refl}
 use Prim.Native.Nat.{ℕ, _≤_, max}
 use native.Mathlib.Omega.{arith}
 use mathlib.Core.List.{List, []}
 use lib.ListN.{length}
-use Rattle.model.specs.Register.{Landed, Quote, Register, commit, empty, landed, refused}
+use Rattle.model.specs.Register.{Landed, Quote, commit, empty, landed, refused}
 use Rattle.model.specs.Calls.{House}
 use Rattle.model.specs.Series.{Landing, committedBy}
 use Rattle.model.proofs.Registers.Accepted.{within-lands}

@@ -12,17 +12,17 @@ use lib.Seq.{getD-set-other, set-getD}
 use lib.Dec.{ltb}
 use borrow.Author.Tests.{ltb-false, ltb-true, not-false}
 use Rattle.model.specs.Basics.{countFrom, if_then_else_, sum, upTo}
-use Rattle.model.specs.Register.{Register, empty}
+use Rattle.model.specs.Register.{Register}
 use Rattle.model.specs.Queries.{refuses}
 use Rattle.model.specs.Tables.{Counts, Stored, Tables, countsOf, fits, held, noCounts, storedOf, tablesOf}
 use Rattle.model.specs.Notions.{Reachable, history}
-use Rattle.model.proofs.Basics.Booleans.{and-true, or-false}
+use Rattle.model.proofs.Basics.Booleans.{and-true, if-either, or-false}
 use Rattle.model.proofs.Registers.Equality.{stored-parts}
 use Rattle.model.proofs.Registers.OnlyHeld.{only-held}
 use Rattle.model.proofs.Registers.Reachable.{reachable-empty}
 use Rattle.nursery.specs.Licence.{houses, licence, overfull, reserves}
 use Rattle.nursery.specs.Nursery.{Nursery, edgesIn, houseIn, putIn, putTables, registerIn, removalsIn, storedIn, tablesIn, verticesIn}
-use Rattle.nursery.specs.Calls.{Call, HouseCall, Lent, Outcome, allFit, anyDamaged, barred, bringsEight, does, edgesBut, effect, inHouse, isOwn, lentSlice, notGrown, nurseryFits, outOfPlace, ownOf, scratchAfter, step}
+use Rattle.nursery.specs.Calls.{Call, HouseCall, Lent, allFit, anyDamaged, barred, bringsEight, does, edgesBut, effect, inHouse, isOwn, lentSlice, notGrown, nurseryFits, outOfPlace, ownOf, scratchAfter, step}
 use Rattle.nursery.specs.Notions.{Untouched}
 use Rattle.nursery.proofs.Parts.{Sized, fits-sized, house-other, house-same, one-house}
 use Rattle.nursery.proofs.Effects.{does-house}
@@ -54,6 +54,21 @@ bars-21 c l f g = rw (f, g)
 pub bars-37 : (c : Call) (l : Lent) → allFit c l ≡ true → notGrown (ownOf c) (l .nursery) ≡ false → outOfPlace c (verticesIn (l .nursery)) ≡ true → barred c l ≡ some 37
 unfolding barred
 bars-37 c l f g p = rw (f, g, p)
+
+-- and nothing else
+abbrev AtGate : Option ℕ → Type 0
+AtGate none = Unit {0}
+AtGate (some x) = (x ≡ 25) ⊎ ((x ≡ 21) ⊎ (x ≡ 37))
+
+at-gate : (c : Call) (l : Lent) → AtGate (barred c l)
+unfolding barred
+at-gate c l =
+    if-either AtGate (not (allFit c l)) (some 25) _ (inl refl)
+    (if-either AtGate (notGrown (ownOf c) (l .nursery)) (some 21) _ (inr (inl refl))
+    (if-either AtGate (outOfPlace c (verticesIn (l .nursery))) (some 37) none (inr (inr refl)) tt))
+
+pub barred-by : (c : Call) (l : Lent) (x : ℕ) → barred c l ≡ some x → (x ≡ 25) ⊎ ((x ≡ 21) ⊎ (x ≡ 37))
+barred-by c l x e = subst AtGate e (at-gate c l)
 
 damaged-found : (own : Option ℕ) (n : Nursery) (g : ℕ) → isOwn own g ≡ false → held (storedIn g n) ≡ none → (hs : List ℕ) → Mem g hs → anyDamaged own n hs ≡ true
 unfolding anyDamaged

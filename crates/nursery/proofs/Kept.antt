@@ -4,7 +4,7 @@ use mathlib.Core.Logic.{_≢_}
 use Prim.Native.Nat.{ℕ, zero, suc, _≤_, _<_, max}
 use native.Mathlib.Omega.{arith}
 use native.Mathlib.Decide.{ℕ-discrete, decLt}
-use mathlib.Core.Bool.{Bool, true, false, not, _&&_, _||_}
+use mathlib.Core.Bool.{Bool, true, false, not, _&&_}
 use mathlib.Core.List.{List, [], _∷_, map}
 use lib.ListN.{length, getD, set, length-set}
 use lib.Seq.{getD-set-same, getD-set-other}
@@ -12,22 +12,20 @@ use lib.Dec.{eqb, ltb}
 use borrow.Author.Tests.{eq-eqb, ne-eqb, eqb-true, ltb-true, ltb-false, not-false}
 use Rattle.model.specs.Basics.{if_then_else_, sum}
 use Rattle.model.specs.Register.{Register, empty}
-use Rattle.model.specs.Queries.{refuses}
 use Rattle.model.specs.Tables.{Counts, Tables, countsOf, fits, tablesOf}
-use Rattle.model.specs.Calls.{House}
 use Rattle.model.specs.Series.{Landing}
 use Rattle.model.specs.Notions.{Reachable, history}
 use Rattle.model.proofs.Basics.Booleans.{and-true, or-false}
 use Rattle.model.proofs.Registers.Reachable.{founded}
 use Rattle.model.proofs.Series.Landings.{LeftBy}
-use Rattle.nursery.specs.Licence.{houses, licence, limitOf, reserves}
+use Rattle.nursery.specs.Licence.{houses, licence, reserves}
 use Rattle.nursery.specs.Nursery.{Nursery, putIn, tablesIn, withShares}
-use Rattle.nursery.specs.Calls.{Call, Effect, HouseCall, anySome, bringsEight, does, effect, inHouse, outOfPlace, setsShares, step}
+use Rattle.nursery.specs.Calls.{Call, HouseCall, anySome, bringsEight, does, effect, inHouse, outOfPlace, setsShares, step}
 use Rattle.nursery.specs.Series.{Made, Site, accepts, acceptsIn, acceptsMade, admitted, afterCall, answered, edgesAt, houseAt, limitAt, madeFits, makes, putAt, registerAt, replyTo, settles, sharedOut, verticesAt}
 use Rattle.nursery.proofs.Licence.{AllZero, own-within, shares-alone, within-limit, without-own}
 use Rattle.nursery.proofs.Parts.{house-other, house-own, house-sized, one-house}
 use Rattle.nursery.proofs.Effects.{does-house}
-use Rattle.nursery.proofs.State.{Holds, Sound, as-many, barred-is, edges-at, eight-edges, house-is}
+use Rattle.nursery.proofs.State.{Holds, Sound, as-many, barred-is, edges-at, house-is}
 
 -- ---- another register in house h
 

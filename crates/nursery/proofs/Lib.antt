@@ -9,3 +9,4 @@ pub mod Whole
 pub mod Clearing
 pub mod Times
 pub mod Gate
+pub mod OnLicence

@@ -3,7 +3,7 @@ use mathlib.Core.Path.{_≡_, refl, sym, ap, ap₂, _∙_, subst}
 use Prim.Native.Nat.{ℕ, zero, suc, _+_, _≤_, _<_}
 use native.Mathlib.Omega.{arith}
 use native.Mathlib.Decide.{decLt}
-use mathlib.Core.Bool.{Bool, true, false, not, _&&_, _||_}
+use mathlib.Core.Bool.{Bool, true, false, not, _&&_}
 use mathlib.Core.Option.{Option, none, some}
 use mathlib.Core.List.{List, [], _∷_, map}
 use lib.ListN.{length, getD, set, length-map, getD-replicate, List·getD-map}
@@ -11,7 +11,7 @@ use lib.Seq.{set-out}
 use borrow.Author.Tests.{le-ltb}
 use Rattle.model.specs.Basics.{countFrom, if_then_else_, sum, upTo}
 use Rattle.model.specs.Register.{Register, empty}
-use Rattle.model.specs.Tables.{Counts, Stored, Tables, cleared, countsOf, fits, held, noCounts, storedOf, tablesOf}
+use Rattle.model.specs.Tables.{Counts, Tables, cleared, countsOf, fits, held, noCounts, storedOf, tablesOf}
 use Rattle.model.specs.Calls.{House}
 use Rattle.model.specs.Notions.{Reachable}
 use Rattle.model.proofs.Basics.Counting.{AllBelow}
@@ -21,7 +21,7 @@ use Rattle.model.proofs.Registers.Kept.{kept-held}
 use Rattle.model.proofs.Registers.Reachable.{kept, reachable-empty}
 use Rattle.nursery.specs.Licence.{houses, licence, limitOf, overfull, reserves}
 use Rattle.nursery.specs.Nursery.{Nursery, edgesIn, houseIn, limitIn, noHouses, registerIn, removalsIn, storedIn, tablesIn, verticesIn}
-use Rattle.nursery.specs.Calls.{Call, Lent, allFit, anyDamaged, barred, bringsEight, edgesBut, isOwn, notGrown, outOfPlace, ownOf}
+use Rattle.nursery.specs.Calls.{Call, allFit, anyDamaged, barred, bringsEight, edgesBut, isOwn, notGrown, outOfPlace, ownOf}
 use Rattle.nursery.specs.Series.{Site, edgesAt, emptySite, houseAt, limitAt, registerAt, removalsAt, verticesAt}
 use Rattle.nursery.proofs.Licence.{without-own}
 use Rattle.nursery.proofs.Parts.{Sized, cleared-sized, house-cleared, sized-fits}

@@ -1,12 +1,12 @@
 -- Demand 3, whole: for every series of calls for eight houses, removals and shares among them, of each house.
-use mathlib.Core.Path.{_≡_, refl, sym, ap, _∙_, subst}
+use mathlib.Core.Path.{_≡_, sym, ap, _∙_, subst}
 use Prim.Native.Nat.{ℕ, _≤_, _<_}
 use native.Mathlib.Omega.{arith}
-use mathlib.Core.Bool.{true, not, _&&_}
+use mathlib.Core.Bool.{true}
 use mathlib.Core.List.{List, [], _∷_}
 use lib.ListN.{length}
 use borrow.Author.Tests.{lt-ltb}
-use Rattle.model.specs.Basics.{if_then_else_, sum}
+use Rattle.model.specs.Basics.{sum}
 use Rattle.model.specs.Register.{Register}
 use Rattle.model.specs.Tables.{Stored, Tables, countsOf, fits, storedOf}
 use Rattle.model.specs.Calls.{Ask, answer}

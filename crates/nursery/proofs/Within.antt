@@ -60,7 +60,7 @@ vertex-22 r x h = go (leb maxVertices (r .vertices)) h
     go true g = cc
     go false g = absurd (not-refused x (withVertex r) (sym g))
 
-edge-refused : (limit : ℕ) (r : Register) (e : Edge) (x : ℕ) → landEdgeWithin limit r e ≡ refused x → edgeRefusal limit r e ≡ some x
+pub edge-refused : (limit : ℕ) (r : Register) (e : Edge) (x : ℕ) → landEdgeWithin limit r e ≡ refused x → edgeRefusal limit r e ≡ some x
 edge-refused limit r e x h = go (edgeRefusal limit r e) refl (sym (land-edge-by limit r e) ∙ h)
   where
     same : (y : ℕ) → refused y ≡ refused x → y ≡ x
