@@ -8,13 +8,14 @@ use mathlib.Core.Bool.{Bool, true, false, not, _&&_, _||_}
 use mathlib.Core.Option.{Option, none, some, Option·none-ne-some}
 use mathlib.Core.List.{List, [], _∷_, List·Memᴰ as Mem, List·Memᴰ·head as at-head, List·Memᴰ·tail as in-tail, List·Memᴰ·cases-cons as mem-cases, List·Memᴰ·not-nil as mem-nil}
 use lib.ListN.{length, getD, set}
-use lib.Seq.{getD-set-other, set-getD}
+use lib.Seq.{getD-set-other, getD-set-same, set-getD}
 use lib.Dec.{ltb}
 use borrow.Author.Tests.{ltb-false, ltb-true, not-false}
 use Rattle.model.specs.Basics.{countFrom, if_then_else_, sum, upTo}
 use Rattle.model.specs.Register.{Register}
 use Rattle.model.specs.Queries.{refuses}
 use Rattle.model.specs.Tables.{Counts, Stored, Tables, countsOf, fits, held, noCounts, storedOf, tablesOf}
+use Rattle.model.specs.Calls.{Ask}
 use Rattle.model.specs.Notions.{Reachable, history}
 use Rattle.model.proofs.Basics.Booleans.{and-true, if-either, or-false}
 use Rattle.model.proofs.Registers.Equality.{stored-parts}
@@ -22,9 +23,9 @@ use Rattle.model.proofs.Registers.OnlyHeld.{only-held}
 use Rattle.model.proofs.Registers.Reachable.{reachable-empty}
 use Rattle.nursery.specs.Licence.{houses, licence, overfull, reserves}
 use Rattle.nursery.specs.Nursery.{Nursery, edgesIn, houseIn, putIn, putTables, registerIn, removalsIn, storedIn, tablesIn, verticesIn}
-use Rattle.nursery.specs.Calls.{Call, HouseCall, Lent, allFit, anyDamaged, barred, bringsEight, does, edgesBut, effect, inHouse, isOwn, lentSlice, notGrown, nurseryFits, outOfPlace, ownOf, scratchAfter, step}
+use Rattle.nursery.specs.Calls.{Call, HouseCall, Lent, allFit, asks, grownBy, anyDamaged, barred, bringsEight, does, edgesBut, effect, inHouse, isOwn, lentSlice, notGrown, nurseryFits, outOfPlace, ownOf, scratchAfter, step}
 use Rattle.nursery.specs.Notions.{Untouched}
-use Rattle.nursery.proofs.Parts.{Sized, fits-sized, house-other, house-same, one-house}
+use Rattle.nursery.proofs.Parts.{Sized, fits-sized, house-other, house-own, house-same, one-house}
 use Rattle.nursery.proofs.Effects.{does-house}
 
 -- ---- the two ways of a call
@@ -213,6 +214,17 @@ nursery-parts : {t t′ : Tables} {c c′ : List Counts} {k k′ x x′ : List �
     → _≡_ {A = Nursery} (record { tables = t; heads = c; removals = k; shares = x }) (record { tables = t′; heads = c′; removals = k′; shares = x′ })
 nursery-parts p q r s = λ i. record { tables = p i; heads = q i; removals = r i; shares = s i }
 
+-- what is put there is stored there
+pub stored-put : (h : ℕ) (r : Register) (k : ℕ) (n : Nursery) → h < houses → length (n .heads) ≡ houses → Sized houses (n .tables) → Reachable r
+    → storedIn h (putIn h r k n) ≡ storedOf r
+unfolding storedIn putIn storedOf
+stored-put h r k n l e s c =
+    stored-parts (house-own h (tablesOf r) (n .tables) l (one-house r c) s) (getD-set-same (n .heads) h (countsOf r) noCounts (omega (arith, l, e)))
+
+pub removals-put : (h : ℕ) (r : Register) (k : ℕ) (n : Nursery) → h < length (n .removals) → removalsIn h (putIn h r k n) ≡ k
+unfolding removalsIn putIn
+removals-put h r k n l = getD-set-same (n .removals) h k 0 l
+
 -- what is held put there again: for a call that only reads
 pub put-same : (h : ℕ) (n : Nursery) (r : Register) → held (storedIn h n) ≡ some r → putIn h r (removalsIn h n) n ≡ n
 unfolding putIn storedIn removalsIn storedOf
@@ -237,3 +249,8 @@ quiet-step h c l i r k = go (barred (inHouse h c) l) refl
     go none e =
         let o = is-open (inHouse h c) l e in
         rw (step-open (inHouse h c) l e, r, k) (put-same h (l .nursery) _ (o .held-all h (open-inside h c l o) i))
+
+-- a question does
+pub question-quiet : (h : ℕ) (q : Ask) (l : Lent) → (step (inHouse h (asks q)) l) .lent .nursery ≡ l .nursery
+unfolding ownOf grownBy isOwn effect houseIn
+question-quiet h q l = quiet-step h (asks q) l refl refl refl

@@ -10,3 +10,4 @@ pub mod Clearing
 pub mod Times
 pub mod Gate
 pub mod OnLicence
+pub mod InSeries
