@@ -14,7 +14,7 @@ use borrow.Author.Tests.{ltb-false, ltb-true, not-false}
 use Rattle.model.specs.Basics.{countFrom, if_then_else_, sum, upTo}
 use Rattle.model.specs.Register.{Register}
 use Rattle.model.specs.Queries.{refuses}
-use Rattle.model.specs.Tables.{Counts, Stored, Tables, countsOf, fits, held, noCounts, storedOf, tablesOf}
+use Rattle.model.specs.Tables.{Counts, Stored, Tables, cleared, countsOf, fits, held, noCounts, storedOf, tablesOf}
 use Rattle.model.specs.Calls.{Ask}
 use Rattle.model.specs.Notions.{Reachable, history}
 use Rattle.model.proofs.Basics.Booleans.{and-true, if-either, or-false}
@@ -23,7 +23,7 @@ use Rattle.model.proofs.Registers.OnlyHeld.{only-held}
 use Rattle.model.proofs.Registers.Reachable.{reachable-empty}
 use Rattle.nursery.specs.Licence.{houses, licence, overfull, reserves}
 use Rattle.nursery.specs.Nursery.{Nursery, edgesIn, houseIn, putIn, putTables, registerIn, removalsIn, storedIn, tablesIn, verticesIn}
-use Rattle.nursery.specs.Calls.{Call, HouseCall, Lent, allFit, asks, grownBy, anyDamaged, barred, bringsEight, does, edgesBut, effect, inHouse, isOwn, lentSlice, notGrown, nurseryFits, outOfPlace, ownOf, scratchAfter, step}
+use Rattle.nursery.specs.Calls.{Call, Effect, HouseCall, Lent, allFit, asks, grownBy, anyDamaged, barred, bringsEight, does, edgesBut, effect, inHouse, isOwn, lentSlice, notGrown, nurseryFits, outOfPlace, ownOf, scratchAfter, step}
 use Rattle.nursery.specs.Notions.{Untouched}
 use Rattle.nursery.proofs.Parts.{Sized, fits-sized, house-other, house-own, house-same, one-house}
 use Rattle.nursery.proofs.Effects.{does-house}
@@ -33,6 +33,12 @@ use Rattle.nursery.proofs.Effects.{does-house}
 pub step-open : (c : Call) (l : Lent) → barred c l ≡ none → step c l ≡ does c (l .nursery)
 unfolding step
 step-open c l e = rw (e, step)
+
+-- a call for a house, by its effect
+pub step-effect : (h : ℕ) (c : HouseCall) (l : Lent) (x : Effect) → barred (inHouse h c) l ≡ none → effect c (houseIn h (l .nursery)) ≡ x
+    → step (inHouse h c) l ≡ record { lent = record { nursery = putIn h (x .leaves) (x .removals) (l .nursery); scratch = cleared }; slice = x .slice; reply = x .reply }
+unfolding does
+step-effect h c l x e q = step-open (inHouse h c) l e ∙ rw q
 
 -- 25, 21 and 37: "nothing changed"
 pub step-barred : (c : Call) (l : Lent) (x : ℕ) → barred c l ≡ some x

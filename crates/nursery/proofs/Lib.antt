@@ -11,3 +11,4 @@ pub mod Times
 pub mod Gate
 pub mod OnLicence
 pub mod InSeries
+pub mod Taking
