@@ -12,3 +12,4 @@ pub mod Gate
 pub mod OnLicence
 pub mod InSeries
 pub mod Taking
+pub mod Quoting

@@ -9,7 +9,7 @@ use mathlib.Core.Option.{Option, none, some}
 use lib.ListN.{length}
 use Rattle.model.specs.Basics.{inFront}
 use Rattle.model.specs.Register.{Register}
-use Rattle.model.specs.Queries.{Reply, refuses, reported}
+use Rattle.model.specs.Queries.{refuses, reported}
 use Rattle.model.specs.Tables.{cleared, held, storedOf}
 use Rattle.model.specs.Calls.{House}
 use Rattle.model.proofs.Registers.Kept.{kept-held}
@@ -17,7 +17,7 @@ use Rattle.model.proofs.Registers.Reachable.{founded, kept}
 use Rattle.nursery.specs.Licence.{houses}
 use Rattle.nursery.specs.Removal.{Change, Removed, changeNumbers, keptWith, maxRemovals, remove, removed}
 use Rattle.nursery.specs.Nursery.{Nursery, houseIn, putIn, registerIn, removalsIn, storedIn}
-use Rattle.nursery.specs.Calls.{Lent, Outcome, barred, does, effect, grownBy, inHouse, isOwn, lentSlice, ownOf, removeEffect, removes, sliceOf, step}
+use Rattle.nursery.specs.Calls.{Lent, Outcome, barred, effect, grownBy, inHouse, isOwn, lentSlice, ownOf, removeEffect, removes, sliceOf, step}
 use Rattle.nursery.specs.Notions.{TakenOut}
 use Rattle.nursery.proofs.Removal.{RemovalIs, RemovedOf, removal-is, taken-out}
 use Rattle.nursery.proofs.Gate.{Open, is-open, open-inside, put-same, register-reachable, removals-put, step-barred, step-effect, stored-put}
