@@ -125,10 +125,12 @@ overfull-21 c l o f = bars-21 c l f (rw o (or-true (anyDamaged (ownOf c) (l .nur
 
 pub record Open (c : Call) (l : Lent) : Type 0 where
   pub fit : allFit c l ≡ true
+  pub nursery-fits : nurseryFits (l .nursery) ≡ true
   pub sized : Sized houses (l .nursery .tables)
   pub eight-shares : length (l .nursery .shares) ≡ houses
   pub scratch-fits : fits (l .scratch) ≡ true
   pub held-all : (g : ℕ) → g < houses → isOwn (ownOf c) g ≡ false → held (storedIn g (l .nursery)) ≡ some (registerIn g (l .nursery))
+  pub none-damaged : anyDamaged (ownOf c) (l .nursery) (upTo houses) ≡ false
   pub within : sum (reserves (l .nursery .shares) (edgesBut (ownOf c) (edgesIn (l .nursery)))) ≤ licence
   pub in-place : outOfPlace c (verticesIn (l .nursery)) ≡ false
 
@@ -158,10 +160,12 @@ is-open c l e =
     let d = or-false (anyDamaged (ownOf c) n (upTo houses)) (ltb licence (sum (reserves (n .shares) (edgesBut (ownOf c) (edgesIn n))))) (q .0) in
     record {
       fit = fit;
+      nursery-fits = g .0;
       sized = (fits-sized n (g .0)) .0;
       eight-shares = (fits-sized n (g .0)) .1;
       scratch-fits = g .1;
       held-all = λ h m i. not-none h n (λ z. no-some 21 (sym (damaged-21 c l h m i z fit) ∙ e));
+      none-damaged = d .0;
       within = ltb-false licence _ (d .1);
       in-place = t .0;
     }

@@ -13,3 +13,4 @@ pub mod OnLicence
 pub mod InSeries
 pub mod Taking
 pub mod Quoting
+pub mod Writing

@@ -48,10 +48,10 @@ edges-eight : (n : Nursery) → length (n .heads) ≡ houses → length (edgesIn
 unfolding edgesIn
 edges-eight n e = length-map (n .heads) (λ (c : Counts). c .edges) ∙ e
 
-as-many : (n : Nursery) (h : ℕ) → Among h n → length (n .shares) ≡ length (edgesIn n)
+pub as-many : (n : Nursery) (h : ℕ) → Among h n → length (n .shares) ≡ length (edgesIn n)
 as-many n h a = a .eight-shares ∙ sym (a .eight-edges)
 
-below-eight : (n : Nursery) (h : ℕ) → Among h n → h < length (n .shares)
+pub below-eight : (n : Nursery) (h : ℕ) → Among h n → h < length (n .shares)
 below-eight n h a = omega (arith, a .inside, a .eight-shares)
 
 -- a grow counts its house as empty, and for any other call the sum falls if it is
@@ -245,7 +245,7 @@ unfolding putIn
 shares-put h r k n = refl
 
 -- the edges of a house that is held, as its head counts them
-edges-held : (h : ℕ) (n : Nursery) (r : Register) → held (storedIn h n) ≡ some r → getD (edgesIn n) h 0 ≡ length (r .edges)
+pub edges-held : (h : ℕ) (n : Nursery) (r : Register) → held (storedIn h n) ≡ some r → getD (edgesIn n) h 0 ≡ length (r .edges)
 unfolding edgesIn noCounts storedIn storedOf countsOf
 edges-held h n r e =
     List·getD-map (λ (c : Counts). c .edges) (n .heads) h noCounts
