@@ -1,3 +1,5 @@
+pub mod Computing
+pub mod Values
 pub mod Licence
 pub mod Parts
 pub mod Within

@@ -5,3 +5,4 @@ pub mod Nursery
 pub mod Calls
 pub mod Series
 pub mod Notions
+pub mod Values
