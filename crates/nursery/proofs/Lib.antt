@@ -1,5 +1,6 @@
 pub mod Computing
 pub mod Values
+pub mod Computed
 pub mod Licence
 pub mod Parts
 pub mod Within
