@@ -9,7 +9,7 @@ use Rattle.model.specs.Register.{Quote, Register, declines, empty, offers}
 use Rattle.model.specs.Format.{listOf, stopped, whole}
 use Rattle.model.specs.Distance.{joined, notJoined}
 use Rattle.model.specs.Queries.{Reply, allotted, committed, found, measured, quoted, read, refuses, reported, sheet, sheetNumbers}
-use Rattle.model.specs.Tables.{Counts, Tables, cleared, countsOf, edgeLengths}
+use Rattle.model.specs.Tables.{Tables, cleared, countsOf, edgeLengths}
 use Rattle.model.specs.Series.{Landing, landedBy, landedEdges, relabelledBy}
 use Rattle.model.specs.Notions.{timesRelabelled}
 use Rattle.model.specs.Values.{edge, fifth, four, house, loop, quoteOf, triangle}

@@ -17,3 +17,4 @@ pub mod InSeries
 pub mod Taking
 pub mod Quoting
 pub mod Writing
+pub mod Applied

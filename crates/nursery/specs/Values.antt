@@ -5,18 +5,13 @@ use mathlib.Core.Bool.{true, false}
 use mathlib.Core.List.{List, [], _∷_, _++_}
 use lib.ListN.{length, replicate}
 use Rattle.model.specs.Basics.{maxEdges}
-use Rattle.model.specs.Graph.{Edge}
-use Rattle.model.specs.Register.{Quote, declines, empty, offers}
-use Rattle.model.specs.Format.{listOf, growList, stopped, whole}
-use Rattle.model.specs.Queries.{Reply, allotted, committed, found, listed, quoted, read, refuses, reported, sheetNumbers, wrote}
-use Rattle.model.specs.Tables.{Counts, Tables, cleared, countsOf, noCounts}
-use Rattle.model.specs.Calls.{House, alone}
-use Rattle.model.specs.Series.{landedEdges, relabelledBy}
-use Rattle.model.specs.Values.{edge, house, houseEdges, quoteOf}
-use Rattle.nursery.specs.Licence.{limitOf, mayLand, overfull, reserves}
-use Rattle.nursery.specs.Removal.{maxRemovals, without}
-use Rattle.nursery.specs.Calls.{Call, Effect, HouseCall, commits, effect, finds, findsAt, grows, inHouse, lands, quotes, removes, setsShares, sheets}
-use Rattle.nursery.specs.Series.{Made, Site, after, afterCall, emptySite, houseAt, registerAt, replyTo, since}
+use Rattle.model.specs.Format.{listOf, growList}
+use Rattle.model.specs.Queries.{refuses, reported, sheetNumbers}
+use Rattle.model.specs.Tables.{countsOf}
+use Rattle.model.specs.Calls.{House}
+use Rattle.model.specs.Values.{edge, house}
+use Rattle.nursery.specs.Licence.{limitOf, mayLand, overfull}
+use Rattle.nursery.specs.Calls.{Effect, effect, grows, lands, removes}
 
 -- ---- S-10: the licence of one house
 
