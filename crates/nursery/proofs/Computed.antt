@@ -203,6 +203,8 @@ pub record Shared : Type 0 where
   pub no-others : length (since 0 shared emptySite []) ≡ 0
   pub removals : (after shared emptySite) .removals ≡ 0 ∷ 1 ∷ 1 ∷ 0 ∷ 0 ∷ 0 ∷ 0 ∷ 0 ∷ []
   pub shares : (after shared emptySite) .shares ≡ 0 ∷ 0 ∷ 90 ∷ 0 ∷ 0 ∷ 0 ∷ 0 ∷ 4000 ∷ []
+  -- shares are set only if no house has a fitting, pipes or not
+  pub fittings-alone : settled (made (inHouse 5 (grows (listOf 1 []))) ∷ made (setsShares (eight [])) ∷ []) emptySite ≡ read whole ∷ refuses 37 ∷ []
   -- a grow takes its house's count back to 0, and leaves the shares
   pub grown-again : (after (shared ++ (here (grows four) ∷ [])) emptySite) .removals ≡ 0 ∷ 1 ∷ 0 ∷ 0 ∷ 0 ∷ 0 ∷ 0 ∷ 0 ∷ []
 
@@ -295,5 +297,6 @@ shares =
       no-others = refl;
       removals = refl;
       shares = refl;
+      fittings-alone = refl;
       grown-again = refl;
     }

@@ -105,10 +105,10 @@ module _ (n : Nursery) (h : ℕ) (a : Among h n) where
   pub below-share : (r : Register) (e : Edge) → length (r .edges) < getD (n .shares) h 0
       → (edgeRefusal (limitIn h n) r e ≡ edgeRefusal maxEdges r e) × (edgeRefusal (limitIn h n) r e ≢ some 36) × (edgeRefusal (limitIn h n) r e ≢ some 23)
   below-share r e b = (
-      refusal-below (limitIn h n) r e (omega (arith, b, share-below)),
-      λ z. omega (arith, (edge-full (limitIn h n) r e 36 z) .0 refl, b, share-below),
-      λ z. omega (arith, (edge-full (limitIn h n) r e 23 z) .1 refl, b, share-below, limit-below),
-    )
+    refusal-below (limitIn h n) r e (omega (arith, b, share-below)),
+    λ z. omega (arith, (edge-full (limitIn h n) r e 36 z) .0 refl, b, share-below),
+    λ z. omega (arith, (edge-full (limitIn h n) r e 23 z) .1 refl, b, share-below, limit-below),
+  )
 
   -- who is turned away has its share
   has-share : (edges x : ℕ) → ForLimit x → Full (limitIn h n) edges x → getD (n .shares) h 0 ≤ edges

@@ -27,6 +27,7 @@ removals =
       reported-three = refl;
       head = refl;
       rows = refl;
+      later-move = refl;
       one-birth = refl;
       counted = refl;
       too-short = refl;

@@ -137,8 +137,14 @@ module _ (h : ℕ) (slice : List ℕ) (l : Lent) (k : ℕ) (w : (step (inHouse h
       let o = open-write in
       let a = among h (writes slice) l heads o in
       let less = without-own h (n .shares) (edgesIn n) (as-many n h a) (below-eight n h a) in
-      rw (same, o .nursery-fits, f, less-damaged (some h) n (upTo houses) (o .none-damaged),
-        le-ltb licence (sum (reserves (n .shares) (set (edgesIn n) h 0))) (omega (arith, less, o .within)), lt-ltb h houses inside)
+      rw (
+        same,
+        o .nursery-fits,
+        f,
+        less-damaged (some h) n (upTo houses) (o .none-damaged),
+        le-ltb licence (sum (reserves (n .shares) (set (edgesIn n) h 0))) (omega (arith, less, o .within)),
+        lt-ltb h houses inside,
+      )
 
   pub grows-back-there : (m : Lent) → length (l .nursery .heads) ≡ houses → m .nursery ≡ l .nursery → fits (m .scratch) ≡ true
       → let c = inHouse h (grows (take k ((step (inHouse h (writes slice)) l) .slice))) in

@@ -57,6 +57,8 @@ pub record Removals : Type 0 where
   -- births and re-hung total are those of the new landing, and pipe 5 is now pipe 4
   pub head : countsOf ((removing 4 9 house) .leaves) ≡ record { vertices = 7; edges = 5; blocks = 2; relabellings = 0 }
   pub rows : sheetNumbers ((removing 4 9 house) .leaves) ≡ 0 ∷ 0 ∷ 2 ∷ 1 ∷ 3000 ∷ 0 ∷ 2 ∷ 5 ∷ 6 ∷ 2 ∷ 2100 ∷ 0 ∷ []
+  -- without pipe 1 the later ones move down by one, and so do the births
+  pub later-move : (removing 1 9 house) .slice ≡ 1 ∷ 8192 ∷ 0 ∷ 2 ∷ 8193 ∷ 0 ∷ 4 ∷ 8195 ∷ 8192 ∷ []
   pub one-birth : countsOf ((removing 1 9 house) .leaves) ≡ record { vertices = 7; edges = 5; blocks = 1; relabellings = 0 }
   pub counted : (removing 4 9 house) .removals ≡ 4
   -- a slice too short gives 9, and changes nothing
