@@ -1,6 +1,6 @@
--- Demand 3 of six series: what its claim comes to where lists stop, calls are refused and the register is cleared in between; where a ring is closed and
--- tapped; where one stands at the end; where pipes are committed; where houses share a licence and pipes are taken out; and that its bound needs both
--- factors.
+-- Demand 3 of six series: what its claim comes to where lists stop, calls are refused and the register is cleared in between; where a ring is
+-- closed and tapped; where one stands at the end; where pipes are committed; where houses share a licence and pipes are taken out; and that its
+-- bound needs both factors.
 use mathlib.Core.Path.{_≡_, refl, ap, _∙_, subst}
 use Prim.Native.Nat.{ℕ, _*_, _≤_}
 use native.Mathlib.Omega.{arith}

@@ -22,7 +22,7 @@ pub record Grows (h : ℕ) (m : Made) (s : Site) : Type 0 where
   pub call-is : m .call ≡ inHouse h (grows bytes)
   pub not-refused : admitted m s ≡ true
 
-pub record TakesOut (h : ℕ) (m : Made) (s : Site) : Type 0 where
+pub record Removes (h : ℕ) (m : Made) (s : Site) : Type 0 where
   pub edge : ℕ
   pub slice : List ℕ
   pub call-is : m .call ≡ inHouse h (removes edge slice)
@@ -32,7 +32,7 @@ pub record TakesOut (h : ℕ) (m : Made) (s : Site) : Type 0 where
   pub takes : remove (houseAt h s) edge (length slice) ≡ removed left changes
 
 abbrev pub Clears : ℕ → Made → Site → Type 0
-Clears h m s = Grows h m s ⊎ TakesOut h m s
+Clears h m s = Grows h m s ⊎ Removes h m s
 
 -- none of the calls clears house h
 abbrev pub NoneClears : ℕ → List Made → Site → Type 0

@@ -1,5 +1,5 @@
--- Document 02, S-5, of the calls for a house, whatever they are lent: a commit of a quote, while the houses are still the same, does what it said; and a
--- commit that is refused leaves them.
+-- Document 02, S-5, of the calls for a house, whatever they are lent: a commit of a quote, while the houses are still the same, does what it
+-- said; and a commit that is refused leaves them.
 use mathlib.Core.Path.{_≡_, refl, sym, ap, _∙_}
 use mathlib.Core.Logic.{_≢_}
 use Prim.Native.Nat.{ℕ, _+_}

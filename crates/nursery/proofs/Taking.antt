@@ -1,5 +1,5 @@
--- Document 02, S-11, of the calls, whatever they are lent: a removal that is reported leaves what landing the remaining pipes leaves, counted and
--- told; one that is refused leaves all as it was.
+-- Document 02, S-11, of the calls, whatever they are lent: a removal that is reported leaves what landing the remaining pipes leaves, counted
+-- and told; one that is refused leaves all as it was.
 use mathlib.Core.Path.{_≡_, refl, sym, ap, _∙_, subst}
 use mathlib.Core.Logic.{_≢_}
 use Prim.Native.Nat.{ℕ, _+_, _<_}

@@ -1,5 +1,5 @@
--- What holds of the calls for eight houses over whatever is lent: theorems 12 and 13, each a record of claims in the words of specs/, and its proof. The
--- theorems on every register stand in `model`. docs/THEORY.md has the argument.
+-- What holds of the calls for eight houses over whatever is lent: theorems 12 and 13, each a record of claims in the words of specs/, and its
+-- proof. The theorems on every register stand in `model`. docs/THEORY.md has the argument.
 use mathlib.Core.Path.{_≡_}
 use mathlib.Core.Logic.{_≢_}
 use Prim.Native.Nat.{ℕ, _≤_, _<_}
@@ -26,10 +26,10 @@ use Rattle.nursery.proofs.Taking.{RemovedAs, refused-keeps, reported-as
 
 -- ---- 12. The licence
 
--- Document 02, S-10. Where nothing bars a call for a house, the limit of the house says what the paper says: with k pipes it may land another exactly if k is
--- below the limit. Its share is within the limit, and so a house is turned away for the limit, by a list, a quote or a commit, only if it has its share. The
--- sum of the larger of share and pipes never passes 4,096. No call for one house alters another. 21 looks at every house, but at a grow's own, and at the
--- sum; and 25, 21 and 37 change nothing. Lists that are landed without a licence never meet 36.
+-- Document 02, S-10. Where nothing bars a call for a house, the limit of the house says what the paper says: with k pipes it may land another
+-- exactly if k is below the limit. Its share is within the limit, and so a house is turned away for the limit, by a list, a quote or a commit,
+-- only if it has its share. The sum of the larger of share and pipes never passes 4,096. No call for one house alters another. 21 looks at every
+-- house, but at a grow's own, and at the sum; and 25, 21 and 37 change nothing. Lists that are landed without a licence never meet 36.
 pub record OnLicence (l : Lent) : Type 0 where
   pub may-land : (h : ℕ) (c : HouseCall) → barred (inHouse h c) l ≡ none → (k : ℕ) → k ≤ limitIn h (l .nursery)
       → mayLand h (l .nursery .shares) (set (edgesIn (l .nursery)) h k) ≡ ltb k (limitIn h (l .nursery))
@@ -55,8 +55,8 @@ pub record OnLicence (l : Lent) : Type 0 where
 
 -- ---- 13. Taking pipes out
 
--- Document 02, S-11. A removal that is reported leaves what landing the remaining pipes in order from empty leaves, one pipe less, counted, and told by
--- exactly the fittings whose tags differ (`RemovedAs`, `TakenOut`, `Report`); any other leaves the houses and the slice as they were.
+-- Document 02, S-11. A removal that is reported leaves what landing the remaining pipes in order from empty leaves, one pipe less, counted, and
+-- told by exactly the fittings whose tags differ (`RemovedAs`, `TakenOut`, `Report`); any other leaves the houses and the slice as they were.
 pub record TakesOut (l : Lent) : Type 0 where
   pub reported-as : (h d : ℕ) (slice : List ℕ) (k : ℕ) → (step (inHouse h (removes d slice)) l) .reply ≡ reported k
       → RemovedAs h d slice (l .nursery) (step (inHouse h (removes d slice)) l) k

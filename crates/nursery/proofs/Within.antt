@@ -1,5 +1,5 @@
--- Document 02, S-10: a list within a limit on the register's edges. It never passes the limit; where it stops with 36 the limit is reached, where
--- with 23 the register is full; and a list that leaves no more edges than the limit is read as without one.
+-- Document 02, S-10: a list within a limit on the register's edges. It never passes the limit; where it stops with 36 the limit is reached,
+-- where with 23 the register is full; and a list that leaves no more edges than the limit is read as without one.
 use mathlib.Core.Path.{_≡_, refl, sym, ap, _∙_, subst}
 use mathlib.Core.Logic.{_≢_}
 use Prim.Native.Nat.{ℕ, zero, suc, _+_, _≤_, _<_, max}

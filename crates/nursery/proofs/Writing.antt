@@ -1,5 +1,5 @@
--- Document 02, S-1, of the calls: whatever `write` is lent for a house, if it answers a count of bytes, then `grow` from these bytes leaves in a house
--- the tables and the head that were lent to `write`, if the limit there is as large as the pipes are many; in the same house it is.
+-- Document 02, S-1, of the calls: whatever `write` is lent for a house, if it answers a count of bytes, then `grow` from these bytes leaves in a
+-- house the tables and the head that were lent to `write`, if the limit there is as large as the pipes are many; in the same house it is.
 use mathlib.Core.Path.{_≡_, refl, sym, ap, _∙_, subst}
 use mathlib.Core.Logic.{_≢_}
 use Prim.Native.Nat.{ℕ, _≤_, _<_}

@@ -1,5 +1,5 @@
--- What the theorems on houses speak of beyond the definitions: a house that is left as it was, a removal and its report, replies that turn a pipe
--- away for the limit.
+-- What the theorems on houses speak of beyond the definitions: a house that is left as it was, a removal and its report, replies that turn a
+-- pipe away for the limit.
 use mathlib.Core.Path.{_≡_}
 use mathlib.Core.Logic.{_≢_, _⊎_}
 use Prim.Native.Nat.{ℕ, _+_, _<_}
@@ -48,16 +48,16 @@ TurnedAway (refuses x) = ForLimit x
 
 -- ---- removals
 
--- "exactly the fittings whose tags differ are reported with old tag and new tag (0 for none), by rising fitting, each just one time": of the labels
--- before and after
+-- "exactly the fittings whose tags differ are reported with old tag and new tag (0 for none), by rising fitting, each just one time": of the
+-- labels before and after
 pub record Report (olds news : List ℕ) (cs : List Change) : Type 0 where
   pub rising : Rising (map (λ (c : Change). c .vertex) cs)
   pub each-differs : (c : Change) → Mem c cs
       → (c .vertex < length olds) × (c .old ≡ getD olds (c .vertex) 0) × (c .new ≡ getD news (c .vertex) 0) × (c .old ≢ c .new)
   pub all-that-differ : (v : ℕ) → v < length olds → getD olds v 0 ≢ getD news v 0 → Mem v (map (λ (c : Change). c .vertex) cs)
 
--- "The register must then be what landing the remaining pipes in order from empty leaves, with the re-hung total of that landing": r′ is left of r
--- without edge d. The landings counted anew are those by which it is reached.
+-- "The register must then be what landing the remaining pipes in order from empty leaves, with the re-hung total of that landing": r′ is left of
+-- r without edge d. The landings counted anew are those by which it is reached.
 pub record TakenOut (r : Register) (d : ℕ) (r′ : Register) (cs : List Change) : Type 0 where
   pub was-there : d < length (r .edges)
   pub grown : growFrom (r .vertices) (without d (r .edges)) ≡ landed r′

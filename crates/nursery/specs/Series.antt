@@ -1,5 +1,5 @@
--- Document 01, "What demand 3 speaks of", with document 02's S-5, S-10 and S-11: one series of calls for eight houses, what the calls alone settle,
--- and the claim for each house.
+-- Document 01, "What demand 3 speaks of", with document 02's S-5, S-10 and S-11: one series of calls for eight houses, what the calls
+-- alone settle, and the claim for each house.
 use mathlib.Core.Path.{_≡_}
 use Prim.Native.Nat.{ℕ, _*_, _≤_, _<_}
 use mathlib.Core.Bool.{Bool, true, not, _&&_}
@@ -102,8 +102,8 @@ replyTo m s =
 
 -- ---- the edges accepted since the last clearing of a house
 
--- S-11: "one not refused stands there as a clearing, so that until the next clearing pipes and re-hangings are counted over that landing and what
--- follows it, without the listed changes"
+-- S-11: "one not refused stands there as a clearing, so that until the next clearing pipes and re-hangings are counted over that landing and
+-- what follows it, without the listed changes"
 unfoldable pub acceptsRest : House → ℕ → List Landing → Removed → List Landing
 acceptsRest s d ls (removed r cs) = landedAnew (s .register .vertices) (without d (s .register .edges))
 acceptsRest s d ls (keptWith x) = ls

@@ -1,4 +1,5 @@
--- Values of document 02, S-10 and S-11, to be computed from the definitions: licences by house, what a call does to a house, and one series of calls.
+-- Values of document 02, S-10 and S-11, to be computed from the definitions: licences by house, what a call does to a house, and one series of
+-- calls.
 use mathlib.Core.Path.{_≡_}
 use Prim.Native.Nat.{ℕ, _-_}
 use mathlib.Core.Bool.{true, false}
@@ -51,7 +52,8 @@ unfoldable pub splitFirst : List ℕ
 splitFirst = listOf 8 (edge 0 1 1 ∷ edge 1 2 1 ∷ edge 1 7 1 ∷ edge 3 4 1 ∷ edge 4 5 1 ∷ edge 5 6 1 ∷ edge 2 3 1 ∷ [])
 
 pub record Removals : Type 0 where
-  -- document 01's house without pipe 4, which joined its runs: a fitting that ceases to be a coupling, one that becomes one, one with another tag
+  -- document 01's house without pipe 4, which joined its runs: a fitting that ceases to be a coupling, one that becomes one, one with another
+  -- tag
   pub report : (removing 4 10 house) .slice ≡ 2 ∷ 8193 ∷ 0 ∷ 3 ∷ 0 ∷ 16383 ∷ 4 ∷ 8195 ∷ 16384 ∷ 7 ∷ []
   pub reported-three : (removing 4 9 house) .reply ≡ reported 3
   -- births and re-hung total are those of the new landing, and pipe 5 is now pipe 4
