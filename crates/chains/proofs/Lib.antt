@@ -2,7 +2,7 @@
 pub mod WalkLaws
 pub mod VolumeLaws
 pub mod NameLaws
-pub mod LookupLaws
 pub mod SheetLaws
+pub mod LookingLaws
 pub mod NewestLaws
 pub mod OrderLaws

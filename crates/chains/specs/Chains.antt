@@ -115,28 +115,3 @@ rowsIn degrees sides ends lengths volumes n names = map (rowIn degrees sides end
 -- the rows of all chains among the first n edges, over marks that are lent
 unfoldable pub sheetIn : List ℕ → List ℕ → List ℕ → List ℕ → List ℕ → ℕ → List ℕ → List (List ℕ)
 sheetIn degrees sides ends lengths volumes n marks = rowsIn degrees sides ends lengths volumes n (namesIn degrees sides ends n marks)
-
--- ---- one name
-
--- where a walk ends, and the least of x and the numbers of the edges behind the regular vertices that it passes
-pub record LowEnd : Type 0 where
-  pub at : ℕ
-  pub lowest : ℕ
-
-abbrev pub lowEnd : ℕ → ℕ → LowEnd
-lowEnd v x = record { at = v; lowest = x }
-
-unfoldable pub lowestIn : List ℕ → List ℕ → List ℕ → ℕ → ℕ → ℕ → ℕ → ℕ → LowEnd
-lowestIn degrees sides ends home zero x d v = lowEnd v x
-lowestIn degrees sides ends home (suc n) x d v =
-    let c = turnIn sides d v in
-    let rest = lowestIn degrees sides ends home n (min c x) c (farIn ends c v) in
-    if goesOnIn degrees home v then rest else lowEnd v x
-
--- the name of the chain on which edge e lies, by one walk round a ring, or by two
-unfoldable pub nameIn : List ℕ → List ℕ → List ℕ → ℕ → ℕ → ℕ
-nameIn degrees sides ends n e =
-    let a = getD ends (2 * e) 0 in
-    let on = lowestIn degrees sides ends a n e e (getD ends (2 * e + 1) 0) in
-    let back = lowestIn degrees sides ends (on .at) n (on .lowest) e a in
-    if eqb (getD degrees (on .at) 0) 2 then on .lowest else back .lowest

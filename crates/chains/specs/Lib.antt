@@ -1,4 +1,5 @@
 pub mod Chains
+pub mod Looking
 pub mod Newest
 pub mod Order
 pub mod Finding

@@ -1,5 +1,5 @@
 // Chains found by walking over the lent tables: names, rows of the sheet, and the search for a label from the newest chain.
-pub mod lookup;
+pub mod looking;
 pub mod lowest;
 pub mod marks;
 pub mod names;
