@@ -34,5 +34,6 @@ pub mod Ends
 pub mod Lowest
 pub mod Marking
 pub mod Sheeting
+pub mod Looking
 pub mod Newest
 pub mod Finding

@@ -1,94 +1,74 @@
--- The search from the newest chain over the tables takes what the search of model takes, and finds the vertex whose chain that one names.
+-- The search from the newest chain over the tables takes what the search of model takes, and tells of the vertex whose chain that one names.
 use mathlib.Core.Path.{_≡_, refl, sym, ap, _∙_, subst}
 use mathlib.Core.Logic.{_≢_, _⊎_, inl, inr}
-use Prim.Native.Nat.{ℕ, zero, suc, _+_, _*_, _≤_, _<_, min, max}
+use Prim.Native.Nat.{ℕ, zero, suc, _+_, _-_, _*_, _≤_, _<_, min, max}
 use native.Mathlib.Omega.{arith}
 use native.Mathlib.Decide.{ℕ-discrete}
 use mathlib.Core.Bool.{Bool, true, false, not, _&&_, _||_}
 use mathlib.Core.Option.{Option, none, some}
-use mathlib.Core.List.{List, [], _∷_, _++_, map, reverse, reverse-reverse, List·Memᴰ as Mem, List·Memᴰ·head as at-head, List·Memᴰ·tail as in-tail, List·Memᴰ·cases-cons as mem-cases, List·Memᴰ·not-nil as mem-nil, List·Memᴰ·append-cases as append-cases, Memᴰ·append-left, Memᴰ·append-right, Memᴰ·map, Memᴰ·of-map}
+use mathlib.Core.List.{List, [], _∷_, map, List·Memᴰ as Mem, List·Memᴰ·head as at-head, List·Memᴰ·tail as in-tail, List·Memᴰ·cases-cons as mem-cases, List·Memᴰ·not-nil as mem-nil, Memᴰ·map, Memᴰ·of-map}
 use lib.ListN.{length, getD}
 use lib.Dec.{eqb, ltb}
 use borrow.Author.Tests.{eq-eqb, ne-eqb, eqb-true, eqb-false, lt-ltb, le-ltb, ltb-true}
-use Rattle.model.specs.Basics.{if_then_else_, maxVertices, upTo}
-use Rattle.model.specs.Graph.{Chain, Edge, Pass, atOf, chainOf, edgeAt, edgeOnRing, endOf, endOnwards, far, isRegular, lowerNumbered, nameOf, onceRound, onwards, openChain, turn, until, walk}
-use Rattle.model.specs.Register.{Register, labelOf, lowEdgeOf}
-use Rattle.model.specs.Queries.{chainAt, vertexWith}
+use Rattle.model.specs.Basics.{if_then_else_}
+use Rattle.model.specs.Graph.{Edge, Pass, atOf, chainOf, edgeAt, edgeOnRing, far, isRegular, lowerNumbered, onceRound, onwards, turn, until, walk}
+use Rattle.model.specs.Register.{Register, labelOf, lowEdgeOf, marksOf}
+use Rattle.model.specs.Queries.{Reply, chainAt, foundAt}
 use Rattle.model.specs.Newest.{Searched, has, innerLabels, lowestLabel, search, searchAmong}
 use Rattle.model.specs.Tables.{Tables, tablesOf}
-use Rattle.model.specs.Notions.{Reachable, SameEdges, SameRing}
+use Rattle.model.specs.Notions.{Reachable, SameEdges}
 use Rattle.model.specs.Series.{OwnChain}
 use Rattle.tables.specs.Steps.{farIn}
 use Rattle.chains.specs.Chains.{goesOnIn}
-use Rattle.chains.specs.Newest.{Sought, bestIn, holderIn, isLowestIn, lowestsIn, noBound, searchIn, sought, soughtAfter, takeIn, wearerIn, wearsIn}
-use Rattle.chains.proofs.NewestLaws.{lowest-bare, take-nobody, take-none, take-some, wearer-here, wearer-on, wearer-stop}
+use Rattle.chains.specs.Newest.{Held, Sought, bestIn, held, heldAfter, holdsIn, isLowestIn, keyIn, lowestsIn, noBound, passesIn, restIn, searchIn, sought, takeIn, toldOf, topIn}
+use Rattle.chains.proofs.NewestLaws.{lowest-bare, passes-here, passes-on, passes-stop, holds-above, holds-self, search-bare, search-first, search-rest, take-nobody, take-none, take-some, told-holder, told-nobody, top-most}
 use Rattle.chains.proofs.OrderLaws.{Best, best-is, nobody, somebody, total-less}
 use Rattle.model.proofs.Basics.Total.{total}
-use Rattle.model.proofs.Basics.Booleans.{and-true, not-both, or-false, true-or-false}
-use Rattle.model.proofs.Basics.Lists.{length-upTo, mem-reverse}
-use Rattle.model.proofs.Walks.Degree.{Proper, is-two, two-is}
+use Rattle.model.proofs.Basics.Booleans.{not-both, true-or-false}
+use Rattle.model.proofs.Walks.Degree.{Proper, is-two}
 use Rattle.model.proofs.Walks.Turn.{At, Turned, turned, two-edges}
-use Rattle.model.proofs.Walks.Joins.{Across, across, other-end}
-use Rattle.model.proofs.Walks.Trail.{walk-on, walk-stop}
-use Rattle.model.proofs.Walks.Round.{ring-round}
-use Rattle.model.proofs.Chains.Same.{chain-open}
-use Rattle.model.proofs.Chains.Partition.{chain-again, chain-back, chain-has, chain-name, first-at, name-below, name-in-chain, ring-again}
-use Rattle.model.proofs.Chains.Own.{chain-inner, inner-chain, lower-at, own-chain}
-use Rattle.model.proofs.Chains.ExactRing.{loop-is-ring, ring-only, ringFrom}
+use Rattle.model.proofs.Walks.Joins.{across, far-ne, other-end}
+use Rattle.model.proofs.Chains.Partition.{chain-again, chain-back, ring-again}
+use Rattle.model.proofs.Chains.Own.{chain-inner, inner-chain, lower-at, own-chain, ring-both}
+use Rattle.model.proofs.Labels.Following.{labelAt, lowAt}
 use Rattle.model.proofs.Labels.Lowest.{LowNeighbour, above, low-neighbour, lowest}
+use Rattle.model.proofs.Labels.Rise.{Step, down-to, rises, seam, up-to}
 use Rattle.model.proofs.Registers.Facts.{LabelFacts, zero-then}
 use Rattle.model.proofs.Registers.Founded.{Founded, regular-landed}
 use Rattle.model.proofs.Registers.Labelled.{label-facts}
 use Rattle.model.proofs.Registers.Sides.{sided}
 use Rattle.model.proofs.Registers.ReadBack.{first-read, second-read}
 use Rattle.model.proofs.Registers.Small.{labels-small}
-use Rattle.model.proofs.Registers.Newest.{Falling, Taken, falling, has-mem, in-newest, inner-regular, lowest-most, mem-has, newest, newest-few, own-is, own-newest}
+use Rattle.model.proofs.Registers.Newest.{Falling, Taken, falling, has-mem, in-newest, inner-regular, lowest-most, mem-has, newest, own-is, own-newest}
 use Rattle.agreement.proofs.Tables.{far-is, sides-linked}
-use Rattle.agreement.proofs.Registers.{few, founded, labels-long, landed-below, lawful, low-at, proper}
-use Rattle.agreement.proofs.Chaining.{First, at-end, at-home, onward, Step, at-first, at-second, before-home, before-none, before-on, first-step, goes-home, goes-not, goes-on, steps, stops}
-use Rattle.agreement.proofs.Rounds.{far-first, open-end, open-singular, round-end, round-open}
-use Rattle.agreement.proofs.Lowest.{one-name}
+use Rattle.agreement.proofs.Registers.{few, founded, landed-below, low-at, proper}
+use Rattle.agreement.proofs.Chaining.{First, at-end, at-home, onward, at-first, before-home, before-none, before-on, first-step, goes-home, goes-not, goes-on, steps}
+use Rattle.agreement.proofs.Chaining as chaining
+use Rattle.agreement.proofs.Rounds.{far-first}
+use Rattle.agreement.proofs.Looking.{AtEnd, all-met, on-there, onOf, only-met, through-none, through-some, throughOver}
 
 -- ---- the walk upwards
 
--- the first of some vertices that is regular and wears the label
-with-some : (r : Register) (label w : ℕ) (vs : List ℕ) → vertexWith r label vs ≡ some w → Mem w vs × ((isRegular (r .edges) w ≡ true) × (labelOf r w ≡ label))
-unfolding vertexWith
-with-some r label w [] e = absurd (let z : _≡_ {A = ℕ} 0 1 = cc in omega arith)
-with-some r label w (v ∷ vs) e = go (isRegular (r .edges) v && eqb (labelOf r v) label) refl (λ h. with-some r label w vs h)
+has-here : (label x : ℕ) (xs : List ℕ) → x ≡ label → has label (x ∷ xs) ≡ true
+unfolding has
+has-here label x xs e = rw (eq-eqb x label e, has)
+
+has-next : (label x : ℕ) (xs : List ℕ) → x ≢ label → has label (x ∷ xs) ≡ has label xs
+unfolding has
+has-next label x xs e = rw (ne-eqb x label e, has)
+
+-- lists with the same members
+has-same : (label : ℕ) (xs ys : List ℕ) → ((x : ℕ) → Mem x xs → Mem x ys) → ((x : ℕ) → Mem x ys → Mem x xs) → has label xs ≡ has label ys
+has-same label xs ys f b = go (true-or-false (has label xs)) (true-or-false (has label ys))
   where
-    go : (b : Bool) → isRegular (r .edges) v && eqb (labelOf r v) label ≡ b
-        → (vertexWith r label vs ≡ some w → Mem w vs × ((isRegular (r .edges) w ≡ true) × (labelOf r w ≡ label)))
-        → Mem w (v ∷ vs) × ((isRegular (r .edges) w ≡ true) × (labelOf r w ≡ label))
-    go true q ih =
-        let k : some v ≡ some w = rw (q, vertexWith) at e in
-        let i : v ≡ w = cc in
-        let p = and-true (isRegular (r .edges) v) (eqb (labelOf r v) label) q in
-        (at-head (sym i), (rw i at (p .0), eqb-true _ _ (rw i at (p .1))))
-    go false q ih = let k = ih (rw (q, vertexWith) at e) in (in-tail (k .0), k .1)
+    go : (has label xs ≡ true) ⊎ (has label xs ≡ false) → (has label ys ≡ true) ⊎ (has label ys ≡ false) → has label xs ≡ has label ys
+    go (inl p) (inl q) = p ∙ sym q
+    go (inr p) (inr q) = p ∙ sym q
+    go (inl p) (inr q) = absurd (not-both (has label ys) (mem-has label ys (f label (has-mem label xs p))) q)
+    go (inr p) (inl q) = absurd (not-both (has label xs) (mem-has label xs (b label (has-mem label ys q))) p)
 
-with-none : (r : Register) (label : ℕ) (vs : List ℕ) → vertexWith r label vs ≡ none → (w : ℕ) → Mem w vs → isRegular (r .edges) w ≡ true → labelOf r w ≢ label
-unfolding vertexWith
-with-none r label [] e w m t l = mem-nil m
-with-none r label (v ∷ vs) e w m t l = go (isRegular (r .edges) v && eqb (labelOf r v) label) refl (mem-cases m) (λ h k. with-none r label vs h w k t l)
-  where
-    go : (b : Bool) → isRegular (r .edges) v && eqb (labelOf r v) label ≡ b → (w ≡ v) ⊎ Mem w vs → (vertexWith r label vs ≡ none → Mem w vs → ⊥) → ⊥
-    go true q k ih =
-        let h : some v ≡ none = rw (q, vertexWith) at e in
-        let z : _≡_ {A = ℕ} 0 1 = cc in
-        omega arith
-    go false q (inr k) ih = ih (rw (q, vertexWith) at e) k
-    go false q (inl i) ih =
-        let a : isRegular (r .edges) v ≡ true = rw i at t in
-        let b : labelOf r v ≡ label = rw i at l in
-        not-both (isRegular (r .edges) v && eqb (labelOf r v) label) (rw (a, eq-eqb (labelOf r v) label b)) q
-
-mem-back : (m : ℕ) (xs : List ℕ) → Mem m (reverse xs) → Mem m xs
-mem-back m xs h = subst (λ (l : List ℕ). Mem m l) (reverse-reverse xs) (mem-reverse m (reverse xs) h)
-
--- what a walk comes to: the vertices that it passes, and its end
-abbrev visited : List Edge → ℕ → List Pass → List ℕ
-visited es v ss = map atOf ss ++ (endOf es v ss ∷ [])
+map-in : (f : ℕ → ℕ) (xs ys : List ℕ) → ((x : ℕ) → Mem x xs → Mem x ys) → (z : ℕ) → Mem z (map f xs) → Mem z (map f ys)
+map-in f xs ys h z m = let o = Memᴰ·of-map f xs m in subst (λ (y : ℕ). Mem y (map f ys)) (o .2) (Memᴰ·map f (h (o .0) (o .1)))
 
 module _ (r : Register) (g : Reachable r) (label : ℕ) where
   abbrev es : List Edge
@@ -101,75 +81,46 @@ module _ (r : Register) (g : Reachable r) (label : ℕ) where
   unfolding tablesOf
   labels-are = refl
 
-  wears-is : (d v : ℕ) → At es v d → wearsIn (t .degrees) (t .labels) label v ≡ isRegular es v && eqb (labelOf r v) label
-  unfolding wearsIn tablesOf
-  wears-is d v a = go (true-or-false (isRegular es v))
+  abbrev passesOver : ℕ → ℕ → ℕ → ℕ → Bool
+  passesOver = passesIn (t .degrees) (t .sides) (t .ends) (t .labels) label
+
+  passes-agree : (home n d v : ℕ) → At es v d → passesOver home n d v ≡ has label (map (labelOf r) (map atOf (until home (walk n es d v))))
+  unfolding passesIn walk until atOf has
+  passes-agree home zero d v a = refl
+  passes-agree home (suc n) d v a = by (first-step r home v) (λ c at. passes-agree home n c (far es c v) at)
     where
-      go : (isRegular es v ≡ true) ⊎ (isRegular es v ≡ false) → wearsIn (t .degrees) (t .labels) label v ≡ isRegular es v && eqb (labelOf r v) label
-      go (inl q) = rw (eq-eqb _ _ ((steps r g d v a q) .regular), q)
-      go (inr q) = rw (ne-eqb _ _ (stops r g d v a q), q)
+      Goal : Type 0
+      Goal = passesOver home (suc n) d v ≡ has label (map (labelOf r) (map atOf (until home (walk (suc n) es d v))))
 
-  abbrev wearerOver : ℕ → ℕ → ℕ → ℕ → Option ℕ
-  wearerOver = wearerIn (t .degrees) (t .sides) (t .ends) (t .labels) label
+      stop : goesOnIn (t .degrees) home v ≡ false → until home (walk (suc n) es d v) ≡ [] → Goal
+      stop bar e = sym (passes-stop (t .degrees) (t .sides) (t .ends) (t .labels) label home (suc n) d v bar) ∙ sym (ap (λ (s : List Pass). has label (map (labelOf r) (map atOf s))) e)
 
-  with-yes : (v : ℕ) (vs : List ℕ) → isRegular es v && eqb (labelOf r v) label ≡ true → vertexWith r label (v ∷ vs) ≡ some v
-  unfolding vertexWith
-  with-yes v vs q = rw (q, vertexWith)
-
-  with-no : (v : ℕ) (vs : List ℕ) → isRegular es v && eqb (labelOf r v) label ≡ false → vertexWith r label (v ∷ vs) ≡ vertexWith r label vs
-  unfolding vertexWith
-  with-no v vs q = rw (q, vertexWith)
-
-  with-nobody : vertexWith r label [] ≡ none
-  unfolding vertexWith
-  with-nobody = refl
-
-  wearer-agrees : (home n d v : ℕ) → At es v d → wearerOver home n d v ≡ vertexWith r label (visited es v (until home (walk n es d v)))
-  unfolding walk until atOf endOf wearerIn
-  wearer-agrees home zero d v a = last (true-or-false (wearsIn (t .degrees) (t .labels) label v))
-    where
-      last : (wearsIn (t .degrees) (t .labels) label v ≡ true) ⊎ (wearsIn (t .degrees) (t .labels) label v ≡ false) → wearerOver home zero d v ≡ vertexWith r label (v ∷ [])
-      last (inl q) = rw q (sym (with-yes v [] (sym (wears-is d v a) ∙ q)))
-      last (inr q) = rw q (sym (with-no v [] (sym (wears-is d v a) ∙ q) ∙ with-nobody))
-  wearer-agrees home (suc n) d v a = here (true-or-false (wearsIn (t .degrees) (t .labels) label v)) (λ c at. wearer-agrees home n c (far es c v) at)
-    where
-      ss : List Pass
-      ss = until home (walk (suc n) es d v)
-
-      -- the first visited is v
-      front : (k : List ℕ) × (visited es v ss ≡ v ∷ k)
-      front = by (first-step r home v)
+      by : First r home v
+          → ((c : ℕ) → At es (far es c v) c → passesOver home n c (far es c v) ≡ has label (map (labelOf r) (map atOf (until home (walk n es c (far es c v)))))) → Goal
+      by (at-end p) ih = stop (goes-not r g home d v a p) (before-none home n es d v p)
+      by (at-home p e) ih = stop (goes-home r g home d v a e) (before-home home n es d v p e)
+      by (onward p e) ih = on (ℕ-discrete (labelOf r v) label)
         where
-          by : First r home v → (k : List ℕ) × (visited es v (until home (walk (suc n) es d v)) ≡ v ∷ k)
-          by (at-end q) = (_, ap (visited es v) (before-none home n es d v q))
-          by (at-home q e) = (_, ap (visited es v) (before-home home n es d v q e))
-          by (onward q e) = (_, ap (visited es v) (before-on home n es d v q e))
+          c : ℕ
+          c = turn es d v
 
-      here : (wearsIn (t .degrees) (t .labels) label v ≡ true) ⊎ (wearsIn (t .degrees) (t .labels) label v ≡ false)
-          → ((c : ℕ) → At es (far es c v) c → wearerOver home n c (far es c v) ≡ vertexWith r label (visited es (far es c v) (until home (walk n es c (far es c v)))))
-          → wearerOver home (suc n) d v ≡ vertexWith r label (visited es v ss)
-      here (inl q) ih =
-          sym (wearer-here (t .degrees) (t .sides) (t .ends) (t .labels) label home (suc n) d v q)
-          ∙ sym (ap (vertexWith r label) (front .1) ∙ with-yes v (front .0) (sym (wears-is d v a) ∙ q))
-      here (inr q) ih = by (first-step r home v)
-        where
-          not-v : isRegular es v && eqb (labelOf r v) label ≡ false
-          not-v = sym (wears-is d v a) ∙ q
+          y : chaining.Step r d v
+          y = steps r g d v a p
 
-          stop : goesOnIn (t .degrees) home v ≡ false → until home (walk (suc n) es d v) ≡ [] → wearerOver home (suc n) d v ≡ vertexWith r label (visited es v (until home (walk (suc n) es d v)))
-          stop bar e =
-              sym (wearer-stop (t .degrees) (t .sides) (t .ends) (t .labels) label home (suc n) d v q bar)
-              ∙ sym (ap (λ (s : List Pass). vertexWith r label (visited es v s)) e ∙ with-no v [] not-v ∙ with-nobody)
+          own : labelOf r v ≡ getD (t .labels) v 0
+          own = ap (λ (ls : List ℕ). getD ls v 0) (sym labels-are)
 
-          by : First r home v → wearerOver home (suc n) d v ≡ vertexWith r label (visited es v (until home (walk (suc n) es d v)))
-          by (at-end p) = stop (goes-not r g home d v a p) (before-none home n es d v p)
-          by (at-home p e) = stop (goes-home r g home d v a e) (before-home home n es d v p e)
-          by (onward p e) =
-              let c : ℕ = turn es d v in
-              let y : Step r d v = steps r g d v a p in
-              wearer-on (t .degrees) (t .sides) (t .ends) (t .labels) label home n d v c (far es c v) q (goes-on r g home d v a p e) (y .turns) (y .arrives)
+          whole : has label (map (labelOf r) (map atOf (until home (walk (suc n) es d v)))) ≡ has label (labelOf r v ∷ map (labelOf r) (map atOf (until home (walk n es c (far es c v)))))
+          whole = ap (λ (s : List Pass). has label (map (labelOf r) (map atOf s))) (before-on home n es d v p e)
+
+          on : Dec (labelOf r v ≡ label) → passesOver home (suc n) d v ≡ has label (map (labelOf r) (map atOf (until home (walk (suc n) es d v))))
+          on (yes q) =
+              sym (passes-here (t .degrees) (t .sides) (t .ends) (t .labels) label home (suc n) d v (labelOf r v) (omega arith) (goes-on r g home d v a p e) own q)
+              ∙ sym (whole ∙ has-here label (labelOf r v) _ q)
+          on (no q) =
+              passes-on (t .degrees) (t .sides) (t .ends) (t .labels) label home n d v c (far es c v) (goes-on r g home d v a p e) (λ i. q (own ∙ i)) (y .turns) (y .arrives)
               ∙ ih c (y .at)
-              ∙ sym (ap (λ (s : List Pass). vertexWith r label (visited es v s)) (before-on home n es d v p e) ∙ with-no v (visited es (far es c v) (until home (walk n es c (far es c v)))) not-v)
+              ∙ sym (whole ∙ has-next label (labelOf r v) _ q)
 
 -- ---- the chain of a lowest vertex
 
@@ -240,49 +191,6 @@ module _ (r : Register) (g : Reachable r) where
     from-own : (w : ℕ) → Mem w ((chainOf es₁ (chainAt r v)) .inner) → Mem w ((chainOf es₁ high) .inner)
     from-own w m = inner-same high (chainAt r v) w (at-high .inside) (own .inside) (chain-back es₁ (proper r g) high (chainAt r v) (own .inside) high-on) m
 
-    abbrev passed : List Pass
-    passed = until v (walk (length es₁) es₁ (turn es₁ (lowEdgeOf r v) v) (far es₁ (turn es₁ (lowEdgeOf r v) v) v))
-
-    round-is : onceRound es₁ high v ≡ passed
-    unfolding onceRound onwards
-    round-is = refl
-
-    -- who looks at v and walks up from it meets the regular vertices of its chain, and none else
-    abbrev met : List ℕ
-    met = v ∷ visited es₁ (far es₁ (turn es₁ (lowEdgeOf r v) v) v) (until v (walk (length es₁) es₁ (turn es₁ (lowEdgeOf r v) v) (far es₁ (turn es₁ (lowEdgeOf r v) v) v)))
-
-    record Visits : Type 0 where
-      only : (w : ℕ) → Mem w met → isRegular es₁ w ≡ true → Mem w ((chainOf es₁ high) .inner)
-      all : (w : ℕ) → Mem w ((chainOf es₁ high) .inner) → Mem w met
-
-    in-ring : edgeOnRing es₁ high ≡ true → Visits
-    in-ring q =
-        let pr : Proper es₁ = proper r g in
-        let same : SameRing (ringFrom es₁ pr high v) (chainOf es₁ high) = ring-only es₁ pr (ringFrom es₁ pr high v) high (loop-is-ring es₁ pr high v at-high (ring-round es₁ pr high v q at-high)) (at-head refl) .1 in
-        record {
-          only = λ w m reg′. same .inner-in w (inside w (mem-cases m));
-          all = λ w m. outside w (mem-cases (same .inner-back w m));
-        }
-      where
-        end : endOf es₁ next-up passed ≡ v
-        end = ap (λ (s : List Pass). endOf es₁ next-up s) (sym round-is) ∙ round-end es₁ (proper r g) high v at-high q .0
-
-        inside : (w : ℕ) → (w ≡ v) ⊎ Mem w (visited es₁ next-up passed) → Mem w (v ∷ map atOf (onceRound es₁ high v))
-        inside w (inl e) = at-head e
-        inside w (inr m) = on (append-cases (map atOf passed) m)
-          where
-            last : (w ≡ endOf es₁ next-up passed) ⊎ Mem w [] → Mem w (v ∷ map atOf (onceRound es₁ high v))
-            last (inl e) = at-head (e ∙ end)
-            last (inr m) = absurd (mem-nil m)
-
-            on : Mem w (map atOf passed) ⊎ Mem w (endOf es₁ next-up passed ∷ []) → Mem w (v ∷ map atOf (onceRound es₁ high v))
-            on (inl m) = in-tail (subst (λ (s : List Pass). Mem w (map atOf s)) (sym round-is) m)
-            on (inr m) = last (mem-cases m)
-
-        outside : (w : ℕ) → (w ≡ v) ⊎ Mem w (map atOf (onceRound es₁ high v)) → Mem w met
-        outside w (inl e) = at-head e
-        outside w (inr m) = in-tail (Memᴰ·append-left (endOf es₁ next-up passed ∷ []) (subst (λ (s : List Pass). Mem w (map atOf s)) round-is m))
-
     -- the ends of an edge of v
     data Ends (d : ℕ) : Type 0 where
       v-first : (edgeAt es₁ d) .first ≡ v → (edgeAt es₁ d) .second ≡ far es₁ d v → Ends d
@@ -296,74 +204,6 @@ module _ (r : Register) (g : Reachable r) where
         go (no n) =
             let e : (edgeAt es₁ d) .first ≡ far es₁ d v = other-end es₁ d v ((edgeAt es₁ d) .first) (proper r g) at (at-first r g d (at .inside)) n in
             v-second e (sym (far-first es₁ d) ∙ ap (far es₁ d) e ∙ (across es₁ d v (proper r g) at) .again)
-
-    -- downwards there is only v, where its low edge comes from a singular vertex
-    down : isRegular es₁ home ≡ false → map atOf (onwards es₁ high v) ≡ v ∷ []
-    unfolding onwards atOf
-    down sing = go (length es₁) refl
-      where
-        ended : (m : ℕ) → walk m es₁ (turn es₁ high v) (far es₁ (turn es₁ high v) v) ≡ []
-        ended m = rw (turned-low .again) (walk-stop m es₁ low home sing)
-
-        go : (m : ℕ) → length es₁ ≡ m → map atOf (walk (length es₁) es₁ high v) ≡ v ∷ []
-        go zero e = absurd (omega (arith, at-high .inside))
-        go (suc m) e = rw (e, walk-on m es₁ high v reg, ended m)
-
-    on-chain : edgeOnRing es₁ high ≡ false → isRegular es₁ home ≡ false → Visits
-    unfolding openChain
-    on-chain q sing =
-        record {
-          only = λ w m reg′. subst (λ (c : Chain). Mem w (c .inner)) (sym (chain-open es₁ high q)) (ours w (ends-of high at-high) (kept w reg′ (mem-cases m)));
-          all = λ w m. back w (theirs w (ends-of high at-high) (append-cases (reverse (map atOf (onwards es₁ high ((edgeAt es₁ high) .first)))) (subst (λ (c : Chain). Mem w (c .inner)) (chain-open es₁ high q) m)));
-        }
-      where
-        passed-is : passed ≡ onwards es₁ high next-up
-        passed-is = sym round-is ∙ round-open es₁ (proper r g) high v at-high q
-
-        end-singular : isRegular es₁ (endOf es₁ next-up passed) ≡ false
-        end-singular =
-            rw (ap (λ (s : List Pass). endOf es₁ next-up s) (sym round-is) ∙ open-end es₁ (proper r g) high v at-high q)
-            (open-singular es₁ (proper r g) high v at-high q)
-
-        kept : (w : ℕ) → isRegular es₁ w ≡ true → (w ≡ v) ⊎ Mem w (visited es₁ next-up passed) → (w ≡ v) ⊎ Mem w (map atOf (onwards es₁ high next-up))
-        kept w reg′ (inl e) = inl e
-        kept w reg′ (inr m) = on (append-cases (map atOf passed) m)
-          where
-            last : (w ≡ endOf es₁ next-up passed) ⊎ Mem w [] → (w ≡ v) ⊎ Mem w (map atOf (onwards es₁ high next-up))
-            last (inl e) = absurd (not-both _ (rw e at reg′) end-singular)
-            last (inr k) = absurd (mem-nil k)
-
-            on : Mem w (map atOf passed) ⊎ Mem w (endOf es₁ next-up passed ∷ []) → (w ≡ v) ⊎ Mem w (map atOf (onwards es₁ high next-up))
-            on (inl k) = inr (subst (λ (s : List Pass). Mem w (map atOf s)) passed-is k)
-            on (inr k) = last (mem-cases k)
-
-        back : (w : ℕ) → (w ≡ v) ⊎ Mem w (map atOf (onwards es₁ high next-up)) → Mem w met
-        back w (inl e) = at-head e
-        back w (inr m) = in-tail (Memᴰ·append-left (endOf es₁ next-up passed ∷ []) (subst (λ (s : List Pass). Mem w (map atOf s)) (sym passed-is) m))
-
-        v-down : (w : ℕ) → w ≡ v → Mem w (map atOf (onwards es₁ high v))
-        v-down w e = subst (λ (l : List ℕ). Mem w l) (sym (down sing)) (at-head e)
-
-        only-v : (w : ℕ) → Mem w (map atOf (onwards es₁ high v)) → w ≡ v
-        only-v w m = go (mem-cases (subst (λ (l : List ℕ). Mem w l) (down sing) m))
-          where
-            go : (w ≡ v) ⊎ Mem w [] → w ≡ v
-            go (inl e) = e
-            go (inr k) = absurd (mem-nil k)
-
-        ours : (w : ℕ) → Ends high → (w ≡ v) ⊎ Mem w (map atOf (onwards es₁ high next-up))
-            → Mem w (reverse (map atOf (onwards es₁ high ((edgeAt es₁ high) .first))) ++ map atOf (onwards es₁ high ((edgeAt es₁ high) .second)))
-        ours w (v-first a b) (inl e) = Memᴰ·append-left (map atOf (onwards es₁ high ((edgeAt es₁ high) .second))) (mem-reverse w (map atOf (onwards es₁ high ((edgeAt es₁ high) .first))) (rw a (v-down w e)))
-        ours w (v-first a b) (inr m) = Memᴰ·append-right (reverse (map atOf (onwards es₁ high ((edgeAt es₁ high) .first)))) (rw b m)
-        ours w (v-second a b) (inl e) = Memᴰ·append-right (reverse (map atOf (onwards es₁ high ((edgeAt es₁ high) .first)))) (rw b (v-down w e))
-        ours w (v-second a b) (inr m) = Memᴰ·append-left (map atOf (onwards es₁ high ((edgeAt es₁ high) .second))) (mem-reverse w (map atOf (onwards es₁ high ((edgeAt es₁ high) .first))) (rw a m))
-
-        theirs : (w : ℕ) → Ends high → Mem w (reverse (map atOf (onwards es₁ high ((edgeAt es₁ high) .first)))) ⊎ Mem w (map atOf (onwards es₁ high ((edgeAt es₁ high) .second)))
-            → (w ≡ v) ⊎ Mem w (map atOf (onwards es₁ high next-up))
-        theirs w (v-first a b) (inl m) = inl (only-v w (rw a at (mem-back w (map atOf (onwards es₁ high ((edgeAt es₁ high) .first))) m)))
-        theirs w (v-first a b) (inr m) = inr (rw b at m)
-        theirs w (v-second a b) (inl m) = inr (rw a at (mem-back w (map atOf (onwards es₁ high ((edgeAt es₁ high) .first))) m))
-        theirs w (v-second a b) (inr m) = inl (only-v w (rw b at m))
 
     -- what the tables say of v
     side-is : getD (t₁ .sides) (2 * v) 0 ≡ low
@@ -387,17 +227,31 @@ module _ (r : Register) (g : Reachable r) where
             let n : max (labelOf r home) (labelOf r v) ≡ max (labelOf r v) (labelOf r home) = omega arith in
             rw (a, b, m, n)
 
-    holder-is : (label : ℕ) → holderIn (t₁ .degrees) (t₁ .sides) (t₁ .ends) (t₁ .labels) (length es₁) label v ≡ vertexWith r label met
-    unfolding holderIn
-    holder-is label = go (true-or-false (wearsIn (t₁ .degrees) (t₁ .labels) label v))
+    -- where v is next to the low end of its chain, or on a ring, the walk up from it meets all labels of its chain
+    holds-is : (label : ℕ) → AtEnd r g v reg true → holdsIn (t₁ .degrees) (t₁ .sides) (t₁ .ends) (t₁ .labels) (length es₁) label v ≡ has label (innerLabels r (chainAt r v))
+    unfolding innerLabels
+    holds-is label e = here (ℕ-discrete (labelOf r v) label) ∙ all
       where
-        go : (wearsIn (t₁ .degrees) (t₁ .labels) label v ≡ true) ⊎ (wearsIn (t₁ .degrees) (t₁ .labels) label v ≡ false)
-            → holderIn (t₁ .degrees) (t₁ .sides) (t₁ .ends) (t₁ .labels) (length es₁) label v ≡ vertexWith r label met
-        go (inl q) = rw (q, holderIn) (sym (with-yes r g label v (visited es₁ next-up passed) (sym (wears-is r g label low v at-low) ∙ q)))
-        go (inr q) =
-            rw (q, holderIn, high-is, far-is r high v (at-high .inside))
-            (wearer-agrees r g label v (length es₁) high next-up ((across es₁ high v (proper r g) at-high) .at)
-            ∙ sym (with-no r g label v (visited es₁ next-up passed) (sym (wears-is r g label low v at-low) ∙ q)))
+        all : has label (map (labelOf r) (v ∷ map atOf (onceRound es₁ high v))) ≡ has label (map (labelOf r) ((chainOf es₁ (chainAt r v)) .inner))
+        all =
+            has-same label _ _ (map-in (labelOf r) _ _ (λ w m. to-own w (only-met r g v reg true e w m)))
+            (map-in (labelOf r) _ _ (λ w m. all-met r g v reg true e w (from-own w m)))
+
+        own-v : labelOf r v ≡ getD (t₁ .labels) v 0
+        own-v = ap (λ (ls : List ℕ). getD ls v 0) (sym (labels-are r g label))
+
+        here : Dec (labelOf r v ≡ label) → holdsIn (t₁ .degrees) (t₁ .sides) (t₁ .ends) (t₁ .labels) (length es₁) label v ≡ has label (map (labelOf r) (v ∷ map atOf (onceRound es₁ high v)))
+        here (yes q) =
+            sym (holds-self (t₁ .degrees) (t₁ .sides) (t₁ .ends) (t₁ .labels) (length es₁) label v (labelOf r v) own-v q)
+            ∙ sym (has-here label (labelOf r v) _ q)
+        here (no q) =
+            sym (holds-above (t₁ .degrees) (t₁ .sides) (t₁ .ends) (t₁ .labels) (length es₁) label v (labelOf r v) own-v high next-up _ q (sym high-is) (sym (far-is r high v (at-high .inside))) refl)
+            ∙ walked
+            ∙ sym (has-next label (labelOf r v) _ q)
+          where
+            walked : passesIn (t₁ .degrees) (t₁ .sides) (t₁ .ends) (t₁ .labels) label v (length es₁) high next-up ≡ has label (map (labelOf r) (map atOf (onceRound es₁ high v)))
+            unfolding onceRound onwards
+            walked = passes-agree r g label v (length es₁) high next-up ((across es₁ high v (proper r g) at-high) .at)
 
     neighbour : LowNeighbour r (proper r g) (chainAt r v) v
     neighbour = low-neighbour r (proper r g) (sided r g) (chainAt r v) (own .inside) v reg (own .has)
@@ -407,7 +261,7 @@ module _ (r : Register) (g : Reachable r) where
 
     -- v is the lowest of its chain, or not
     data Decided : Type 0 where
-      is-lowest : isLowestIn (t₁ .sides) (t₁ .ends) (t₁ .labels) v ≡ true → LowestHere v → Visits → Decided
+      is-lowest : isLowestIn (t₁ .sides) (t₁ .ends) (t₁ .labels) v ≡ true → LowestHere v → AtEnd r g v reg true → Decided
       not-lowest : isLowestIn (t₁ .sides) (t₁ .ends) (t₁ .labels) v ≡ false → (LowestHere v → ⊥) → Decided
 
     decided : Decided
@@ -423,20 +277,19 @@ module _ (r : Register) (g : Reachable r) where
               wears = omega (arith, lowest-most r (proper r g) (chainAt r v) v (own .has), all (own-taken .vertex) (own-taken .in-it), own-taken .wears);
             }
 
-        ways : (edgeOnRing es₁ high ≡ true) ⊎ (edgeOnRing es₁ high ≡ false) → (isRegular es₁ home ≡ false) ⊎ (edgeOnRing es₁ (chainAt r v) ≡ true) → Visits
-        ways (inl q) s = in-ring q
-        ways (inr q) (inl s) = on-chain q s
-        ways (inr q) (inr s) = in-ring ((ring-again es₁ (proper r g) high (chainAt r v) (own .inside) s high-on) .ring)
+        ways : (isRegular es₁ home ≡ false) ⊎ (edgeOnRing es₁ (chainAt r v) ≡ true) → AtEnd r g v reg true
+        ways (inl s) = inl (rw (turned-low .again) s)
+        ways (inr s) = inr ((ring-again es₁ (proper r g) high (chainAt r v) (own .inside) s high-on) .ring)
 
         worn : 1 ≤ labelOf r v
         worn = facts .not-zero v (is-two es₁ v reg)
 
         go : LowNeighbour r (proper r g) (chainAt r v) v → Decided
         go (lowest all (inl s)) =
-            is-lowest (lowest-reads ∙ rw (some-label, eq-eqb (min (labelOf r v) (labelOf r home)) 0 (omega (arith, facts .singular-zero home s)))) (here all) (ways (true-or-false (edgeOnRing es₁ high)) (inl s))
+            is-lowest (lowest-reads ∙ rw (some-label, eq-eqb (min (labelOf r v) (labelOf r home)) 0 (omega (arith, facts .singular-zero home s)))) (here all) (ways (inl s))
         go (lowest all (inr s)) =
             is-lowest (lowest-reads ∙ rw (some-label, ne-eqb (min (labelOf r v) (labelOf r home)) 0 (λ e. omega (arith, s .1, worn)), lt-ltb (labelOf r v) (max (labelOf r v) (labelOf r home)) (omega (arith, s .1)))) (here all)
-            (ways (true-or-false (edgeOnRing es₁ high)) (inr (s .0)))
+            (ways (inr (s .0)))
         go (above m e) =
             let p : 1 ≤ labelOf r home = facts .not-zero home (is-two es₁ home (inner-regular r (proper r g) (chainAt r v) home (own .inside) m)) in
             not-lowest (lowest-reads ∙ rw (some-label, ne-eqb (min (labelOf r v) (labelOf r home)) 0 (λ z. omega (arith, worn, p)), le-ltb (labelOf r v) (max (labelOf r v) (labelOf r home)) (omega (arith, e))))
@@ -451,13 +304,13 @@ module _ (r : Register) (g : Reachable r) where
   record Low (v : ℕ) : Type 0 where
     regular : isRegular es₁ v ≡ true
     lowest-here : LowestHere v
-    visits : Visits v regular
+    at-end : AtEnd r g v regular true
 
   low-is : (v : ℕ) → isLowestIn (t₁ .sides) (t₁ .ends) (t₁ .labels) v ≡ true → Low v
   low-is v t = go (true-or-false (isRegular es₁ v))
     where
       by : (reg : isRegular es₁ v ≡ true) → Decided v reg → Low v
-      by reg (is-lowest q l w) = record { regular = reg; lowest-here = l; visits = w }
+      by reg (is-lowest q l w) = record { regular = reg; lowest-here = l; at-end = w }
       by reg (not-lowest q bar) = absurd (not-both (isLowestIn (t₁ .sides) (t₁ .ends) (t₁ .labels) v) t q)
 
       go : (isRegular es₁ v ≡ true) ⊎ (isRegular es₁ v ≡ false) → Low v
@@ -490,7 +343,7 @@ module _ (r : Register) (g : Reachable r) where
     low-bound : getD (t₁ .labels) vertex 0 < bound
     regular : isRegular es₁ vertex ≡ true
     lowest-here : LowestHere vertex
-    visits : Visits vertex regular
+    at-end : AtEnd r g vertex regular true
     chain-is : chainAt r vertex ≡ d
 
   module _ (bound : ℕ) where
@@ -546,7 +399,7 @@ module _ (r : Register) (g : Reachable r) where
                   low-bound = l;
                   regular = low-v .regular;
                   lowest-here = low-v .lowest-here;
-                  visits = low-v .visits;
+                  at-end = low-v .at-end;
                   chain-is = i;
                 }
             by (inr i) = absurd (omega (arith, f .0 (chainAt r v) i, low-v .lowest-here .wears, k .wears, own-label u, own-label v, most u u-inside low-u u-below))
@@ -604,22 +457,21 @@ module _ (r : Register) (g : Reachable r) where
 
   -- ---- one taken after the other
 
-  -- nobody, or a regular vertex of the chain or ring that is named, which wears the label
-  abbrev pub Wearer : ℕ → Option ℕ → Option ℕ → Type 0
-  Wearer label none o = o ≡ none
-  Wearer label (some v) o = (isRegular es₁ v ≡ true) × ((labelOf r v ≡ label) × (o ≡ some (chainAt r v)))
+  -- nobody, or the lowest vertex of the chain or ring that is named, which holds the label
+  abbrev Holder : ℕ → ℕ → Option ℕ → Type 0
+  Holder label zero o = o ≡ none
+  Holder label (suc v) o = Low v × ((o ≡ some (chainAt r v)) × (has label (innerLabels r (chainAt r v)) ≡ true))
 
-  -- as many are taken, and the wearer is of the chain that is named
-  pub record Agrees (label : ℕ) (s : Sought) (q : Searched) : Type 0 where
-    pub taken-is : s .taken ≡ q .taken
-    pub wearer-is : Wearer label (s .wearer) (q .holder)
+  record Takes (label : ℕ) (h : Held) (q : Searched) : Type 0 where
+    taken-is : h .taken ≡ q .taken
+    holder-is : Holder label (h .holder) (q .holder)
 
   module _ (label : ℕ) where
-    abbrev takeOver : ℕ → ℕ → Sought
+    abbrev takeOver : ℕ → ℕ → Held
     takeOver = takeIn (t₁ .degrees) (t₁ .sides) (t₁ .ends) (t₁ .labels) n (length es₁) label
 
-    abbrev holderOver : ℕ → Option ℕ
-    holderOver = holderIn (t₁ .degrees) (t₁ .sides) (t₁ .ends) (t₁ .labels) (length es₁) label
+    abbrev holdsOver : ℕ → Bool
+    holdsOver = holdsIn (t₁ .degrees) (t₁ .sides) (t₁ .ends) (t₁ .labels) (length es₁) label
 
     among-nobody : searchAmong r label [] ≡ record { holder = none; taken = 0 }
     unfolding searchAmong
@@ -634,61 +486,36 @@ module _ (r : Register) (g : Reachable r) where
     unfolding searchAmong
     among-next d ds e = rw (e, searchAmong)
 
-    agrees-none : (s : Sought) (q : Searched) → s ≡ sought none 0 → q ≡ record { holder = none; taken = 0 } → Agrees label s q
-    agrees-none s q a b = rw (a, b) (record { taken-is = refl; wearer-is = refl })
+    takes-none : (h : Held) (q : Searched) → h ≡ held 0 0 → q ≡ record { holder = none; taken = 0 } → Takes label h q
+    takes-none h q a b = rw (a, b) (record { taken-is = refl; holder-is = refl })
 
-    agrees-after : (s : Sought) (q : Searched) → Agrees label s q → Agrees label (soughtAfter 1 s) (record { holder = q .holder; taken = suc (q .taken) })
-    unfolding soughtAfter
-    agrees-after s q a = record { taken-is = omega (arith, a .taken-is); wearer-is = a .wearer-is }
+    takes-after : (h : Held) (q : Searched) → Takes label h q → Takes label (heldAfter 1 h) (record { holder = q .holder; taken = suc (q .taken) })
+    unfolding heldAfter
+    takes-after h q a = record { taken-is = omega (arith, a .taken-is); holder-is = a .holder-is }
 
-    -- the label is on the chain exactly if the walk meets it
-    walk-finds : (bound d : ℕ) (t : Top bound d) (w : ℕ) → holderOver (t .vertex) ≡ some w
-        → (isRegular es₁ w ≡ true) × ((labelOf r w ≡ label) × ((chainAt r w ≡ d) × (has label (innerLabels r d) ≡ true)))
-    unfolding innerLabels
-    walk-finds bound d t w e =
-        let v : ℕ = t .vertex in
-        let k = with-some r label w (met v (t .regular)) (sym (holder-is v (t .regular) label) ∙ e) in
-        let m : Mem w ((chainOf es₁ (chainAt r v)) .inner) = to-own v (t .regular) w (t .visits .only w (k .0) (k .1 .0)) in
-        let o : OwnChain es₁ v (chainAt r v) = own v (t .regular) in
-        let c : chainAt r v ≡ chainAt r w = own-is r (proper r g) (chainAt r v) w (o .inside) (o .names) m in
-        let l : Mem label (innerLabels r (chainAt r v)) = rw (← k .1 .1) (Memᴰ·map (labelOf r) m) in
-        (k .1 .0, (k .1 .1, (sym c ∙ t .chain-is, rw (← t .chain-is) (mem-has label (innerLabels r (chainAt r v)) l))))
-
-    walk-misses : (bound d : ℕ) (t : Top bound d) → holderOver (t .vertex) ≡ none → has label (innerLabels r d) ≡ false
-    unfolding innerLabels
-    walk-misses bound d t e = go (true-or-false (has label (innerLabels r d)))
-      where
-        v : ℕ
-        v = t .vertex
-
-        go : (has label (innerLabels r d) ≡ true) ⊎ (has label (innerLabels r d) ≡ false) → has label (innerLabels r d) ≡ false
-        go (inr q) = q
-        go (inl q) =
-            let o = Memᴰ·of-map (labelOf r) ((chainOf es₁ d) .inner) (has-mem label (innerLabels r d) q) in
-            let m : Mem (o .0) ((chainOf es₁ (chainAt r v)) .inner) = rw (t .chain-is) (o .1) in
-            let own-v : OwnChain es₁ v (chainAt r v) = own v (t .regular) in
-            absurd (with-none r label (met v (t .regular)) (sym (holder-is v (t .regular) label) ∙ e) (o .0)
-            (t .visits .all (o .0) (from-own v (t .regular) (o .0) m))
-            (inner-regular r (proper r g) (chainAt r v) (o .0) (own-v .inside) m) (o .2))
-
-    takes : (k bound : ℕ) (ds : List ℕ) → total n (hitBelow bound) ≤ k → Falling r ds → ((d : ℕ) → Mem d ds → Taken r d) → Left bound ds → Agrees label (takeOver k bound) (searchAmong r label ds)
+    takes : (k bound : ℕ) (ds : List ℕ) → total n (hitBelow bound) ≤ k → Falling r ds → ((d : ℕ) → Mem d ds → Taken r d) → Left bound ds → Takes label (takeOver k bound) (searchAmong r label ds)
     takes k bound [] h f own s =
-        agrees-none _ _ (take-nobody (t₁ .degrees) (t₁ .sides) (t₁ .ends) (t₁ .labels) n (length es₁) label k bound (nobody-left bound s)) among-nobody
+        takes-none _ _ (take-nobody (t₁ .degrees) (t₁ .sides) (t₁ .ends) (t₁ .labels) n (length es₁) label k bound (nobody-left bound s)) among-nobody
     takes zero bound (d ∷ ds) h f own s = absurd (omega (arith, h, fewer bound d (top bound d ds f (own d (at-head refl)) s)))
     takes (suc j) bound (d ∷ ds) h f own s =
         let t : Top bound d = top bound d ds f (own d (at-head refl)) s in
-        go t (holderOver (t .vertex)) refl
+        go t (true-or-false (has label (innerLabels r d)))
         (takes j (getD (t₁ .labels) (t .vertex) 0) ds (omega (arith, h, fewer bound d t)) (f .1) (λ c m. own c (in-tail m)) (next bound d ds f t s))
       where
-        go : (t : Top bound d) (o : Option ℕ) → holderOver (t .vertex) ≡ o → Agrees label (takeOver j (getD (t₁ .labels) (t .vertex) 0)) (searchAmong r label ds)
-            → Agrees label (takeOver (suc j) bound) (searchAmong r label (d ∷ ds))
-        go t (some w) e ih =
-            let q = walk-finds bound d t w e in
-            rw (take-some (t₁ .degrees) (t₁ .sides) (t₁ .ends) (t₁ .labels) n (length es₁) label j bound (t .vertex) (t .first-is) w e, among-held d ds (q .1 .1 .1))
-            (record { taken-is = refl; wearer-is = (q .0, (q .1 .0, ap some (sym (q .1 .1 .0)))) })
-        go t none e ih =
-            rw (take-none (t₁ .degrees) (t₁ .sides) (t₁ .ends) (t₁ .labels) n (length es₁) label j bound (t .vertex) (t .first-is) e, among-next d ds (walk-misses bound d t e))
-            (agrees-after _ _ ih)
+        holds : (t : Top bound d) → holdsOver (t .vertex) ≡ has label (innerLabels r d)
+        holds t = holds-is (t .vertex) (t .regular) label (t .at-end) ∙ ap (λ (c : ℕ). has label (innerLabels r c)) (t .chain-is)
+
+        go : (t : Top bound d) → (has label (innerLabels r d) ≡ true) ⊎ (has label (innerLabels r d) ≡ false)
+            → Takes label (takeOver j (getD (t₁ .labels) (t .vertex) 0)) (searchAmong r label ds) → Takes label (takeOver (suc j) bound) (searchAmong r label (d ∷ ds))
+        go t (inl e) ih =
+            rw (take-some (t₁ .degrees) (t₁ .sides) (t₁ .ends) (t₁ .labels) n (length es₁) label j bound (t .vertex) (t .first-is) (holds t ∙ e), among-held d ds e)
+            (record {
+              taken-is = refl;
+              holder-is = (record { regular = t .regular; lowest-here = t .lowest-here; at-end = t .at-end }, (ap some (sym (t .chain-is)), ap (λ (c : ℕ). has label (innerLabels r c)) (t .chain-is) ∙ e));
+            })
+        go t (inr e) ih =
+            rw (take-none (t₁ .degrees) (t₁ .sides) (t₁ .ends) (t₁ .labels) n (length es₁) label j bound (t .vertex) (t .first-is) (holds t ∙ e), among-next d ds e)
+            (takes-after _ _ ih)
 
   -- before the first is taken all are left
   all-left : Left noBound (newest r (founded r g) facts)
@@ -697,10 +524,196 @@ module _ (r : Register) (g : Reachable r) where
       small : (d : ℕ) → Taken r d → lowestLabel r d < noBound
       small d k = omega (arith, k .wears, labels-small r g (k .vertex))
 
-  -- the search over the tables agrees with that of model
-  pub search-agrees : (label : ℕ) → Agrees label (searchIn (t₁ .degrees) (t₁ .sides) (t₁ .ends) (t₁ .labels) n (length es₁) label) (search r label)
-  unfolding searchIn search
-  search-agrees label =
-      takes label (lowestsIn (t₁ .sides) (t₁ .ends) (t₁ .labels) n) noBound (newest r (founded r g) facts)
-      (hits-most noBound n)
-      (falling r (founded r g) facts) (in-newest r (founded r g) facts) all-left
+  -- ---- the newest chain has the greatest label
+
+  -- a chain wears every label between its lowest and one that it wears
+  between : (d v x k : ℕ) → Taken r d → Mem v ((chainOf es₁ d) .inner) → lowestLabel r d ≤ x → labelOf r v ≡ x + k → (w : ℕ) × (Mem w ((chainOf es₁ d) .inner) × (labelOf r w ≡ x))
+  between d v x zero own m l e = (v, (m, omega (arith, e)))
+  between d v x (suc k) own m l e =
+      go (low-neighbour r (proper r g) (sided r g) d (own .inside) v (inner-regular r (proper r g) d v (own .inside) m) m) (λ w h q. between d w x k own h l q)
+    where
+      go : LowNeighbour r (proper r g) d v → ((w : ℕ) → Mem w ((chainOf es₁ d) .inner) → labelOf r w ≡ x + k → (u : ℕ) × (Mem u ((chainOf es₁ d) .inner) × (labelOf r u ≡ x)))
+          → (u : ℕ) × (Mem u ((chainOf es₁ d) .inner) × (labelOf r u ≡ x))
+      go (lowest all s) ih = absurd (omega (arith, all (own .vertex) (own .in-it), own .wears, e, l))
+      go (above h q) ih = ih _ h (omega (arith, q, e))
+
+  abbrev topmost : ℕ
+  topmost = topIn ((tablesOf r) .labels) (r .vertices)
+
+  greatest : (v : ℕ) → isRegular es₁ v ≡ true → labelOf r v ≤ labelOf r topmost
+  greatest v q = omega (arith, own-label v, own-label topmost, top-most (t₁ .labels) n v (regular-landed r (founded r g) v q))
+
+  -- nobody has a label
+  bare : (ds : List ℕ) → ((d : ℕ) → Mem d ds → Taken r d) → labelOf r topmost ≡ 0 → ds ≡ []
+  bare [] own z = refl
+  bare (d ∷ ds) own z =
+      let k : Taken r d = own d (at-head refl) in
+      let q : isRegular es₁ (k .vertex) ≡ true = inner-regular r (proper r g) d (k .vertex) (k .inside) (k .in-it) in
+      absurd (omega (arith, greatest (k .vertex) q, facts .not-zero (k .vertex) (is-two es₁ (k .vertex) q), z))
+
+  module _ (some-label : labelOf r topmost ≢ 0) where
+    top-regular : isRegular es₁ topmost ≡ true
+    top-regular = go (true-or-false (isRegular es₁ topmost))
+      where
+        go : (isRegular es₁ topmost ≡ true) ⊎ (isRegular es₁ topmost ≡ false) → isRegular es₁ topmost ≡ true
+        go (inl q) = q
+        go (inr q) = absurd (some-label (facts .singular-zero topmost q))
+
+    abbrev newestName : ℕ
+    newestName = chainAt r topmost
+
+    top-own : OwnChain es₁ topmost newestName
+    top-own = own topmost top-regular
+
+    -- it is next to the high end of its chain, or on a ring
+    top-end : AtEnd r g topmost top-regular false
+    unfolding lowAt labelAt marksOf
+    top-end = go (true-or-false (isRegular es₁ (far es₁ (high topmost top-regular) topmost)))
+      where
+        go : (isRegular es₁ (far es₁ (high topmost top-regular) topmost) ≡ true) ⊎ (isRegular es₁ (far es₁ (high topmost top-regular) topmost) ≡ false) → AtEnd r g topmost top-regular false
+        go (inr q) = inl q
+        go (inl q) =
+            on ((sided r g) .steps topmost w (high topmost top-regular)
+            (record {
+              first-two = is-two es₁ topmost top-regular;
+              second-two = is-two es₁ w q;
+              first-at = at-high topmost top-regular;
+              second-at = (across es₁ (high topmost top-regular) topmost (proper r g) (at-high topmost top-regular)) .at;
+              differ = λ e. far-ne es₁ (high topmost top-regular) topmost (proper r g) (at-high topmost top-regular) (sym e);
+            }))
+          where
+            w : ℕ
+            w = far es₁ (high topmost top-regular) topmost
+
+            on : Step es₁ (marksOf r) topmost (far es₁ (high topmost top-regular) topmost) (high topmost top-regular) → AtEnd r g topmost top-regular false
+            on (rises (up-to i j e)) = absurd (omega (arith, e, greatest w q))
+            on (rises (down-to i j e)) = absurd (turned-low topmost top-regular .other (sym i))
+            on (seam s l) =
+                inr (ring-both es₁ (proper r g) (high topmost top-regular) (low topmost top-regular) topmost top-regular (at-high topmost top-regular) (at-low topmost top-regular) (s .on-ring))
+
+    -- its chain is the first
+    first-one : (d : ℕ) (ds : List ℕ) → Falling r (d ∷ ds) → ((c : ℕ) → Mem c (d ∷ ds) → Taken r c) → Mem newestName (d ∷ ds) → newestName ≡ d
+    first-one d ds f own m = go (mem-cases m)
+      where
+        go : (newestName ≡ d) ⊎ Mem newestName ds → newestName ≡ d
+        go (inl e) = e
+        go (inr h) =
+            let k : Taken r d = own d (at-head refl) in
+            let u : ℕ = k .vertex in
+            let reg-u : isRegular es₁ u ≡ true = inner-regular r (proper r g) d u (k .inside) (k .in-it) in
+            let less : lowestLabel r newestName < lowestLabel r d = f .0 newestName h in
+            let b = between newestName topmost (lowestLabel r d) (labelOf r topmost - lowestLabel r d) (own newestName m) (top-own .has) (omega (arith, less)) (omega (arith, greatest u reg-u, k .wears)) in
+            let reg-w : isRegular es₁ (b .0) ≡ true = inner-regular r (proper r g) newestName (b .0) (top-own .inside) (b .1) in
+            let same : b .0 ≡ u = facts .unique (b .0) u (is-two es₁ (b .0) reg-w) (is-two es₁ u reg-u) (b .2 ∙ sym (k .wears)) in
+            own-is r (proper r g) newestName (b .0) (top-own .inside) (top-own .names) (b .1) ∙ ap (chainAt r) same ∙ sym (own-is r (proper r g) d u (k .inside) (k .names) (k .in-it))
+
+    -- the vertices of its chain, by the edge along which the walk leaves it
+    to-newest : (w : ℕ) → Mem w ((chainOf es₁ (low topmost top-regular)) .inner) → Mem w ((chainOf es₁ newestName) .inner)
+    to-newest w m = inner-same newestName (low topmost top-regular) w (top-own .inside) (at-low topmost top-regular .inside) (low-on topmost top-regular) m
+
+    from-newest : (w : ℕ) → Mem w ((chainOf es₁ newestName) .inner) → Mem w ((chainOf es₁ (low topmost top-regular)) .inner)
+    from-newest w m =
+        inner-same (low topmost top-regular) newestName w (at-low topmost top-regular .inside) (top-own .inside)
+        (chain-back es₁ (proper r g) (low topmost top-regular) newestName (top-own .inside) (low-on topmost top-regular)) m
+
+  -- ---- the search
+
+  -- nobody, or what is told of a regular vertex of the chain or ring that is named, which wears the label
+  abbrev pub Told : ℕ → Option Reply → Option ℕ → Type 0
+  Told label none o = o ≡ none
+  Told label (some a) o = (v : ℕ) × ((isRegular es₁ v ≡ true) × ((labelOf r v ≡ label) × ((a ≡ foundAt r v) × (o ≡ some (chainAt r v)))))
+
+  pub record Agrees (label : ℕ) (s : Sought) (q : Searched) : Type 0 where
+    pub taken-is : s .taken ≡ q .taken
+    pub found-is : Told label (s .found) (q .holder)
+
+  module _ (label : ℕ) where
+    -- a vertex of a chain that holds the label
+    wearer : (d : ℕ) → d < length es₁ → has label (innerLabels r d) ≡ true → (w : ℕ) × (Mem w ((chainOf es₁ d) .inner) × ((isRegular es₁ w ≡ true) × (labelOf r w ≡ label)))
+    unfolding innerLabels
+    wearer d h e =
+        let o = Memᴰ·of-map (labelOf r) ((chainOf es₁ d) .inner) (has-mem label (innerLabels r d) e) in
+        (o .0, (o .1, (inner-regular r (proper r g) d (o .0) h (o .1), o .2)))
+
+    none-wears : (d : ℕ) → has label (innerLabels r d) ≡ false → (w : ℕ) → Mem w ((chainOf es₁ d) .inner) → labelOf r w ≢ label
+    unfolding innerLabels
+    none-wears d e w m l =
+        let k : Mem label (innerLabels r d) = rw (← l) (Memᴰ·map (labelOf r) m) in
+        not-both (has label (innerLabels r d)) (mem-has label (innerLabels r d) k) e
+
+    abbrev searchOver : Sought
+    searchOver = searchIn (t₁ .degrees) (t₁ .sides) (t₁ .ends) (t₁ .lengths) (t₁ .labels) n (length es₁) label
+
+    abbrev restOver : Held
+    restOver = restIn (t₁ .degrees) (t₁ .sides) (t₁ .ends) (t₁ .labels) n (length es₁) label
+
+    -- the one that holds it is looked through upwards
+    tells : (h : Held) (q : Searched) → Takes label h q → Agrees label (toldOf (t₁ .degrees) (t₁ .sides) (t₁ .ends) (t₁ .lengths) (t₁ .labels) (length es₁) label h) q
+    tells h q a = go (h .holder) refl (a .holder-is)
+      where
+        go : (x : ℕ) → h .holder ≡ x → Holder label (h .holder) (q .holder) → Agrees label (toldOf (t₁ .degrees) (t₁ .sides) (t₁ .ends) (t₁ .lengths) (t₁ .labels) (length es₁) label h) q
+        go zero e o = by (subst (λ (y : ℕ). Holder label y (q .holder)) e o)
+          where
+            by : q .holder ≡ none → Agrees label (toldOf (t₁ .degrees) (t₁ .sides) (t₁ .ends) (t₁ .lengths) (t₁ .labels) (length es₁) label h) q
+            unfolding toldOf
+            by p = rw e (record { taken-is = a .taken-is; found-is = p })
+        go (suc v) e o = by (subst (λ (y : ℕ). Holder label y (q .holder)) e o)
+          where
+            by : Low v × ((q .holder ≡ some (chainAt r v)) × (has label (innerLabels r (chainAt r v)) ≡ true)) → Agrees label (toldOf (t₁ .degrees) (t₁ .sides) (t₁ .ends) (t₁ .lengths) (t₁ .labels) (length es₁) label h) q
+            unfolding toldOf
+            by p =
+                let k : Low v = p .0 in
+                let o = own v (k .regular) in
+                let w = wearer (chainAt r v) (o .inside) (p .2) in
+                let s : throughOver r g v (k .regular) label true ≡ some (foundAt r (w .0)) = through-some r g v (k .regular) label true (k .at-end) (w .0) (from-own v (k .regular) (w .0) (w .1)) (w .3) in
+                rw (e, s)
+                (record { taken-is = a .taken-is; found-is = (w .0, (w .2, (w .3, (refl, p .1 ∙ ap some (own-is r (proper r g) (chainAt r v) (w .0) (o .inside) (o .names) (w .1)))))) })
+
+    searched : (ds : List ℕ) → Falling r ds → ((d : ℕ) → Mem d ds → Taken r d) → Left noBound ds → ((v : ℕ) → isRegular es₁ v ≡ true → Mem (chainAt r v) ds) → Agrees label searchOver (searchAmong r label ds)
+    searched ds f own s all = go (ℕ-discrete (labelOf r topmost) 0)
+      where
+        own-top : labelOf r topmost ≡ getD (t₁ .labels) topmost 0
+        own-top = sym (own-label topmost)
+
+        go : Dec (labelOf r topmost ≡ 0) → Agrees label searchOver (searchAmong r label ds)
+        go (yes z) =
+            rw (← search-bare (t₁ .degrees) (t₁ .sides) (t₁ .ends) (t₁ .lengths) (t₁ .labels) n (length es₁) label topmost (labelOf r topmost) refl own-top z, bare ds own z, among-nobody label)
+            (record { taken-is = refl; found-is = refl })
+        go (no z) = by ds f own s (all topmost (top-regular z))
+          where
+            first : (d : ℕ) (ds : List ℕ) → newestName z ≡ d → (has label (innerLabels r d) ≡ true) → Agrees label searchOver (searchAmong r label (d ∷ ds))
+            first d ds e h =
+                let c : has label (innerLabels r (newestName z)) ≡ true = rw e h in
+                let w = wearer (newestName z) (top-own z .inside) c in
+                let p : throughOver r g topmost (top-regular z) label false ≡ some (foundAt r (w .0)) = through-some r g topmost (top-regular z) label false (top-end z) (w .0) (from-newest z (w .0) (w .1)) (w .3) in
+                rw (← search-first (t₁ .degrees) (t₁ .sides) (t₁ .ends) (t₁ .lengths) (t₁ .labels) n (length es₁) label topmost (labelOf r topmost) refl own-top z (some (foundAt r (w .0))) (sym p) (foundAt r (w .0)) refl, among-held label d ds h)
+                (record { taken-is = refl; found-is = (w .0, (w .2, (w .3, (refl, ap some (sym e ∙ own-is r (proper r g) (newestName z) (w .0) (top-own z .inside) (top-own z .names) (w .1)))))) })
+
+            others : (d : ℕ) (ds : List ℕ) → newestName z ≡ d → Falling r (d ∷ ds) → ((c : ℕ) → Mem c (d ∷ ds) → Taken r c) → Left noBound (d ∷ ds) → (has label (innerLabels r d) ≡ false)
+                → Agrees label searchOver (searchAmong r label (d ∷ ds))
+            unfolding restIn keyIn
+            others d ds e f own s h =
+                let c : has label (innerLabels r (newestName z)) ≡ false = rw e h in
+                let p : throughOver r g topmost (top-regular z) label false ≡ none = through-none r g topmost (top-regular z) label false (top-end z) (λ u m. none-wears (newestName z) c u (to-newest z u m)) in
+                let t : Top noBound d = top noBound d ds f (own d (at-head refl)) s in
+                let k : Takes label (takeOver label (lowestsIn (t₁ .sides) (t₁ .ends) (t₁ .labels) n - 1) (getD (t₁ .labels) (t .vertex) 0)) (searchAmong r label ds) =
+                takes label (lowestsIn (t₁ .sides) (t₁ .ends) (t₁ .labels) n - 1) (getD (t₁ .labels) (t .vertex) 0) ds (omega (arith, fewer noBound d t, hits-most noBound n)) (f .1) (λ c m. own c (in-tail m)) (next noBound d ds f t s) in
+                let b : restOver ≡ takeOver label (lowestsIn (t₁ .sides) (t₁ .ends) (t₁ .labels) n - 1) (getD (t₁ .labels) (t .vertex) 0) = rw (t .first-is) in
+                rw (← search-rest (t₁ .degrees) (t₁ .sides) (t₁ .ends) (t₁ .lengths) (t₁ .labels) n (length es₁) label topmost (labelOf r topmost) refl own-top z none (sym p) (heldAfter 1 restOver) _ refl refl refl, among-next label d ds h, b)
+                (tells _ _ (takes-after label _ _ k))
+
+            by : (ds : List ℕ) → Falling r ds → ((d : ℕ) → Mem d ds → Taken r d) → Left noBound ds → Mem (newestName z) ds → Agrees label searchOver (searchAmong r label ds)
+            by [] f own s m = absurd (mem-nil m)
+            by (d ∷ ds) f own s m = on (true-or-false (has label (innerLabels r d)))
+              where
+                e : newestName z ≡ d
+                e = first-one z d ds f own m
+
+                on : (has label (innerLabels r d) ≡ true) ⊎ (has label (innerLabels r d) ≡ false) → Agrees label searchOver (searchAmong r label (d ∷ ds))
+                on (inl h) = first d ds e h
+                on (inr h) = others d ds e f own s h
+
+    -- the search over the tables agrees with that of model
+    pub search-agrees : Agrees label searchOver (search r label)
+    unfolding search
+    search-agrees = searched (newest r (founded r g) facts) (falling r (founded r g) facts) (in-newest r (founded r g) facts) all-left (λ v q. own-newest r (founded r g) facts v q)

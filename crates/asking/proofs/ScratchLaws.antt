@@ -35,14 +35,12 @@ module _ (t : Tables) (c : Counts) (s g : Tables) (h : none ≡ barred (lent t c
   again xs n q = rw (q, length-replicate)
 
   -- by a label or by a vertex
-  pub find-answered : (q : Call) (tree : List ℕ) (a : Reply) → (2 * maxVertices ≤ length (g .sides) → Answers q t c [] a)
-      → tree ≡ replicate (length (g .sides)) 0
-      → outcome t c (tables (g .degrees) tree (g .ends) (g .lengths) (g .volumes) (g .labels)) [] a ≡ step q (lent t c s)
-  find-answered q tree a f n =
-      let n′ : tree ≡ g .sides = n ∙ again (g .sides) (2 * maxVertices) sides-are in
-      let u : tables (g .degrees) tree (g .ends) (g .lengths) (g .volumes) (g .labels) ≡ g = rw n′ in
-      let l : 2 * maxVertices ≤ length (g .sides) = rw (sides-are, length-replicate) (omega arith) in
-      query-answered q (lent t c s) _ [] a h (u ∙ e) (f l)
+  pub find-answered : (q : Call) (order : List ℕ) (a : Reply) → Answers q t c [] a → order ≡ replicate (length (g .sides)) 0
+      → outcome t c (tables (g .degrees) order (g .ends) (g .lengths) (g .volumes) (g .labels)) [] a ≡ step q (lent t c s)
+  find-answered q order a f n =
+      let n′ : order ≡ g .sides = n ∙ again (g .sides) (2 * maxVertices) sides-are in
+      let u : tables (g .degrees) order (g .ends) (g .lengths) (g .volumes) (g .labels) ≡ g = rw n′ in
+      query-answered q (lent t c s) _ [] a h (u ∙ e) f
 
   -- the sheet leaves and answers what `step` says
   pub sheet-answered : (counting marks xs ys : List ℕ) (a : Reply) → answered ys a ≡ sheetedIn t c (g .degrees) (g .sides) xs

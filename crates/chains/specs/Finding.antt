@@ -3,17 +3,17 @@ use Prim.Native.Nat.{ℕ}
 use mathlib.Core.Option.{none, some}
 use lib.ListN.{getD}
 use Rattle.model.specs.Queries.{Reply, refuses}
-use Rattle.model.specs.Tables.{Tables, Counts}
+use Rattle.model.specs.Tables.{Tables}
 use Rattle.chains.specs.Newest.{searchIn}
 
--- by the search from the newest chain
-unfoldable pub findIn : Tables → Counts → ℕ → Reply
-findIn t c label =
-    elim ((searchIn (t .degrees) (t .sides) (t .ends) (t .lengths) (t .labels) (c .vertices) (c .edges) label) .found) [
+-- by the search from the newest chain, among n vertices and m edges
+unfoldable pub findIn : Tables → ℕ → ℕ → ℕ → Reply
+findIn t n m label =
+    elim ((searchIn (t .degrees) (t .sides) (t .ends) (t .lengths) (t .labels) n m label) .found) [
       | some a ↦ a
       | none ↦ refuses 8
     ]
 
 -- through the vertex's label
-unfoldable pub findAtIn : Tables → Counts → ℕ → Reply
-findAtIn t c v = findIn t c (getD (t .labels) v 0)
+unfoldable pub findAtIn : Tables → ℕ → ℕ → ℕ → Reply
+findAtIn t n m v = findIn t n m (getD (t .labels) v 0)

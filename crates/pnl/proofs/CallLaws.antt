@@ -65,12 +65,11 @@ module _ (d s e l u lb : List ℕ) (c : Counts) (r : Register) (h : HeldOf (stor
       let k : sheetOver (tables d s e l u lb) (c .edges) maxEdges ≡ sheet r = rw (held-tables h, held-counts h) at (sheet-agrees r (h .reachable) maxEdges (omega arith)) in
       p ∙ ap (λ (rows : List (List ℕ)). returnsNumbers slice (concat rows)) k
 
-  pub find-question : (label : ℕ) (a : Reply) → a ≡ findIn (tables d s e l u lb) c (replicate (2 * maxVertices) 0) label → z ≡ returnsReply r slice a
+  pub find-question : (label : ℕ) (a : Reply) → a ≡ findIn (tables d s e l u lb) (c .vertices) (c .edges) label → z ≡ returnsReply r slice a
       → z ≡ returnsReply r slice (find r label)
   unfolding effect answer answers
   find-question label a p q =
-      let room : 2 * maxVertices ≤ length (replicate {A = ℕ} (2 * maxVertices) 0) = rw length-replicate (omega arith) in
-      let k = find-answers (tables d s e l u lb) c (replicate (2 * maxVertices) 0) label a room p r h in
+      let k = find-answers (tables d s e l u lb) c label a p r h in
       q ∙ ap (returnsReply r slice) (ap (λ (x : Effect). x .reply) (sym k))
 
   pub distance-question : (v w : ℕ) (a : Reply) → a ≡ measureIn (tables d s e l u lb) c v w → z ≡ returnsReply r slice a

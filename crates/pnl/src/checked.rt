@@ -12,9 +12,7 @@ use questions::measure::Measured;
 use tables::kinds::label_of;
 ghost use mathlib.Core.Path.{_≡_};
 ghost use mathlib.Core.List.{List};
-ghost use Prim.Native.Nat.{ℕ, _*_};
-ghost use lib.ListN.{replicate};
-ghost use Rattle.model.specs.Basics.{maxVertices};
+ghost use Prim.Native.Nat.{ℕ};
 ghost use Rattle.model.specs.Register.{Register};
 ghost use Rattle.model.specs.Queries.{findAt};
 ghost use Rattle.model.specs.Notions.{HeldOf};
@@ -36,11 +34,13 @@ pub fn find_checked(
 ) -> FoundChain
     ensures { λ r. ⌜ ((volumes : List ℕ) → foundReply r
         ≡ findIn (tables (now (degrees .entry)) (now (sides .entry)) (now (ends .entry)) (now (lengths .entry)) volumes (now (labels .entry)))
-        (asCounts counts) (replicate (2 * maxVertices) 0) label) ⌝ }
+        (asCounts counts .vertices) (asCounts counts .edges) label) ⌝ }
 {
+    let vertices = counts.vertices;
+    let edges = counts.edges;
     let checked = Label::new(label as u64);
     match checked {
-        CheckedLabel::Is(l) => find_from(degrees, sides, ends, lengths, labels, counts, l),
+        CheckedLabel::Is(l) => { find_from(degrees, sides, ends, lengths, labels, vertices, edges, l) }
         CheckedLabel::OutOfRange => FoundChain::Refused(Refusal::NotRegular),
     }
 }
@@ -59,11 +59,13 @@ pub fn find_at_checked(
         → HeldOf (stored (tables (now (degrees .entry)) (now (sides .entry)) (now (ends .entry)) (now (lengths .entry)) volumes (now (labels .entry))) (asCounts counts)) register
         → foundReply r ≡ findAt register vertex) ⌝ }
 {
+    let vertices = counts.vertices;
+    let edges = counts.edges;
     let checked = Vertex::new(vertex);
     match checked {
         CheckedVertex::Is(v) => {
             let label = label_of(labels, v);
-            find_from(degrees, sides, ends, lengths, labels, counts, label)
+            find_from(degrees, sides, ends, lengths, labels, vertices, edges, label)
         }
         CheckedVertex::OutOfRange => FoundChain::Refused(Refusal::NotRegular),
     }

@@ -28,27 +28,24 @@ use Rattle.questions.specs.Answering.{answered, sheetedIn}
 use Rattle.questions.proofs.Answers.{Answers}
 use Rattle.questions.proofs.TableLaws.{find-at-law}
 
-pub find-answers : (t : Tables) (c : Counts) (tree : List ℕ) (label : ℕ) (a : Reply) → 2 * maxVertices ≤ length tree
-    → a ≡ findIn t c tree label → Answers (finds label) t c [] a
+pub find-answers : (t : Tables) (c : Counts) (label : ℕ) (a : Reply) → a ≡ findIn t (c .vertices) (c .edges) label → Answers (finds label) t c [] a
 unfolding effect answer answers
-find-answers t c tree label a l h r k =
-    let f : findIn t c tree label ≡ find r label = rw (held-tables k, held-counts k) at (find-agrees r (k .reachable) label tree l) in
+find-answers t c label a h r k =
+    let f : findIn t (c .vertices) (c .edges) label ≡ find r label = rw (held-tables k, held-counts k) at (find-agrees r (k .reachable) label) in
     rw (h, f)
 
-pub find-at-answers : (t : Tables) (c : Counts) (tree : List ℕ) (v : ℕ) (a : Reply) → 2 * maxVertices ≤ length tree
-    → a ≡ findAtIn t c tree v → Answers (findsAt v) t c [] a
+pub find-at-answers : (t : Tables) (c : Counts) (v : ℕ) (a : Reply) → a ≡ findAtIn t (c .vertices) (c .edges) v → Answers (findsAt v) t c [] a
 unfolding effect answer answers
-find-at-answers t c tree v a l h r k =
-    let f : findAtIn t c tree v ≡ findAt r v = rw (held-tables k, held-counts k) at (find-at-agrees r (k .reachable) v tree l) in
+find-at-answers t c v a h r k =
+    let f : findAtIn t (c .vertices) (c .edges) v ≡ findAt r v = rw (held-tables k, held-counts k) at (find-at-agrees r (k .reachable) v) in
     rw (h, f)
 
 -- A number of any size as a vertex: through the label of the vertex that it is, or above the largest vertex.
 module _ (t : Tables) (c : Counts) (r : Register) (h : HeldOf (stored t c) r) where
-  pub find-through : (tree : List ℕ) (v w label : ℕ) (a : Reply) → 2 * maxVertices ≤ length tree → w ≡ v → label ≡ getD (t .labels) w 0
-      → a ≡ findIn t c tree label → a ≡ findAt r v
-  find-through tree v w label a l e f p =
-      let k : findAtIn t c tree v ≡ findAt r v = rw (held-tables h, held-counts h) at (find-at-agrees r (h .reachable) v tree l) in
-      find-at-law t c tree v label a (f ∙ ap (λ (x : ℕ). getD (t .labels) x 0) e) p ∙ k
+  pub find-through : (v w label : ℕ) (a : Reply) → w ≡ v → label ≡ getD (t .labels) w 0 → a ≡ findIn t (c .vertices) (c .edges) label → a ≡ findAt r v
+  find-through v w label a e f p =
+      let k : findAtIn t (c .vertices) (c .edges) v ≡ findAt r v = rw (held-tables h, held-counts h) at (find-at-agrees r (h .reachable) v) in
+      find-at-law t c (c .vertices) (c .edges) v label a (f ∙ ap (λ (x : ℕ). getD (t .labels) x 0) e) p ∙ k
 
   pub find-beyond : (v : ℕ) → maxVertices - 1 < v → refuses 8 ≡ findAt r v
   find-beyond v l =

@@ -14,7 +14,7 @@ returns c =
     let at-enum-told = at-find-cleared .before .before in
     let at-pass-gate = at-enum-told .before .before .before .before .before .before .before .before .before .before .before .before .before .before in
     find-answered _ _ _ _ (ap gateRefusal (sym (at-enum-told .enum-told .given .1)) ∙ at-pass-gate .pass-gate .ensures .0) (at-pass-gate .pass-gate .ensures .1) (finds _) _ _
-    (λ l. find-answers _ _ _ _ _ l (at-find-cleared .find-cleared .ensures .0 _)) (at-find-cleared .find-cleared .ensures .1)
+    (find-answers _ _ _ _ (at-find-cleared .find-cleared .ensures .0 _)) (at-find-cleared .find-cleared .ensures .1)
 
 returns-2 : tie.Need-returns-2
 unfolding registerFor lentSlice lentTo

@@ -14,7 +14,7 @@ returns c =
     let at-enum-told = at-find-at-cleared .before .before in
     let at-pass-gate = at-enum-told .before .before .before .before .before .before .before .before .before .before .before .before .before .before in
     find-answered _ _ _ _ (ap gateRefusal (sym (at-enum-told .enum-told .given .1)) ∙ at-pass-gate .pass-gate .ensures .0) (at-pass-gate .pass-gate .ensures .1) (findsAt _) _ _
-    (λ l. find-at-answers _ _ _ _ _ l (at-find-at-cleared .find-at-cleared .ensures .0 _)) (at-find-at-cleared .find-at-cleared .ensures .1)
+    (find-at-answers _ _ _ _ (at-find-at-cleared .find-at-cleared .ensures .0 _)) (at-find-at-cleared .find-at-cleared .ensures .1)
 
 returns-2 : tie.Need-returns-2
 unfolding registerFor lentSlice lentTo

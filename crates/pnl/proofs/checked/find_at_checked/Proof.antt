@@ -1,9 +1,5 @@
 use Rattle.counters.proofs.Within.{within-is, within-none}
 use Rattle.counters.specs.Numbers.{asVertex}
-use native.Mathlib.Omega.{arith}
-use Prim.Native.Nat.{ℕ, _*_, _≤_}
-use lib.ListN.{length, length-replicate, replicate}
-use Rattle.model.specs.Basics.{maxVertices}
 use Rattle.questions.proofs.AnswerLaws.{find-beyond, find-through}
 use mathlib.Core.Path.{sym, ap, _∙_}
 use borrow.Author.Needs.{needs}
@@ -29,8 +25,7 @@ returns : tie.Need-returns
 returns c =
     let at-label-of = c .before in
     let at-new = at-label-of .before .before .before .before in
-    let room : 2 * maxVertices ≤ length (replicate {A = ℕ} (2 * maxVertices) 0) = rw length-replicate (omega arith) in
-    λ volumes register h. find-through _ _ register h _ _ _ _ _ room (within-is _ _ _ _ (ap asVertex (sym (at-label-of .before .before .checked .given .1)) ∙ at-new .new .ensures)) (at-label-of .label-of .ensures) (c .find-from .ensures volumes)
+    λ volumes register h. find-through _ _ register h _ _ _ _ (within-is _ _ _ _ (ap asVertex (sym (at-label-of .before .before .checked .given .1)) ∙ at-new .new .ensures)) (at-label-of .label-of .ensures) (c .find-from .ensures volumes)
 
 returns-2 : tie.Need-returns-2
 returns-2 c =
