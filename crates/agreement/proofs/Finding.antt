@@ -1,5 +1,5 @@
 -- Find over the tables answers what the definitions answer.
-use mathlib.Core.Path.{_≡_, sym, ap, _∙_, subst}
+use mathlib.Core.Path.{_≡_, refl, sym, ap, _∙_, subst}
 use Prim.Native.Nat.{ℕ}
 use mathlib.Core.Bool.{true}
 use mathlib.Core.Option.{Option, none, some}
@@ -34,7 +34,8 @@ find-agrees r g label = go (s .found) refl (a .found-is)
         rw (e, findIn) (sym (search-none r (founded r g) (label-facts r g) label h))
     go (some b) e w =
         let h : (v : ℕ) × ((isRegular (r .edges) v ≡ true) × ((labelOf r v ≡ label) × ((b ≡ foundAt r v) × ((search r label) .holder ≡ some (chainAt r v))))) = subst (λ (o : Option Reply). Told r g label o ((search r label) .holder)) e w in
-        rw (e, findIn) (h .3 ∙ sym (find-own r (founded r g) (label-facts r g) (h .0) (h .1)) ∙ ap (find r) (h .2))
+        let told = h .1 .1 in
+        rw (e, findIn) (told .1 .0 ∙ sym (find-own r (founded r g) (label-facts r g) (h .0) (h .1 .0)) ∙ ap (find r) (told .0))
 
 pub find-at-agrees : (r : Register) → Reachable r → (v : ℕ) → findAtIn (tablesOf r) ((countsOf r) .vertices) ((countsOf r) .edges) v ≡ findAt r v
 unfolding findAtIn findAt tablesOf

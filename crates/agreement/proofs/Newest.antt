@@ -116,11 +116,11 @@ module _ (r : Register) (g : Reachable r) (label : ℕ) where
           on : Dec (labelOf r v ≡ label) → passesOver home (suc n) d v ≡ has label (map (labelOf r) (map atOf (until home (walk (suc n) es d v))))
           on (yes q) =
               sym (passes-here (t .degrees) (t .sides) (t .ends) (t .labels) label home (suc n) d v (labelOf r v) (omega arith) (goes-on r g home d v a p e) own q)
-              ∙ sym (whole ∙ has-here label (labelOf r v) _ q)
+              ∙ sym (whole ∙ has-here label (labelOf r v) (map (labelOf r) (map atOf (until home (walk n es c (far es c v))))) q)
           on (no q) =
               passes-on (t .degrees) (t .sides) (t .ends) (t .labels) label home n d v c (far es c v) (goes-on r g home d v a p e) (λ i. q (own ∙ i)) (y .turns) (y .arrives)
               ∙ ih c (y .at)
-              ∙ sym (whole ∙ has-next label (labelOf r v) _ q)
+              ∙ sym (whole ∙ has-next label (labelOf r v) (map (labelOf r) (map atOf (until home (walk n es c (far es c v))))) q)
 
 -- ---- the chain of a lowest vertex
 
@@ -157,9 +157,6 @@ module _ (r : Register) (g : Reachable r) where
 
     at-low : At es₁ v low
     at-low = low-at r g v (is-two es₁ v reg)
-
-    x : Across es₁ low v
-    x = across es₁ low v (proper r g) at-low
 
     own : OwnChain es₁ v (chainAt r v)
     unfolding chainAt
@@ -227,6 +224,11 @@ module _ (r : Register) (g : Reachable r) where
             let n : max (labelOf r home) (labelOf r v) ≡ max (labelOf r v) (labelOf r home) = omega arith in
             rw (a, b, m, n)
 
+    -- the walk up from v, over the tables
+    walked : (label : ℕ) → passesIn (t₁ .degrees) (t₁ .sides) (t₁ .ends) (t₁ .labels) label v (length es₁) high next-up ≡ has label (map (labelOf r) (map atOf (onceRound es₁ high v)))
+    unfolding onceRound onwards
+    walked label = passes-agree r g label v (length es₁) high next-up ((across es₁ high v (proper r g) at-high) .at)
+
     -- where v is next to the low end of its chain, or on a ring, the walk up from it meets all labels of its chain
     holds-is : (label : ℕ) → AtEnd r g v reg true → holdsIn (t₁ .degrees) (t₁ .sides) (t₁ .ends) (t₁ .labels) (length es₁) label v ≡ has label (innerLabels r (chainAt r v))
     unfolding innerLabels
@@ -246,12 +248,8 @@ module _ (r : Register) (g : Reachable r) where
             ∙ sym (has-here label (labelOf r v) _ q)
         here (no q) =
             sym (holds-above (t₁ .degrees) (t₁ .sides) (t₁ .ends) (t₁ .labels) (length es₁) label v (labelOf r v) own-v high next-up _ q (sym high-is) (sym (far-is r high v (at-high .inside))) refl)
-            ∙ walked
+            ∙ walked label
             ∙ sym (has-next label (labelOf r v) _ q)
-          where
-            walked : passesIn (t₁ .degrees) (t₁ .sides) (t₁ .ends) (t₁ .labels) label v (length es₁) high next-up ≡ has label (map (labelOf r) (map atOf (onceRound es₁ high v)))
-            unfolding onceRound onwards
-            walked = passes-agree r g label v (length es₁) high next-up ((across es₁ high v (proper r g) at-high) .at)
 
     neighbour : LowNeighbour r (proper r g) (chainAt r v) v
     neighbour = low-neighbour r (proper r g) (sided r g) (chainAt r v) (own .inside) v reg (own .has)
@@ -603,9 +601,9 @@ module _ (r : Register) (g : Reachable r) where
             let reg-u : isRegular es₁ u ≡ true = inner-regular r (proper r g) d u (k .inside) (k .in-it) in
             let less : lowestLabel r newestName < lowestLabel r d = f .0 newestName h in
             let b = between newestName topmost (lowestLabel r d) (labelOf r topmost - lowestLabel r d) (own newestName m) (top-own .has) (omega (arith, less)) (omega (arith, greatest u reg-u, k .wears)) in
-            let reg-w : isRegular es₁ (b .0) ≡ true = inner-regular r (proper r g) newestName (b .0) (top-own .inside) (b .1) in
-            let same : b .0 ≡ u = facts .unique (b .0) u (is-two es₁ (b .0) reg-w) (is-two es₁ u reg-u) (b .2 ∙ sym (k .wears)) in
-            own-is r (proper r g) newestName (b .0) (top-own .inside) (top-own .names) (b .1) ∙ ap (chainAt r) same ∙ sym (own-is r (proper r g) d u (k .inside) (k .names) (k .in-it))
+            let reg-w : isRegular es₁ (b .0) ≡ true = inner-regular r (proper r g) newestName (b .0) (top-own .inside) (b .1 .0) in
+            let same : b .0 ≡ u = facts .unique (b .0) u (is-two es₁ (b .0) reg-w) (is-two es₁ u reg-u) (b .1 .1 ∙ sym (k .wears)) in
+            own-is r (proper r g) newestName (b .0) (top-own .inside) (top-own .names) (b .1 .0) ∙ ap (chainAt r) same ∙ sym (own-is r (proper r g) d u (k .inside) (k .names) (k .in-it))
 
     -- the vertices of its chain, by the edge along which the walk leaves it
     to-newest : (w : ℕ) → Mem w ((chainOf es₁ (low topmost top-regular)) .inner) → Mem w ((chainOf es₁ newestName) .inner)
@@ -649,27 +647,27 @@ module _ (r : Register) (g : Reachable r) where
 
     -- the one that holds it is looked through upwards
     tells : (h : Held) (q : Searched) → Takes label h q → Agrees label (toldOf (t₁ .degrees) (t₁ .sides) (t₁ .ends) (t₁ .lengths) (t₁ .labels) (length es₁) label h) q
+    unfolding toldOf
     tells h q a = go (h .holder) refl (a .holder-is)
       where
         go : (x : ℕ) → h .holder ≡ x → Holder label (h .holder) (q .holder) → Agrees label (toldOf (t₁ .degrees) (t₁ .sides) (t₁ .ends) (t₁ .lengths) (t₁ .labels) (length es₁) label h) q
         go zero e o = by (subst (λ (y : ℕ). Holder label y (q .holder)) e o)
           where
             by : q .holder ≡ none → Agrees label (toldOf (t₁ .degrees) (t₁ .sides) (t₁ .ends) (t₁ .lengths) (t₁ .labels) (length es₁) label h) q
-            unfolding toldOf
             by p = rw e (record { taken-is = a .taken-is; found-is = p })
         go (suc v) e o = by (subst (λ (y : ℕ). Holder label y (q .holder)) e o)
           where
             by : Low v × ((q .holder ≡ some (chainAt r v)) × (has label (innerLabels r (chainAt r v)) ≡ true)) → Agrees label (toldOf (t₁ .degrees) (t₁ .sides) (t₁ .ends) (t₁ .lengths) (t₁ .labels) (length es₁) label h) q
-            unfolding toldOf
             by p =
                 let k : Low v = p .0 in
                 let o = own v (k .regular) in
-                let w = wearer (chainAt r v) (o .inside) (p .2) in
-                let s : throughOver r g v (k .regular) label true ≡ some (foundAt r (w .0)) = through-some r g v (k .regular) label true (k .at-end) (w .0) (from-own v (k .regular) (w .0) (w .1)) (w .3) in
+                let w = wearer (chainAt r v) (o .inside) (p .1 .1) in
+                let s : throughOver r g v (k .regular) label true ≡ some (foundAt r (w .0)) = through-some r g v (k .regular) label true (k .at-end) (w .0) (from-own v (k .regular) (w .0) (w .1 .0)) (w .1 .1 .1) in
                 rw (e, s)
-                (record { taken-is = a .taken-is; found-is = (w .0, (w .2, (w .3, (refl, p .1 ∙ ap some (own-is r (proper r g) (chainAt r v) (w .0) (o .inside) (o .names) (w .1)))))) })
+                (record { taken-is = a .taken-is; found-is = (w .0, (w .1 .1 .0, (w .1 .1 .1, (refl, p .1 .0 ∙ ap some (own-is r (proper r g) (chainAt r v) (w .0) (o .inside) (o .names) (w .1 .0)))))) })
 
     searched : (ds : List ℕ) → Falling r ds → ((d : ℕ) → Mem d ds → Taken r d) → Left noBound ds → ((v : ℕ) → isRegular es₁ v ≡ true → Mem (chainAt r v) ds) → Agrees label searchOver (searchAmong r label ds)
+    unfolding restIn keyIn
     searched ds f own s all = go (ℕ-discrete (labelOf r topmost) 0)
       where
         own-top : labelOf r topmost ≡ getD (t₁ .labels) topmost 0
@@ -685,13 +683,12 @@ module _ (r : Register) (g : Reachable r) where
             first d ds e h =
                 let c : has label (innerLabels r (newestName z)) ≡ true = rw e h in
                 let w = wearer (newestName z) (top-own z .inside) c in
-                let p : throughOver r g topmost (top-regular z) label false ≡ some (foundAt r (w .0)) = through-some r g topmost (top-regular z) label false (top-end z) (w .0) (from-newest z (w .0) (w .1)) (w .3) in
+                let p : throughOver r g topmost (top-regular z) label false ≡ some (foundAt r (w .0)) = through-some r g topmost (top-regular z) label false (top-end z) (w .0) (from-newest z (w .0) (w .1 .0)) (w .1 .1 .1) in
                 rw (← search-first (t₁ .degrees) (t₁ .sides) (t₁ .ends) (t₁ .lengths) (t₁ .labels) n (length es₁) label topmost (labelOf r topmost) refl own-top z (some (foundAt r (w .0))) (sym p) (foundAt r (w .0)) refl, among-held label d ds h)
-                (record { taken-is = refl; found-is = (w .0, (w .2, (w .3, (refl, ap some (sym e ∙ own-is r (proper r g) (newestName z) (w .0) (top-own z .inside) (top-own z .names) (w .1)))))) })
+                (record { taken-is = refl; found-is = (w .0, (w .1 .1 .0, (w .1 .1 .1, (refl, ap some (sym e ∙ own-is r (proper r g) (newestName z) (w .0) (top-own z .inside) (top-own z .names) (w .1 .0)))))) })
 
             others : (d : ℕ) (ds : List ℕ) → newestName z ≡ d → Falling r (d ∷ ds) → ((c : ℕ) → Mem c (d ∷ ds) → Taken r c) → Left noBound (d ∷ ds) → (has label (innerLabels r d) ≡ false)
                 → Agrees label searchOver (searchAmong r label (d ∷ ds))
-            unfolding restIn keyIn
             others d ds e f own s h =
                 let c : has label (innerLabels r (newestName z)) ≡ false = rw e h in
                 let p : throughOver r g topmost (top-regular z) label false ≡ none = through-none r g topmost (top-regular z) label false (top-end z) (λ u m. none-wears (newestName z) c u (to-newest z u m)) in
