@@ -45,7 +45,7 @@ module _ (t : Tables) (c : Counts) (r : Register) (h : HeldOf (stored t c) r) wh
   pub find-through : (v w label : ℕ) (a : Reply) → w ≡ v → label ≡ getD (t .labels) w 0 → a ≡ findIn t (c .vertices) (c .edges) label → a ≡ findAt r v
   find-through v w label a e f p =
       let k : findAtIn t (c .vertices) (c .edges) v ≡ findAt r v = rw (held-tables h, held-counts h) at (find-at-agrees r (h .reachable) v) in
-      find-at-law t c (c .vertices) (c .edges) v label a (f ∙ ap (λ (x : ℕ). getD (t .labels) x 0) e) p ∙ k
+      find-at-law t (c .vertices) (c .edges) v label a (f ∙ ap (λ (x : ℕ). getD (t .labels) x 0) e) p ∙ k
 
   pub find-beyond : (v : ℕ) → maxVertices - 1 < v → refuses 8 ≡ findAt r v
   find-beyond v l =

@@ -18,10 +18,11 @@ use Rattle.chains.proofs.SheetLaws.{sheet-count}
 use Rattle.text.specs.Pages.{page, write}
 use Rattle.questions.specs.Answering.{answered, sheetedIn}
 
-module _ (t : Tables) (c : Counts) where
-  -- ---- find
+-- ---- find
 
+module _ (t : Tables) where
   module _ (n m label : ℕ) (s : Sought) (e : s ≡ searchIn (t .degrees) (t .sides) (t .ends) (t .lengths) (t .labels) n m label) where
+    -- nobody wears the label: 8; else what is told of the one who does
     pub find-nobody : none ≡ s .found → refuses 8 ≡ findIn t n m label
     unfolding findIn
     find-nobody f = let g : (searchIn (t .degrees) (t .sides) (t .ends) (t .lengths) (t .labels) n m label) .found ≡ none = rw e at (sym f) in rw (g, findIn)
@@ -35,8 +36,9 @@ module _ (t : Tables) (c : Counts) where
   unfolding findAtIn
   find-at-law n m v label r e f = f ∙ ap (findIn t n m) e
 
-  -- ---- sheet
+-- ---- sheet
 
+module _ (t : Tables) (c : Counts) where
   module _ (counting marks xs : List ℕ) (fits : Bool)
       (room : fits ≡ leb (length (namesIn (t .degrees) (t .sides) (t .ends) (c .edges) counting)) (length xs / rowSize)) where
     chains : ℕ

@@ -17,7 +17,7 @@ same-length c = search needs
 returns : tie.Need-returns
 returns c =
     let at-find-in = c .before .before .before .before .before .before in
-    (at-find-in .find-in .ensures, c .before .before .clear16 .ensures ∙ ap (λ (n : ℕ). replicate n 0) (at-find-in .find-in .kept .1 .1 .1 .1 .1 .1 .0))
+    (at-find-in .find-in .ensures, c .before .before .clear16 .ensures ∙ ap (λ (n : ℕ). replicate n 0) (at-find-in .find-in .kept .1 .1 .1 .1 .1 .1 .1 .0))
 
 pub find-cleared-spec : {M : Type 1} → statement M
 find-cleared-spec = tie.close (tie.spec find-in-requires clear16-requires same-length returns)
