@@ -18,6 +18,7 @@ use Rattle.model.proofs.Registers.Newest.{search-none}
 use Rattle.agreement.proofs.Registers.{founded}
 use Rattle.agreement.proofs.Newest.{Agrees, Told, search-agrees}
 
+-- find by the search over the tables is find
 pub find-agrees : (r : Register) → Reachable r → (label : ℕ) → findIn (tablesOf r) ((countsOf r) .vertices) ((countsOf r) .edges) label ≡ find r label
 unfolding findIn countsOf
 find-agrees r g label = go (s .found) refl (a .found-is)
@@ -37,6 +38,7 @@ find-agrees r g label = go (s .found) refl (a .found-is)
         let told = h .1 .1 in
         rw (e, findIn) (told .1 .0 ∙ sym (find-own r (founded r g) (label-facts r g) (h .0) (h .1 .0)) ∙ ap (find r) (told .0))
 
+-- so it is by a vertex
 pub find-at-agrees : (r : Register) → Reachable r → (v : ℕ) → findAtIn (tablesOf r) ((countsOf r) .vertices) ((countsOf r) .edges) v ≡ findAt r v
 unfolding findAtIn findAt tablesOf
 find-at-agrees r g v = find-agrees r g (labelOf r v)

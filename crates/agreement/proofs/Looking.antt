@@ -2,24 +2,23 @@
 -- the label what the definitions tell of it, or that none does.
 use mathlib.Core.Path.{_≡_, refl, sym, ap, _∙_, subst}
 use mathlib.Core.Logic.{_≢_, _⊎_, inl, inr}
-use Prim.Native.Nat.{ℕ, zero, suc, _+_, _*_, _≤_, _<_, min}
+use Prim.Native.Nat.{ℕ, zero, suc, _+_, _≤_, _<_, min}
 use native.Mathlib.Omega.{arith}
 use native.Mathlib.Nat.{add-zero}
 use mathlib.Core.Bool.{Bool, true, false}
 use mathlib.Core.Option.{Option, none, some}
-use mathlib.Core.List.{List, [], _∷_, _++_, map, reverse, reverse-reverse, map-append, List·Memᴰ as Mem, List·Memᴰ·head as at-head, List·Memᴰ·tail as in-tail, List·Memᴰ·cases-cons as mem-cases, Memᴰ·append-left, Memᴰ·append-right}
+use mathlib.Core.List.{List, [], _∷_, _++_, map, reverse, reverse-reverse, map-append, List·Memᴰ as Mem, List·Memᴰ·head as at-head, List·Memᴰ·tail as in-tail, List·Memᴰ·cases-cons as mem-cases}
 use lib.ListN.{length, getD}
-use lib.Dec.{eqb}
 use borrow.Author.Tests.{eq-eqb, ne-eqb}
-use Rattle.model.specs.Basics.{if_then_else_, least, sum}
+use Rattle.model.specs.Basics.{least, sum}
 use Rattle.model.specs.Graph.{Chain, Edge, Pass, afterOf, atOf, chainLength, chainOf, edgeOnRing, endOf, far, isRegular, lengthAt, lengthsOf, lowerNumbered, nameOf, onceRound, onwards, turn, until, walk}
 use Rattle.model.specs.Labels.{vertexOnRing}
 use Rattle.model.specs.Distance.{lengthVia}
 use Rattle.model.specs.Register.{Register, labelOf, lowEdgeOf, marksOf}
-use Rattle.model.specs.Queries.{Reply, chainAt, found, foundAt, lengthTo}
+use Rattle.model.specs.Queries.{Reply, chainAt, foundAt, lengthTo}
 use Rattle.model.specs.Tables.{Tables, tablesOf}
 use Rattle.model.specs.Notions.{Reachable, SameChain, SameRing, reversed}
-use Rattle.tables.specs.Steps.{farIn, more16, most32, sum32}
+use Rattle.tables.specs.Steps.{more16, most32, sum32}
 use Rattle.tables.proofs.Sums.{sum32-is}
 use Rattle.chains.specs.Chains.{goesOnIn}
 use Rattle.chains.specs.Looking.{Look, Seen, look, lookAlongIn, lookIn, lookThroughIn, seen, toldIn, withEdge}
@@ -29,7 +28,7 @@ use Rattle.model.proofs.Basics.Lists.{mem-reverse, sum-append, sum-reverse}
 use Rattle.model.proofs.Walks.Degree.{Proper, is-two}
 use Rattle.model.proofs.Walks.Turn.{At, Turned, turn-between, turned, two-edges}
 use Rattle.model.proofs.Walks.Joins.{Across, across, far-ne}
-use Rattle.model.proofs.Walks.Trail.{Behind, Next, Trail, afters, behind-first, done, next-edge, pass, trail-at, trail-endOf, trail-walk, walk-stop}
+use Rattle.model.proofs.Walks.Trail.{Behind, Next, Trail, afters, behind-first, done, next-edge, pass, trail-at, trail-endOf, trail-walk}
 use Rattle.model.proofs.Walks.Loops.{trail-between}
 use Rattle.model.proofs.Walks.Ended.{Ended, trail-short}
 use Rattle.model.proofs.Walks.Places.{Off, off-mem}
@@ -37,12 +36,12 @@ use Rattle.model.proofs.Walks.Returns.{ended-ring, off-ring, singular-ends}
 use Rattle.model.proofs.Walks.Round.{Meets, Round, meets, meets-or, misses, ring-round}
 use Rattle.model.proofs.Walks.Whole.{Onwards, onwards-ends}
 use Rattle.model.proofs.Chains.Same.{Line, chain-of-line, lineChain, same-back, same-mem}
-use Rattle.model.proofs.Chains.Partition.{chain-again, chain-back, chain-has, chain-name, least-le, least-mem, name-in-chain, name-least, ring-again}
-use Rattle.model.proofs.Chains.Own.{chain-inner, inner-chain, lower-at, ring-both, ring-neither}
+use Rattle.model.proofs.Chains.Partition.{chain-back, chain-has, chain-name, least-le, least-mem, name-in-chain, name-least, ring-again}
+use Rattle.model.proofs.Chains.Own.{chain-inner, inner-chain, lower-at, ring-neither}
 use Rattle.model.proofs.Chains.ExactRing.{loop-is-ring, ring-only, ringFrom}
 use Rattle.model.proofs.Chains.Reaches.{one-length, reaches-sum, ring-length}
 use Rattle.model.proofs.Labels.Following.{lowAt}
-use Rattle.model.proofs.Labels.Rise.{OneLow, Pairs, Sided, first-low, second-low, step-low}
+use Rattle.model.proofs.Labels.Rise.{OneLow, first-low, second-low, step-low}
 use Rattle.model.proofs.Registers.Founded.{regular-landed}
 use Rattle.model.proofs.Registers.Labelled.{label-facts}
 use Rattle.model.proofs.Registers.Newest.{inner-regular}
@@ -550,6 +549,7 @@ module _ (r : Register) (g : Reachable r) (v : ℕ) (reg : isRegular (r .edges) 
   onOf true = turn es₃ (lowEdgeOf r v) v
   onOf false = lowEdgeOf r v
 
+  -- v has the edge along which the walk leaves it
   pub on-there : (up : Bool) → At es₃ v (onOf up)
   on-there true = high-there .at
   on-there false = low-there
@@ -568,6 +568,7 @@ module _ (r : Register) (g : Reachable r) (v : ℕ) (reg : isRegular (r .edges) 
   only-met up (inl s) w m = (open-whole r g v (onOf up) reg (on-there up) s) .inner-in w m
   only-met up (inr q) w m = (ring-whole r g v (onOf up) reg (on-there up) q) .inner-in w m
 
+  -- the walk meets every regular vertex of the chain
   pub all-met : (up : Bool) → AtEnd up → (w : ℕ) → Mem w ((chainOf es₃ (onOf up)) .inner) → Mem w (v ∷ map atOf (onceRound es₃ (onOf up) v))
   unfolding atOf
   all-met up (inl s) w m = (open-whole r g v (onOf up) reg (on-there up) s) .inner-back w m
@@ -592,6 +593,7 @@ module _ (r : Register) (g : Reachable r) (v : ℕ) (reg : isRegular (r .edges) 
     abbrev pub throughOver : Bool → Option Reply
     throughOver up = lookThroughIn (t₃ .degrees) (t₃ .sides) (t₃ .ends) (t₃ .lengths) (t₃ .labels) (length es₃) label up v
 
+    -- where a vertex of the chain wears the label, what is told is what model tells of it; where none does, nothing
     pub through-some : (up : Bool) → AtEnd up → (w : ℕ) → Mem w ((chainOf es₃ (onOf up)) .inner) → labelOf r w ≡ label → throughOver up ≡ some (foundAt r w)
     through-some up (inl s) w m l = through-is up ∙ open-told r g v (onOf up) reg (on-there up) label w m l s up (facing up)
     through-some up (inr q) w m l = through-is up ∙ ring-told r g v (onOf up) reg (on-there up) label w m l q up

@@ -17,6 +17,7 @@ use Rattle.agreement.proofs.Chaining.{lower}
 
 -- ---- the least of x and the numbers of a list
 
+-- the least of some numbers, with one more and of two lists
 pub lower-min : (ys : List ℕ) (x y : ℕ) → lower ys (min y x) ≡ min y (lower ys x)
 unfolding lower
 lower-min [] x y = refl

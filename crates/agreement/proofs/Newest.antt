@@ -9,7 +9,7 @@ use mathlib.Core.Option.{Option, none, some}
 use mathlib.Core.List.{List, [], _∷_, map, List·Memᴰ as Mem, List·Memᴰ·head as at-head, List·Memᴰ·tail as in-tail, List·Memᴰ·cases-cons as mem-cases, List·Memᴰ·not-nil as mem-nil, Memᴰ·map, Memᴰ·of-map}
 use lib.ListN.{length, getD}
 use lib.Dec.{eqb, ltb}
-use borrow.Author.Tests.{eq-eqb, ne-eqb, eqb-true, eqb-false, lt-ltb, le-ltb, ltb-true}
+use borrow.Author.Tests.{eq-eqb, ne-eqb, lt-ltb, le-ltb, ltb-true}
 use Rattle.model.specs.Basics.{if_then_else_}
 use Rattle.model.specs.Graph.{Edge, Pass, atOf, chainOf, edgeAt, edgeOnRing, far, isRegular, lowerNumbered, onceRound, onwards, turn, until, walk}
 use Rattle.model.specs.Register.{Register, labelOf, lowEdgeOf, marksOf}
@@ -18,10 +18,9 @@ use Rattle.model.specs.Newest.{Searched, has, innerLabels, lowestLabel, search,
 use Rattle.model.specs.Tables.{Tables, tablesOf}
 use Rattle.model.specs.Notions.{Reachable, SameEdges}
 use Rattle.model.specs.Series.{OwnChain}
-use Rattle.tables.specs.Steps.{farIn}
 use Rattle.chains.specs.Chains.{goesOnIn}
-use Rattle.chains.specs.Newest.{Held, Sought, bestIn, held, heldAfter, holdsIn, isLowestIn, keyIn, lowestsIn, noBound, passesIn, restIn, searchIn, sought, takeIn, toldOf, topIn}
-use Rattle.chains.proofs.NewestLaws.{lowest-bare, passes-here, passes-on, passes-stop, holds-above, holds-self, search-bare, search-first, search-rest, take-nobody, take-none, take-some, told-holder, told-nobody, top-most}
+use Rattle.chains.specs.Newest.{Held, Sought, bestIn, held, heldAfter, holdsIn, isLowestIn, keyIn, lowestsIn, noBound, passesIn, restIn, searchIn, takeIn, toldOf, topIn}
+use Rattle.chains.proofs.NewestLaws.{lowest-bare, passes-here, passes-on, passes-stop, holds-above, holds-self, search-bare, search-first, search-rest, take-nobody, take-none, take-some, top-most}
 use Rattle.chains.proofs.OrderLaws.{Best, best-is, nobody, somebody, total-less}
 use Rattle.model.proofs.Basics.Total.{total}
 use Rattle.model.proofs.Basics.Booleans.{not-both, true-or-false}
@@ -33,8 +32,8 @@ use Rattle.model.proofs.Chains.Own.{chain-inner, inner-chain, lower-at, own-cha
 use Rattle.model.proofs.Labels.Following.{labelAt, lowAt}
 use Rattle.model.proofs.Labels.Lowest.{LowNeighbour, above, low-neighbour, lowest}
 use Rattle.model.proofs.Labels.Rise.{Step, down-to, rises, seam, up-to}
-use Rattle.model.proofs.Registers.Facts.{LabelFacts, zero-then}
-use Rattle.model.proofs.Registers.Founded.{Founded, regular-landed}
+use Rattle.model.proofs.Registers.Facts.{LabelFacts}
+use Rattle.model.proofs.Registers.Founded.{regular-landed}
 use Rattle.model.proofs.Registers.Labelled.{label-facts}
 use Rattle.model.proofs.Registers.Sides.{sided}
 use Rattle.model.proofs.Registers.ReadBack.{first-read, second-read}
@@ -45,7 +44,7 @@ use Rattle.agreement.proofs.Registers.{few, founded, landed-below, low-
 use Rattle.agreement.proofs.Chaining.{First, at-end, at-home, onward, at-first, before-home, before-none, before-on, first-step, goes-home, goes-not, goes-on, steps}
 use Rattle.agreement.proofs.Chaining as chaining
 use Rattle.agreement.proofs.Rounds.{far-first}
-use Rattle.agreement.proofs.Looking.{AtEnd, all-met, on-there, onOf, only-met, through-none, through-some, throughOver}
+use Rattle.agreement.proofs.Looking.{AtEnd, all-met, only-met, through-none, through-some, throughOver}
 
 -- ---- the walk upwards
 

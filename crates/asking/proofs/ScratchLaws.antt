@@ -1,6 +1,6 @@
 -- Find and the sheet behind an open gate: the scratch that serves them is left as the gate left it.
 use mathlib.Core.Path.{_≡_, ap, _∙_}
-use Prim.Native.Nat.{ℕ, _*_, _≤_}
+use Prim.Native.Nat.{ℕ, _*_}
 use native.Mathlib.Omega.{arith}
 use mathlib.Core.Option.{none}
 use mathlib.Core.List.{List, []}

@@ -8,7 +8,6 @@ use Prim.Native.Nat.{ℕ, zero, suc, _+_, _-_, _*_, _≤_, _<_, min}
 use native.Mathlib.Nat.{not-suc-le-zero}
 use native.Mathlib.Numerals.{sub-one}
 use lib.ListN.{getD}
-use lib.Dec.{eqb}
 use borrow.Author.Tests.{eq-eqb, ne-eqb}
 use Rattle.model.specs.Queries.{Reply, found}
 use Rattle.tables.specs.Steps.{farIn, more16, turnIn, sum32}
@@ -16,6 +15,7 @@ use Rattle.chains.specs.Chains.{goesOnIn}
 use Rattle.chains.specs.Looking.{Look, Seen, look, lookAlongIn, lookIn, lookThroughIn, seen, toldIn, wearerIn, withEdge}
 
 module _ (ls : List ℕ) (label w v : ℕ) where
+  -- somebody before wears the label; v does; v does not
   pub wearer-before : w ≢ 0 → w ≡ wearerIn ls label w v
   unfolding wearerIn
   wearer-before f = go w refl
@@ -34,6 +34,7 @@ module _ (ls : List ℕ) (label w v : ℕ) where
     wearer-not e = rw (z, ← o, ne-eqb own label e)
 
 module _ (lens ls : List ℕ) (label w b h x v d y own low : ℕ) (p : y ≡ wearerIn ls label w v) (o : own ≡ getD lens d 0) (q : low ≡ min d x) where
+  -- an edge before the wearer, or behind it
   pub edge-before : (l : ℕ) → y ≡ 0 → l ≡ sum32 b own → seen y l h low ≡ withEdge lens ls label (seen w b h x) v d
   unfolding withEdge
   edge-before l z e = rw (← p, ← o, ← q, eq-eqb y 0 z, e)
@@ -43,6 +44,7 @@ module _ (lens ls : List ℕ) (label w b h x v d y own low : ℕ) (p : y ≡ wea
   edge-behind l z e = rw (← p, ← o, ← q, ne-eqb y 0 z, e)
 
 module _ (ds ss es lens ls : List ℕ) (label home : ℕ) where
+  -- no step is left; the walk ends; a step on
   pub look-none : (n : ℕ) (s : Seen) (d v : ℕ) → n ≤ 0 → look v s ≡ lookIn ds ss es lens ls label home n s d v
   unfolding lookIn
   look-none zero s d v h = refl
@@ -63,17 +65,20 @@ module _ (ds ss es lens ls : List ℕ) (label home : ℕ) where
   look-step zero s t d v c w h g a b e = absurd (not-suc-le-zero h)
   look-step (suc n) s t d v c w h g a b e = rw (sub-one, e) (look-on n s d v c w g (sym a) (sym b))
 
+-- the first edge is looked at before the walk
 pub along-law : (ds ss es lens ls : List ℕ) (label n v on back from : ℕ) (s : Seen) (l : Look) → s ≡ withEdge lens ls label (seen 0 0 0 back) v on
     → from ≡ farIn es on v → l ≡ lookIn ds ss es lens ls label v n s on from → l ≡ lookAlongIn ds ss es lens ls label n v on back
 unfolding lookAlongIn
 along-law ds ss es lens ls label n v on back from s l a b e = rw (← a, ← b) e
 
 module _ (ds lens : List ℕ) (up : Bool) (back at w b h x : ℕ) where
+  -- nobody wears the label
   pub told-nothing : w ≡ 0 → none ≡ toldIn ds lens up back (look at (seen w b h x))
   unfolding toldIn
   told-nothing z = rw z
 
   module _ (f : w ≢ 0) (k : ℕ) (o : k ≡ getD ds at 0) where
+    -- the walk came home; it went up; it went down
     pub told-ring : (l : ℕ) → k ≡ 2 → l ≡ sum32 b h → some (found x (w - 1) 0 l) ≡ toldIn ds lens up back (look at (seen w b h x))
     unfolding toldIn
     told-ring l two e = go w refl
@@ -100,6 +105,7 @@ module _ (ds lens : List ℕ) (up : Bool) (back at w b h x : ℕ) where
           go (suc y) q = rw (q, ← o, ne-eqb k 2 m, sub-one, u, ← p, e)
 
 module _ (ds ss es lens ls : List ℕ) (n label v low high : ℕ) (up : Bool) (a : low ≡ getD ss (2 * v) 0) (b : high ≡ getD ss (2 * v + 1) 0) (l : Look) (r : Option Reply) where
+  -- a chain is looked through upwards, or downwards
   pub through-up : up ≡ true → l ≡ lookAlongIn ds ss es lens ls label n v high low → r ≡ toldIn ds lens true low l → r ≡ lookThroughIn ds ss es lens ls n label up v
   unfolding lookThroughIn
   through-up u e q = rw (u, ← a, ← b, ← e) q

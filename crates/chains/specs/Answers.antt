@@ -10,7 +10,6 @@ use Rattle.chains.specs.declared.looking.Seen.{Seen}
 use Rattle.chains.specs.declared.looking.Look.{Look}
 use Rattle.chains.specs.declared.looking.Found.{Found}
 use Rattle.chains.specs.declared.looking.Found.the-variants.{Chain, Nothing}
-use Rattle.chains.specs.declared.newest.Held.{Held}
 use Rattle.chains.specs.declared.newest.Searched.{Searched}
 
 -- "name, end with the lower number, other end, couplings, length", and the volume (S-4)

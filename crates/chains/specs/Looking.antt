@@ -64,7 +64,7 @@ toldIn degrees lengths up back l =
     elim (s .wearer) [
       | zero ↦ none
       | suc w ↦ some (if eqb (getD degrees (l .at) 0) 2 then found (s .lowest) w 0 (sum32 (s .before) (s .behind))
-        else (if up then found (s .lowest) w near (s .behind) else found (s .lowest) w (s .behind) near))
+          else (if up then found (s .lowest) w near (s .behind) else found (s .lowest) w (s .behind) near))
     ]
 
 -- the chain or ring of which v has the lowest label is looked through upwards, or that of which v has the highest downwards

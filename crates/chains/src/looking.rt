@@ -16,7 +16,7 @@ use tables::steps::far_end;
 use tables::walks::Walker;
 use tables::walks::step_over;
 ghost use mathlib.Core.Path.{_≡_};
-ghost use Rattle.chains.specs.Looking.{look, lookAlongIn, lookIn, lookThroughIn, seen, toldIn, wearerIn, withEdge};
+ghost use Rattle.chains.specs.Looking.{lookAlongIn, lookIn, lookThroughIn, toldIn, wearerIn, withEdge};
 ghost use Rattle.chains.specs.Answers.{asFound, asLook, asSeen};
 
 // What is known of the edges that a walk has gone along: the vertex that wears the label, as v + 1, or 0; the lengths before it and behind
@@ -137,7 +137,19 @@ fn look_along(
     };
     let known = with_edge(lengths, labels, label, nothing, v, on);
     let from = far_end(ends, on, v);
-    look_onwards(degrees, sides, ends, lengths, labels, label, known, on, from, v, fuel)
+    look_onwards(
+        degrees,
+        sides,
+        ends,
+        lengths,
+        labels,
+        label,
+        known,
+        on,
+        from,
+        v,
+        fuel,
+    )
 }
 
 // What is told of the vertex that wears the label. On the way up the low end lies behind the edge `back`, on the way down the high end; a
@@ -182,9 +194,31 @@ pub fn look_through(
     let low = low_edge(sides, v);
     let high = high_edge(sides, v);
     if up {
-        let walked = look_along(degrees, sides, ends, lengths, labels, label, v, high, low, fuel);
+        let walked = look_along(
+            degrees,
+            sides,
+            ends,
+            lengths,
+            labels,
+            label,
+            v,
+            high,
+            low,
+            fuel,
+        );
         return told(degrees, lengths, walked, low, true);
     }
-    let walked = look_along(degrees, sides, ends, lengths, labels, label, v, low, high, fuel);
+    let walked = look_along(
+        degrees,
+        sides,
+        ends,
+        lengths,
+        labels,
+        label,
+        v,
+        low,
+        high,
+        fuel,
+    );
     told(degrees, lengths, walked, high, false)
 }

@@ -1,11 +1,11 @@
 -- A call whole: a list that stops, and the answer of a question on the tables that a list leaves.
 use mathlib.Core.Path.{_≡_, sym, ap, _∙_}
-use Prim.Native.Nat.{ℕ, _*_, _≤_}
+use Prim.Native.Nat.{ℕ}
 use native.Mathlib.Omega.{arith}
 use mathlib.Core.List.{List}
-use lib.ListN.{length, length-replicate, replicate}
+use lib.ListN.{length}
 use lib.IntN.{ℤ, pos, negℤ}
-use Rattle.model.specs.Basics.{maxEdges, maxVertices}
+use Rattle.model.specs.Basics.{maxEdges}
 use Rattle.model.specs.Register.{Register}
 use Rattle.model.specs.Format.{Stop, whole, stopped, growList}
 use Rattle.model.specs.FromC.{Returned, fromC, returnsNumbers, returnsRefusal, returnsReply}

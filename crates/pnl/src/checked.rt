@@ -40,7 +40,9 @@ pub fn find_checked(
     let edges = counts.edges;
     let checked = Label::new(label as u64);
     match checked {
-        CheckedLabel::Is(l) => { find_from(degrees, sides, ends, lengths, labels, vertices, edges, l) }
+        CheckedLabel::Is(l) => {
+            find_from(degrees, sides, ends, lengths, labels, vertices, edges, l)
+        }
         CheckedLabel::OutOfRange => FoundChain::Refused(Refusal::NotRegular),
     }
 }
@@ -65,7 +67,16 @@ pub fn find_at_checked(
     match checked {
         CheckedVertex::Is(v) => {
             let label = label_of(labels, v);
-            find_from(degrees, sides, ends, lengths, labels, vertices, edges, label)
+            find_from(
+                degrees,
+                sides,
+                ends,
+                lengths,
+                labels,
+                vertices,
+                edges,
+                label,
+            )
         }
         CheckedVertex::OutOfRange => FoundChain::Refused(Refusal::NotRegular),
     }

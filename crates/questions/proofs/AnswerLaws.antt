@@ -10,9 +10,9 @@ use borrow.Author.Tests.{ltb-false}
 use Rattle.model.specs.Basics.{maxEdges, maxVertices, inFront, rowSize}
 use Rattle.model.specs.Register.{Register}
 use Rattle.model.specs.Queries.{Reply, concat, find, findAt, refuses, sheet, sheetNumbers}
-use Rattle.model.specs.Tables.{Tables, Counts, tablesOf}
+use Rattle.model.specs.Tables.{Tables, Counts}
 use Rattle.model.specs.Calls.{Answer, answer, answers, effect, fills, finds, findsAt, sheets}
-use Rattle.model.specs.Notions.{HeldOf, Reachable}
+use Rattle.model.specs.Notions.{HeldOf}
 use Rattle.model.proofs.Chains.Sheet.{sheet-length}
 use Rattle.model.proofs.Registers.Answers.{find-not-landed}
 use Rattle.model.proofs.Registers.Labelled.{label-facts}
@@ -28,6 +28,7 @@ use Rattle.questions.specs.Answering.{answered, sheetedIn}
 use Rattle.questions.proofs.Answers.{Answers}
 use Rattle.questions.proofs.TableLaws.{find-at-law}
 
+-- what is found over the tables of a register is answered, by a label and by a vertex
 pub find-answers : (t : Tables) (c : Counts) (label : ℕ) (a : Reply) → a ≡ findIn t (c .vertices) (c .edges) label → Answers (finds label) t c [] a
 unfolding effect answer answers
 find-answers t c label a h r k =

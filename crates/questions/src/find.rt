@@ -41,7 +41,17 @@ pub fn find_in(
         ≡ findIn (tables (now (degrees .entry)) (now (sides .entry)) (now (ends .entry)) (now (lengths .entry)) volumes (now (labels .entry)))
         vertices edges (label .0)) ⌝ }
 {
-    let searched = search_label(degrees, sides, ends, lengths, labels, order, vertices, edges, label);
+    let searched = search_label(
+        degrees,
+        sides,
+        ends,
+        lengths,
+        labels,
+        order,
+        vertices,
+        edges,
+        label,
+    );
     let found = searched.found;
     match found {
         Found::Chain(name, wearer, low, high) => FoundChain::Chain(name, wearer, low, high),
@@ -67,7 +77,17 @@ pub fn find_cleared(
 {
     let vertices = counts.vertices;
     let edges = counts.edges;
-    let found = find_in(degrees, sides, ends, lengths, labels, vertices, edges, order, label);
+    let found = find_in(
+        degrees,
+        sides,
+        ends,
+        lengths,
+        labels,
+        vertices,
+        edges,
+        order,
+        label,
+    );
     clear16(order);
     found
 }
