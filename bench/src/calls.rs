@@ -20,6 +20,8 @@ extern "C" {
 pub enum Call {
     Sheet,
     Find(u32),
+    /// The plain side takes the runs in their order too.
+    FindInOrder(u32),
     FindAt(u32),
     Distance(u32, u32),
 }
@@ -29,7 +31,7 @@ fn proved(call: Call, list: &[u8], answer: &mut [u8]) -> i32 {
     unsafe {
         match call {
             Call::Sheet => pnl_sheet(bytes, length, to, room),
-            Call::Find(tag) => pnl_find(bytes, length, tag, to, room),
+            Call::Find(tag) | Call::FindInOrder(tag) => pnl_find(bytes, length, tag, to, room),
             Call::FindAt(fitting) => pnl_find_at(bytes, length, fitting, to, room),
             Call::Distance(from, end) => pnl_distance(bytes, length, from, end, to, room),
         }
@@ -46,6 +48,7 @@ fn plain(call: Call, list: &[u8], answer: &mut [u8]) -> i32 {
     let numbers = match call {
         Call::Sheet => Ok(register.sheet().into_flattened()),
         Call::Find(tag) => register.find(tag).map(Vec::from),
+        Call::FindInOrder(tag) => register.find_from_newest(tag).map(Vec::from),
         Call::FindAt(fitting) => register.find_at(fitting).map(Vec::from),
         Call::Distance(from, to) => register.distance(from, to).map(|length| vec![length]),
     };
@@ -159,22 +162,51 @@ fn legs(count: usize) -> Edges {
     (0..count).flat_map(|leg| [(0, 2 * leg + 1), (2 * leg + 1, 2 * leg + 2)]).collect()
 }
 
-/// Find by the age of a tag: the highest tag is the newest run's, the lowest the oldest one's, and the last is nobody's.
-pub fn newest_table(version: u8, random: &mut Random) {
-    println!("find from the newest run, on full lists");
-    println!("{:<26} {:>9} {:>9} {:>9} {:>9} {:>6}", "shape", "grow", "newest", "oldest", "none", "ratio");
+/// A line with a tee on every second coupling.
+fn teed(fittings: usize) -> Edges {
+    let length = fittings * 2 / 3;
+    let tees = (1..length - 1).step_by(2).zip(length..fittings);
+    line(length).into_iter().chain(tees).collect()
+}
+
+/// Legs of four pipes from one fitting, each with a tee on its middle coupling: two runs with a coupling to a leg.
+fn teed_legs(count: usize) -> Edges {
+    (0..count).map(|leg| 5 * leg).flat_map(|v| [(0, v + 1), (v + 1, v + 2), (v + 2, v + 3), (v + 3, v + 4), (v + 2, v + 5)]).collect()
+}
+
+/// Rings of two pipes.
+fn pairs(count: usize) -> Edges {
+    (0..count).flat_map(|ring| [(2 * ring, 2 * ring + 1), (2 * ring, 2 * ring + 1)]).collect()
+}
+
+/// Full lists, and those with the most runs that have a coupling.
+fn many_runs(version: u8, random: &mut Random) -> Vec<(&'static str, Vec<Vec<u8>>)> {
     let mut shapes = full_lists(version, random);
     shapes.push(("2,047 legs", vec![list(version, 4095, &legs(2047))]));
     shapes.push(("2,047 legs in random order", several(|| list(version, 4095, &shuffled(legs(2047), random)))));
-    for (shape, lists) in shapes {
+    shapes.push(("819 legs with a tee", vec![list(version, 4096, &teed_legs(819))]));
+    shapes.push(("line with 1,365 tees", vec![list(version, 4096, &teed(4096))]));
+    shapes.push(("2,048 rings of two", vec![list(version, 4096, &pairs(2048))]));
+    shapes
+}
+
+/// Find by the age of a tag: the highest tag is the newest run's, the lowest the oldest one's, and the last is nobody's. `none` is the
+/// ratio to growing, the others are those to the plain find, and to the plain one that takes the runs in their order.
+pub fn newest_table(version: u8, random: &mut Random) {
+    println!("find from the newest run, on full lists");
+    println!("{:<26} {:>7} {:>7} {:>7} {:>7} {:>6}  {:<16} {:<16}", "shape", "grow", "newest", "oldest", "none", "ratio", "to plain", "to plain in order");
+    for (shape, lists) in many_runs(version, random) {
         let time = |call_on: &dyn Fn(&Register) -> Call| {
             let asked: Vec<_> = lists.iter().map(|list| (call_on(&Register::grow(list).0), &list[..])).collect();
-            times(&asked, shape).0
+            let (proved, plain) = times(&asked, shape);
+            (proved, proved / plain)
         };
-        let grow = time(&|_| GROW);
-        let newest = time(&|register| Call::Find(register.tags().1));
-        let oldest = time(&|register| Call::Find(register.tags().0));
-        let none = time(&|_| Call::Find(u32::MAX));
-        println!("{shape:<26} {grow:>9.1} {newest:>9.1} {oldest:>9.1} {none:>9.1} {:>6.2}", none / grow);
+        let (grow, _) = time(&|_| GROW);
+        let tags: [&dyn Fn(&Register) -> u32; 3] = [&|register| register.tags().1, &|register| register.tags().0, &|_| u32::MAX];
+        let among = tags.map(|tag| time(&|register| Call::Find(tag(register))));
+        let in_order = tags.map(|tag| time(&|register| Call::FindInOrder(tag(register))).1);
+        let found = among.map(|(proved, _)| format!("{proved:>7.1}")).join(" ");
+        let ratios = |ratios: [f64; 3]| ratios.map(|ratio| format!("{ratio:.2}")).join(" ");
+        println!("{shape:<26} {grow:>7.1} {found} {:>6.2}  {:<16} {:<16}", among[2].0 / grow, ratios(among.map(|(_, ratio)| ratio)), ratios(in_order));
     }
 }

@@ -31,13 +31,49 @@ impl Register {
             return Err(8);
         }
         let wearer = self.labels.iter().position(|&worn| worn == label).ok_or(8u32)? as u16;
+        Ok(self.found_at(wearer))
+    }
+
+    /// The same as document 02, S-3, asks for it: the chains and rings with labels are taken by falling lowest label.
+    pub fn find_from_newest(&self, label: u32) -> Result<[u32; 4], u32> {
+        let mut lowest: Vec<u16> = (0..self.vertices as u16).filter(|&v| self.is_lowest(v)).collect();
+        lowest.sort_unstable_by_key(|&v| Reverse(self.labels[usize::from(v)]));
+        let wearer = lowest.into_iter().find_map(|v| self.wearer_above(v, label)).ok_or(8u32)?;
+        Ok(self.found_at(wearer))
+    }
+
+    /// Whether v wears the lowest label of its chain or ring.
+    fn is_lowest(&self, v: u16) -> bool {
+        let label = |v: u16| self.labels[usize::from(v)];
+        let below = || label(self.far(self.sides[usize::from(v)][0], v));
+        label(v) != 0 && (below() == 0 || label(v) < below())
+    }
+
+    /// The vertex that wears a label, on the way up from the lowest one.
+    fn wearer_above(&self, lowest: u16, label: u32) -> Option<u16> {
+        let high = self.sides[usize::from(lowest)][1];
+        let mut w = Walker { edge: high, at: self.far(high, lowest) };
+        if self.labels[usize::from(lowest)] == label {
+            return Some(lowest);
+        }
+        while self.is_regular(w.at) && w.at != lowest {
+            if self.labels[usize::from(w.at)] == label {
+                return Some(w.at);
+            }
+            w = self.step(w);
+        }
+        None
+    }
+
+    /// What find tells of the vertex that wears the label.
+    fn found_at(&self, wearer: u16) -> [u32; 4] {
         let [low, high] = self.sides[usize::from(wearer)];
         let (at, below, least) = self.walk(wearer, low);
         if at == wearer {
-            return Ok([u32::from(least), u32::from(wearer), 0, below]);
+            return [u32::from(least), u32::from(wearer), 0, below];
         }
         let (_, above, other) = self.walk(wearer, high);
-        Ok([u32::from(least.min(other)), u32::from(wearer), below, above])
+        [u32::from(least.min(other)), u32::from(wearer), below, above]
     }
 
     /// The same by a vertex, through its label.
