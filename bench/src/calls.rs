@@ -169,6 +169,13 @@ fn teed(fittings: usize) -> Edges {
     line(length).into_iter().chain(tees).collect()
 }
 
+/// Legs of two pipes and, beside them, a line with a tee on every second coupling.
+fn legs_and_line(count: usize, fittings: usize) -> Edges {
+    let first = 2 * count + 1;
+    let beside = teed(fittings - first).into_iter().map(|(a, b)| (first + a, first + b));
+    legs(count).into_iter().chain(beside).collect()
+}
+
 /// Legs of four pipes from one fitting, each with a tee on its middle coupling: two runs with a coupling to a leg.
 fn teed_legs(count: usize) -> Edges {
     (0..count).map(|leg| 5 * leg).flat_map(|v| [(0, v + 1), (v + 1, v + 2), (v + 2, v + 3), (v + 3, v + 4), (v + 2, v + 5)]).collect()
@@ -186,6 +193,7 @@ fn many_runs(version: u8, random: &mut Random) -> Vec<(&'static str, Vec<Vec<u8>
     shapes.push(("2,047 legs in random order", several(|| list(version, 4095, &shuffled(legs(2047), random)))));
     shapes.push(("819 legs with a tee", vec![list(version, 4096, &teed_legs(819))]));
     shapes.push(("line with 1,365 tees", vec![list(version, 4096, &teed(4096))]));
+    shapes.push(("1,900 legs, line with tees", vec![list(version, 4096, &legs_and_line(1900, 4096))]));
     shapes.push(("2,048 rings of two", vec![list(version, 4096, &pairs(2048))]));
     shapes
 }
