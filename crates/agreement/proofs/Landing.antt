@@ -151,6 +151,7 @@ module _ (r : Register) (e : Edge) (rings : Bool) where
         let a = unrefused r e q in
         inserts-agree r e rings g warns (a .lawful .first-landed) (a .lawful .second-landed) (a .lawful .differ) (a .room)
 
+    -- landing an edge on the tables of a register leaves and answers what landing it in the register does
     pub land-agrees : landIn (tablesOf r) (countsOf r) rings e ≡ shownIn r (ringsAfter r rings e) (landEdge r e)
     unfolding landIn
     land-agrees =

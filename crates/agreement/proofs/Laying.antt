@@ -147,6 +147,7 @@ pub record Follow (up : Bool) (label n : ℕ) : Type 0 where
   pub third : next up (next up (next up label)) ≡ nextIn up (next up (next up label))
   pub room : next up (next up (next up label)) + n < most32
 
+-- the code steps so where the last of these labels stays below the largest number
 pub follow : (up : Bool) (label n : ℕ) → label + 3 + n < most32 → Follow up label n
 follow up label n h =
     let b₁ = next-most up label in

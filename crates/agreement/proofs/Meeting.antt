@@ -39,6 +39,7 @@ not-passed v (s ∷ ss) e = go (ℕ-discrete (s .at) v) (λ q. not-passed v ss q
     go (yes q) ih = absurd (not-both _ (rw (eq-eqb (s .at) v q, passes)) e)
     go (no q) ih = off-cons s ss v (ih (rw (ne-eqb (s .at) v q, passes) at e)) (λ z. q (sym z))
 
+-- the test fails off the path, and holds on it
 pub passes-off : (v : ℕ) (ss : List Pass) → Off ss v → passes v ss ≡ false
 passes-off v ss o = go (true-or-false (passes v ss))
   where

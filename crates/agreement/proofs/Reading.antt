@@ -51,10 +51,12 @@ module _ {es : List Edge} (pr : Proper es) {degrees sides ends lows : List ℕ} 
 -- the count of a merge, by where the walks in lockstep met: a ring is closed, or one chain keeps its labels
 module _ (degrees s ends l : List ℕ) (a b n da ua db ub : ℕ) (m : Met) (h : (da ≡ getD s (2 * a) 0) × (ua ≡ farIn ends da a))
     (i : (db ≡ getD s (2 * b) 0) × (ub ≡ farIn ends db b)) (is : m ≡ lockstepIn degrees s ends n da ua db ub) where
+  -- the first walk came to b: a ring is closed, and nothing relabelled
   pub count-closes : m .first ≡ b → estimated true 0 ≡ mergeCountIn degrees s ends l a b n
   unfolding mergeCountIn mergeCountAt
   count-closes o = rw (← h .0, ← h .1, ← i .0, ← i .1, ← is, eq-eqb _ _ o)
 
+  -- the first walk did not come to b: the chain that keeps its labels says how many
   pub count-kept : (keeper : Keeper) (c : ℕ) → (m .first ≡ b → ⊥) → keeper ≡ keeperFor degrees a b m → c ≡ keeperCountIn keeper degrees s ends l n
       → estimated false c ≡ mergeCountIn degrees s ends l a b n
   unfolding mergeCountIn mergeCountAt

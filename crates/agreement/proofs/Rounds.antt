@@ -80,6 +80,7 @@ far-second es pr d h = rw (ne-eqb ((edgeAt es d) .first) ((edgeAt es d) .second)
 
 -- a regular vertex has degree 2 in the table, a singular one has not
 module _ (r : Register) (g : Reachable r) (d v : ℕ) (a : At (r .edges) v d) where
+  -- the table of degrees has 2 at a regular vertex, and something else at a singular one
   pub two-read : isRegular (r .edges) v ≡ true → getD ((tablesOf r) .degrees) v 0 ≡ 2
   two-read q = (steps r g d v a q) .regular
 

@@ -149,6 +149,7 @@ module _ {es : List Edge} (pr : Proper es) {degrees sides₀ ends lows₀ : List
     pub rd-older : (labels : List ℕ) (label : ℕ) → AllOlder es labels label → Older labels label (onceRound es (lowerNumbered es v) v)
     rd-older labels label h i s j = h (s .at) (is-two es (s .at) ((between-ith rd rd-between i s j) .regular))
 
+    -- once round from v does not pass v
     pub rd-off : Off (onceRound es (lowerNumbered es v) v) v
     rd-off = r .off
 

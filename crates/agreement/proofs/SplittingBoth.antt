@@ -36,6 +36,7 @@ use Rattle.agreement.proofs.Splitting.{Also, SplitAs, SplitOne, bared-a
 -- ---- the answer of the ring test
 
 module _ {es : List Edge} (pr : Proper es) {degrees sides ends lows : List ℕ} (sh : Shows es degrees sides ends lows) (v w : ℕ) (two : degree es v ≡ 2) where
+  -- where w is not on the ring of v, the test finds that ring and how many others lie on it, or that there is none
   pub by-test : (vertexOnRing es v ≡ true → Off (onceRound es (lowerNumbered es v) v) w)
       → ringIn degrees sides ends v w (length es) ≡ byTest (vertexOnRing es v) (length (onceRound es (lowerNumbered es v) v))
   unfolding backIn

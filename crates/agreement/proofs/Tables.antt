@@ -90,6 +90,7 @@ pub degrees-are : (r : Register) (degrees : List ℕ) → length degrees ≡ max
 unfolding tablesOf
 degrees-are r degrees l h = is-map (λ w. degree (r .edges) w) maxVertices degrees l h
 
+-- the table of degrees has a place for each vertex
 pub degrees-long : (r : Register) → length ((tablesOf r) .degrees) ≡ maxVertices
 unfolding tablesOf
 degrees-long r = length-mapped (λ w. degree (r .edges) w) maxVertices

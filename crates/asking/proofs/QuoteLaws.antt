@@ -13,6 +13,7 @@ use Rattle.agreement.proofs.Standing.{warns-any}
 use Rattle.agreement.proofs.Quoting.{quote-agrees}
 use Rattle.questions.proofs.Answers.{Answers}
 
+-- what is quoted over the tables of a register is answered
 pub quote-answers : (t : Tables) (c : Counts) (e : Edge) (q : Quote) → q ≡ quoteIn (t .degrees) (t .sides) (t .ends) (t .labels) c true e
     → Answers (quotes e) t c [] (quoted q)
 unfolding effect answer answers

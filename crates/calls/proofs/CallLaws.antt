@@ -88,6 +88,7 @@ commit-shown r t′ s′ c c′ a y rings (refused n) p z l k m =
     rw (k, m, g, f, z, p)
 
 module _ (t : Tables) (c : Counts) (s : Tables) (q : Quote) where
+  -- a commit that the gate lets in leaves and answers what it is defined to
   pub commit-done : (t′ s′ : Tables) (c′ : Counts) (a : AnswerIn) (y : Reply) → none ≡ barred (lent t c s) → s′ ≡ scratchAfter (lent t c s)
       → landingIn t′ a ≡ commitIn t c true q → c′ ≡ countsAfter c a → y ≡ replyTo a
       → outcome t′ c′ s′ [] y ≡ step (commits q) (lent t c s)

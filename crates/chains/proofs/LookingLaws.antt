@@ -60,6 +60,7 @@ module _ (ds ss es lens ls : List ℕ) (label home : ℕ) where
   unfolding lookIn
   look-on n s d v c w h i j = rw (h, i, j)
 
+  -- the step on, as a turn of the loop
   pub look-step : (n : ℕ) (s t : Seen) (d v c w : ℕ) → 0 < n → goesOnIn ds home v ≡ true → c ≡ turnIn ss d v → w ≡ farIn es c v
       → t ≡ withEdge lens ls label s v c → lookIn ds ss es lens ls label home n s d v ≡ lookIn ds ss es lens ls label home (n - 1) t c w
   look-step zero s t d v c w h g a b e = absurd (not-suc-le-zero h)

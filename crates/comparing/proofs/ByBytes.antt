@@ -57,6 +57,7 @@ differ-first k a b xs ys n =
 
 -- ---- bytes in common
 
+-- equal first bytes are one more in common; different ones leave none
 pub common-on : (x y : ℕ) (xs ys : List ℕ) → x ≡ y → common (x ∷ xs) (y ∷ ys) ≡ suc (common xs ys)
 unfolding common
 common-on x y xs ys e = rw (eq-eqb x y e, common)
@@ -76,6 +77,7 @@ common-le (x ∷ xs) (y ∷ ys) = go (ℕ-discrete x y) (common-le xs ys)
     go (yes e) h = (omega (arith, common-on x y xs ys e, h .0), omega (arith, common-on x y xs ys e, h .1))
     go (no n) h = (omega (arith, common-off x y xs ys n), omega (arith, common-off x y xs ys n))
 
+-- a byte ends at most one line, so a text has at most as many line ends as bytes
 pub end-le : (b : ℕ) → endAt b ≤ 1
 unfolding endAt
 end-le b = go (eqb b 10)
@@ -136,6 +138,7 @@ all-common (x ∷ xs) (y ∷ ys) h l = go (ℕ-discrete x y) (λ a b. all-common
 
 -- ---- the ways out of `compare_texts`
 
+-- all bytes of both are in common: the texts agree
 pub text-same : (right text : List ℕ) (c : ℕ) → c ≡ common right text → length right ≤ c → length text ≤ c → agrees ≡ compareTexts right text
 text-same right text c e h l =
     let same : right ≡ text = all-common right text (omega arith) (omega arith) in
@@ -147,6 +150,7 @@ unfolding compareTexts
 text-differs right text c n e f h =
     rw (f, e) (sym (differs 1 right text (omega arith)))
 
+-- one of the texts has more: wrong is the line behind as many line ends as they have in common
 pub right-longer : (right text : List ℕ) (c n : ℕ) → c ≡ common right text → n ≡ lineEnds (take c right) → c < length right
     → wrongLine (1 + n) ≡ compareTexts right text
 right-longer right text c n e f h = text-differs right text c n e f (omega (arith, e, h, common-le right text .1))

@@ -17,6 +17,7 @@ no-text [] = refl
 no-text (x ∷ xs) = refl
 
 module _ (xs ys : List ℕ) (i : ℕ) (h : i + common (drop i xs) (drop i ys) ≡ common xs ys) where
+  -- one of the texts ends here: what was passed is all that is in common
   pub text-ends : length ys ≤ i → i ≡ common xs ys
   text-ends l =
       let e : common (drop i xs) (drop i ys) ≡ 0 = ap (λ (zs : List ℕ). common (drop i xs) zs) (drop-of-length-le ys l) ∙ no-text (drop i xs) in
@@ -28,11 +29,13 @@ module _ (xs ys : List ℕ) (i : ℕ) (h : i + common (drop i xs) (drop i ys) �
       let e : common (drop i xs) (drop i ys) ≡ 0 = ap (λ (zs : List ℕ). common zs (drop i ys)) (drop-of-length-le xs l) in
       omega (arith, h, e)
 
+  -- the bytes here differ: no more is in common
   pub byte-differs : i < length xs → i < length ys → (getD xs i 0 ≡ getD ys i 0 → ⊥) → i ≡ common xs ys
   byte-differs l m n =
       let e : common (drop i xs) (drop i ys) ≡ 0 = rw (drop-cons xs i 0 l, drop-cons ys i 0 m) (common-off _ _ _ _ n) in
       omega (arith, h, e)
 
+  -- the bytes here are equal: one more is passed
   pub byte-same : i < length xs → i < length ys → getD xs i 0 ≡ getD ys i 0 → (i + 1) + common (drop (i + 1) xs) (drop (i + 1) ys) ≡ common xs ys
   byte-same l m e =
       let f : common (drop i xs) (drop i ys) ≡ suc (common (drop (suc i) xs) (drop (suc i) ys)) = rw (drop-cons xs i 0 l, drop-cons ys i 0 m) (common-on _ _ _ _ e) in
@@ -45,9 +48,11 @@ unfolding lineEnds
 ends-snoc [] x = omega arith
 ends-snoc (y ∷ xs) x = omega (arith, ends-snoc xs x)
 
+-- a byte more, and its line end if it is one
 pub ends-more : (xs : List ℕ) (i n e : ℕ) → n ≡ lineEnds (take i xs) → e ≡ endAt (getD xs i 0) → i < length xs → n + e ≡ lineEnds (take (i + 1) xs)
 ends-more xs i n e h f l = rw (add-one, take-suc xs i 0 l, ends-snoc (take i xs) (getD xs i 0), ← h, ← f)
 
+-- the loop is done: the text has ended, or m bytes were passed
 pub ends-all : (xs : List ℕ) (i m n : ℕ) → n ≡ lineEnds (take i xs) → length xs ≤ i → i ≤ m → n ≡ lineEnds (take m xs)
 ends-all xs i m n h l k = h ∙ ap lineEnds (take-all i xs l ∙ sym (take-all m xs (omega arith)))
 
@@ -56,6 +61,7 @@ ends-there xs i m n h l k =
     let e : i ≡ m = omega arith in
     h ∙ ap (λ (j : ℕ). lineEnds (take j xs)) e
 
+-- there are no more line ends than bytes, and at most one in a byte
 pub ends-fit : (xs : List ℕ) (c n : ℕ) → n ≡ lineEnds (take c xs) → n ≤ length xs
 ends-fit xs c n e = omega (arith, e, ends-le (take c xs), length-take c xs)
 

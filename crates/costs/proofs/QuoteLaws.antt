@@ -30,6 +30,7 @@ module _ (r : Register) (e : Edge) where
       let f : edgeRefusal r e ≡ some 5 = rw h in
       sym (terms-by r e ∙ rw f)
 
+  -- a quote with such an end declines with 5, be it the first or the second
   pub first-beyond : r .vertices ≤ e .first → declines 5 ≡ (quote r e) .terms
   first-beyond h = not-landed (rw (le-ltb (e .first) (r .vertices) h))
 

@@ -26,10 +26,12 @@ use Rattle.counting.specs.Counting.{countIn, joinCountIn, keeperCountIn,
 use Rattle.labels.specs.declared.merging.Keeper.{Keeper}
 use Rattle.labels.specs.declared.merging.Keeper.the-variants.{Chain}
 
+-- one vertex counts at most 1
 pub moved-le : (m old new : ℕ) → m ≡ movedIn old new → m ≤ 1
 unfolding movedIn
 moved-le m old new e = rw e (one-most (isRelabelled old new))
 
+-- a vertex counts 1 where the test of its old label and the new one says so
 pub moved-law : (was label old n : ℕ) (r : Bool) → old ≡ was → r ≡ isRelabelled old label → n ≡ (if r then 1 else 0) → n ≡ movedIn was label
 unfolding movedIn
 moved-law was label old n r a b e = rw (← a, ← b) e
@@ -40,11 +42,13 @@ module _ (degrees sides ends labels : List ℕ) (up : Bool) where
   count-none zero d v label h = refl
   count-none (suc n) d v label h = absurd (not-suc-le-zero h)
 
+  -- at a singular vertex nothing more is counted
   pub count-end : (n d v label : ℕ) → (getD degrees v 0 ≡ 2 → ⊥) → countIn degrees sides ends labels up n d v label ≡ 0
   unfolding countIn
   count-end zero d v label h = refl
   count-end (suc n) d v label h = rw (ne-eqb _ _ h)
 
+  -- a regular vertex is counted, and then those behind it with the next label
   pub count-on : (n d v label d′ v′ label′ : ℕ) → getD degrees v 0 ≡ 2 → turnIn sides d v ≡ d′ → farIn ends d′ v ≡ v′ → nextIn up label ≡ label′
       → countIn degrees sides ends labels up (suc n) d v label ≡ movedIn (getD labels v 0) label + countIn degrees sides ends labels up n d′ v′ label′
   unfolding countIn
@@ -74,12 +78,14 @@ unfolding joinCountIn
 join-count degrees s ends l x y n dx dy ux uy old lx ly lz r up a b f g h i j k =
     rw (← a .0, ← a .1, ← b .0, ← b .1, ← f, ← g, ← h, ← i, ← j) k
 
+-- the count by the keeper, where that is the chain of x
 pub chain-count : (degrees s ends l : List ℕ) (n c : ℕ) (keeper : Keeper) (x y : Vertex) → keeper ≡ Chain x y → c ≡ joinCountIn degrees s ends l (x .0) (y .0) n
     → c ≡ keeperCountIn keeper degrees s ends l n
 chain-count degrees s ends l n c keeper x y e f = rw e f
 
 -- ---- taps
 
+-- the other end shares the ring: it loses its label, and is not counted
 pub shared-round : (round : Round) (n m : ℕ) → round ≡ Shared n → m ≡ n - 1 → m ≡ roundCount round
 shared-round round n m e f = rw e f
 
@@ -91,11 +97,13 @@ unfolding mergerAt mergeCountAt
 merged-at degrees s ends l a b n m true o = rw o
 merged-at degrees s ends l a b n m false o = rw o
 
+-- the count of a merge by what was decided is the count of the merge
 pub merger-counts : (degrees s ends l : List ℕ) (a b n : ℕ)
     → mergerCount (mergerFor degrees s ends a b n) degrees s ends l n ≡ mergeCountIn degrees s ends l a b n
 unfolding mergerFor mergeCountIn
 merger-counts degrees s ends l a b n = merged-at degrees s ends l a b n _ _ refl
 
+-- the count of a split by the rings that were found is the count of the split
 pub rounds-count : (x : Splits) (degrees s ends : List ℕ) (a b n : ℕ) (rings : Bool)
     → roundsCount (roundsFor x degrees s ends a b n rings) ≡ splitCountIn x degrees s ends a b n rings
 unfolding splitCountIn roundsOne roundsBoth

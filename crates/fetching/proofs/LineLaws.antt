@@ -57,11 +57,13 @@ module _ (ds ss es ls vs : List ℕ) (n : ℕ) (ms₀ : List ℕ) (e : ℕ) (ms 
 -- ---- 33, and the line behind it
 
 module _ (ends lengths volumes : List ℕ) (c : Counts) (s : OpenSheet) (t : Tables) where
+  -- fewer vertices than at the opening: 33
   pub more-vertices : c .vertices < s .vertices → refuses 33 ≡ fetchIn ends lengths volumes c s t
   unfolding fetchIn
   more-vertices h = rw (lt-ltb (c .vertices) (s .vertices) h)
 
   module _ (v : s .vertices ≤ c .vertices) where
+    -- fewer edges than at the opening: 33
     pub more-edges : c .edges < s .edges → refuses 33 ≡ fetchIn ends lengths volumes c s t
     unfolding fetchIn
     more-edges h = rw (le-ltb (c .vertices) (s .vertices) v, lt-ltb (c .edges) (s .edges) h)
@@ -73,9 +75,11 @@ module _ (ends lengths volumes : List ℕ) (c : Counts) (s : OpenSheet) (t : Tab
       answered =
           rw (le-ltb (c .vertices) (s .vertices) v, le-ltb (c .edges) (s .edges) e) (ap (λ (l : LandingIn). lineOn s (l .tables) (l .answer)) q)
 
+      -- the edges of the opening do not land on its vertices: 33
       pub edge-beyond : (x : ℕ) → answer ≡ refusedIn x → refuses 33 ≡ fetchIn ends lengths volumes c s t
       edge-beyond x w = sym (ap (lineOn s t′) w) ∙ answered
 
+      -- the edges of the opening land: the line at the place is answered
       pub line-landed : (c′ : Counts) (rings : Bool) (a : Reply) → answer ≡ done c′ rings
           → a ≡ fetchLine s (lineAt (s .place) (sheetIn (t′ .degrees) (t′ .sides) (t′ .ends) (t′ .lengths) (t′ .volumes) (s .edges) (replicate maxEdges 0)))
           → a ≡ fetchIn ends lengths volumes c s t

@@ -118,6 +118,7 @@ growing t c = growFrom (c .vertices) (storedEdges t (c .edges))
 abbrev pub regrown : Tables → Counts → LandingIn
 regrown t c = regrowIn (t .ends) (t .lengths) (t .volumes) c cleared
 
+-- growing again on cleared tables and by the definition leaves the same register, or is refused alike
 pub regrow-agrees : (t : Tables) (c : Counts) → Agrees (growing t c) (regrown t c)
 unfolding regrowIn storedEdges upTo
 regrow-agrees t c = go (decLe (c .vertices) maxVertices)

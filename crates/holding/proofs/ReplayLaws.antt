@@ -32,6 +32,7 @@ module _ (es ls us : List ℕ) where
   unfolding regrowIn
   replay-all c t l h e = rw (le-leb (c .vertices) maxVertices h) e
 
+  -- no edge is left: the tables and the counts stay
   pub replay-end : (n e : ℕ) (t : Tables) (c : Counts) (rings : Bool) → n ≤ 0 → landingIn t (done c rings) ≡ replayIn es ls us n e t c rings
   unfolding replayIn
   replay-end zero e t c rings h = refl
@@ -87,6 +88,7 @@ counts-last a b v e k = (λ h. counts-parts v e k (eqb-true _ _ h), λ h. eq-eqb
 pub stored-is : (s s′ : Stored) → some s ≡ some s′ → s ≡ s′
 stored-is s s′ e = cc
 
+-- nothing left is not something stored
 pub none-some : (s : Stored) → none ≡ some s → ⊥
 none-some s e = let z : _≡_ {A = ℕ} 0 1 = cc in omega arith
 
