@@ -25,15 +25,18 @@ use Rattle.insertion.specs.declared.planning.Plan.{Plan}
 use Rattle.insertion.specs.declared.quoting.Intent.{Intent}
 
 module _ (c : Counts) (rings : Bool) where
+  -- no room for a vertex: 22
   pub vertex-full : maxVertices ≤ c .vertices → refusedIn 22 ≡ landVertexIn c rings
   unfolding landVertexIn
   vertex-full h = rw (le-leb maxVertices (c .vertices) h)
 
+  -- room for a vertex: there is one more, and no other count changes
   pub vertex-more : (n : ℕ) → c .vertices < maxVertices → n ≡ more16 (c .vertices)
       → done (counts n (c .edges) (c .blocks) (c .relabellings)) rings ≡ landVertexIn c rings
   unfolding landVertexIn
   vertex-more n h e = rw (lt-leb maxVertices (c .vertices) h, e)
 
+-- an edge placed as planned and stored behind the others, with the counts raised, is inserted
 pub insert-done : (d s ends l u t d′ s′ t′ ends′ l′ u′ : List ℕ) (c : Counts) (rings ring after : Bool) (a b len volume blocks m edges n : ℕ) (by : Plan)
     → placed d′ s′ t′ blocks m ring ≡ plannedIn by d s ends t (c .blocks) a b (c .edges) → ends′ ≡ setPair ends (c .edges) a b
     → l′ ≡ set l (c .edges) len → u′ ≡ set u (c .edges) volume → edges ≡ more16 (c .edges) → n ≡ sum32 (c .relabellings) m → after ≡ (rings || ring)
@@ -86,20 +89,24 @@ module _ (c : Counts) (a b n v : ℕ) where
   abbrev edge : Edge
   edge = record { first = a; second = b; len = n; volume = v }
 
+  -- the first end is not landed: 5
   pub check-first : isLanded (c .vertices) a ≡ false → failed 5 ≡ checkIn c edge
   unfolding checkIn
   check-first h = rw h
 
+  -- the second end is not landed: 5
   pub check-second : isLanded (c .vertices) a ≡ true → isLanded (c .vertices) b ≡ false → failed 5 ≡ checkIn c edge
   unfolding checkIn
   check-second h g = rw (h, g)
 
   module _ (h : isLanded (c .vertices) a ≡ true) (g : isLanded (c .vertices) b ≡ true) where
+    -- both ends are one vertex: 6
     pub check-same : a ≡ b → failed 6 ≡ checkIn c edge
     unfolding checkIn
     check-same e = rw (h, g, eq-eqb _ _ e)
 
     module _ (e : a ≡ b → ⊥) where
+      -- the length is out of bounds: 7
       pub check-length : none ≡ within 1 maxLength n → failed 7 ≡ checkIn c edge
       unfolding checkIn
       check-length l = rw (h, g, ne-eqb _ _ e, if-none (eqb n 0 || ltb maxLength n) n (l ∙ length-test n))
@@ -108,6 +115,7 @@ module _ (c : Counts) (a b n v : ℕ) where
         length-is : ((eqb n 0 || ltb maxLength n) ≡ false) × (m ≡ n)
         length-is = if-some (eqb n 0 || ltb maxLength n) m n (l ∙ length-test n)
 
+        -- the volume is out of range: 31
         pub check-volume : none ≡ storedVolume (volumeOf v) → failed 31 ≡ checkIn c edge
         unfolding checkIn
         check-volume w = rw (h, g, ne-eqb _ _ e, length-is .0, if-none (ltb maxVolume v) v (w ∙ volume-test v))
@@ -116,10 +124,12 @@ module _ (c : Counts) (a b n v : ℕ) where
           volume-is : (ltb maxVolume v ≡ false) × (u ≡ v)
           volume-is = if-some (ltb maxVolume v) u v (w ∙ volume-test v)
 
+          -- no room for an edge: 23
           pub check-edges : maxEdges ≤ c .edges → failed 23 ≡ checkIn c edge
           unfolding checkIn
           check-edges o = rw (h, g, ne-eqb _ _ e, length-is .0, volume-is .0, le-leb _ _ o)
 
+          -- no refusal holds: the edge passes, with the numbers that it came with
           pub check-passed : (a′ b′ : ℕ) → a′ ≡ a → b′ ≡ b → c .edges < maxEdges → passed a′ b′ m u ≡ checkIn c edge
           unfolding checkIn
           check-passed a′ b′ x y o =

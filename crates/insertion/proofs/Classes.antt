@@ -3,6 +3,7 @@ use mathlib.Core.Path.{_≡_, refl}
 use Prim.Native.Nat.{ℕ, zero, suc}
 use Rattle.model.specs.Cases.{Class, isolated, leaf, regular, branch, classOf, caseOf}
 
+-- a vertex of a degree other than 0, 1 and 2 is a branch
 pub class-branch : (n : ℕ) → (n ≡ 0 → ⊥) → (n ≡ 1 → ⊥) → (n ≡ 2 → ⊥) → branch ≡ classOf n
 unfolding classOf
 class-branch zero a b c = absurd (a refl)

@@ -9,10 +9,12 @@ use Rattle.insertion.specs.Committing.{commitIn}
 
 module _ (t : Tables) (c : Counts) (rings : Bool) (q made : Quote) (same : Bool)
     (h : made ≡ quoteIn (t .degrees) (t .sides) (t .ends) (t .labels) c rings (q .asked)) (g : same ≡ eqQuote q made) where
+  -- the quote made now is another: 32, and the tables stay
   pub commit-differs : same ≡ false → landingIn t (refusedIn 32) ≡ commitIn t c rings q
   unfolding commitIn
   commit-differs e = rw (← h, ← g, e)
 
+  -- the quote made now is the same: the edge is landed
   pub commit-lands : (t′ : Tables) (a : AnswerIn) → same ≡ true → landingIn t′ a ≡ landIn t c rings (q .asked) → landingIn t′ a ≡ commitIn t c rings q
   unfolding commitIn
   commit-lands t′ a e l = rw (← h, ← g, e) l

@@ -19,6 +19,7 @@ use Rattle.insertion.specs.declared.placing.Extension.{Extension}
 use Rattle.insertion.specs.declared.placing.Extension.the-variants.{Nothing, Leaf}
 
 module _ (degrees s : List ℕ) (v e : ℕ) where
+  -- an isolated vertex gets the edge as its low side; any other keeps its sides
   pub meet-isolated : getD degrees v 0 ≡ 0 → setPair s v e 0 ≡ meetIn degrees s v e
   unfolding meetIn
   meet-isolated h = rw (eq-eqb _ _ h)
@@ -29,17 +30,20 @@ module _ (degrees s : List ℕ) (v e : ℕ) where
 
 -- both ends opened, and then a leaf's chain goes on
 module _ (degrees s ends l degrees′ s′ l′ : List ℕ) (blocks a b blocks′ m e : ℕ) (ring : Bool) (splits : Splits) (rounds : Rounds) where
+  -- the ends split that are to be, the edge come to both and both degrees raised: both ends are opened
   pub opened-law : (s₁ s₂ : List ℕ) → changed s₁ l′ blocks′ m ring ≡ endsBy splits rounds degrees s ends l blocks a b
       → s₂ ≡ meetIn degrees s₁ a e → s′ ≡ meetIn degrees s₂ b e → degrees′ ≡ raiseBothIn degrees a b
       → placed degrees′ s′ l′ blocks′ m ring ≡ openedBy splits rounds degrees s ends l blocks a b e
   unfolding openedBy
   opened-law s₁ s₂ h i j k = rw (← h, ← i, ← j, ← k)
 
+  -- where no chain goes on, the edge is placed once both ends are opened
   pub open-nothing : (extension : Extension) → extension ≡ Nothing
       → placed degrees′ s′ l′ blocks′ m ring ≡ openedBy splits rounds degrees s ends l blocks a b e
       → placed degrees′ s′ l′ blocks′ m ring ≡ openBy splits rounds extension degrees s ends l blocks a b e
   open-nothing extension o h = rw o h
 
+  -- where the chain of the leaf x goes on, it does so once both ends are opened
   pub open-leaf : (extension : Extension) (x : Vertex) (s₁ l₁ : List ℕ) (k₁ k m₁ : ℕ) (ring₁ : Bool) → extension ≡ Leaf x
       → placed degrees′ s₁ l₁ k₁ m₁ ring₁ ≡ openedBy splits rounds degrees s ends l blocks a b e
       → marksIn s′ l′ k ≡ extendIn degrees′ s₁ ends l₁ k₁ (x .0) e → (blocks′ ≡ k) × (m ≡ m₁) × (ring ≡ false)
@@ -48,6 +52,7 @@ module _ (degrees s ends l degrees′ s′ l′ : List ℕ) (blocks a b blocks�
   open-leaf extension x s₁ l₁ k₁ k m₁ ring₁ o h g z = rw (o, z .0, z .1, z .2, ← h, ← g)
 
 module _ (degrees s ends l degrees′ s′ l′ : List ℕ) (blocks a b blocks′ m e : ℕ) (ring : Bool) (by : Merger) where
+  -- two chains merged and both degrees raised: the edge between two leaves is placed
   pub merged-law : changed s′ l′ blocks′ m ring ≡ mergeBy by degrees s ends l blocks a b e e → degrees′ ≡ raiseBothIn degrees a b
       → placed degrees′ s′ l′ blocks′ m ring ≡ mergedBy by degrees s ends l blocks a b e
   unfolding mergedBy

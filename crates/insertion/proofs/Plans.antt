@@ -28,10 +28,12 @@ use Rattle.insertion.specs.declared.quoting.Intent.{Intent}
 
 -- what is read for the work
 module _ (work : Work) (degrees s ends : List ℕ) (a b n : ℕ) (rings : Bool) where
+  -- the plan of a merge has whether a ring is closed, and which chain keeps its labels
   pub plan-merge : (m : Merger) (r : Rounds) → work ≡ Merge → m ≡ mergerFor degrees s ends a b n → r ≡ noRounds
       → plan work m r ≡ planFor work degrees s ends a b n rings
   plan-merge m r o h g = rw (o, h, g)
 
+  -- any other plan has what lies round about the ends that are split
   pub plan-open : (splits : Splits) (x : Extension) (r : Rounds) → work ≡ Open splits x → r ≡ roundsFor splits degrees s ends a b n rings
       → plan (Open splits x) (merger false Neither) r ≡ planFor work degrees s ends a b n rings
   plan-open splits x r o h = rw (o, h)

@@ -23,6 +23,7 @@ use Rattle.insertion.specs.declared.planning.Plan.{Plan}
 use Rattle.insertion.proofs.Plans.{planned-counts}
 
 module _ (case : Case) (n : ℕ) (ring : Bool) where
+  -- an offer is of case 7 where a ring would be closed, and else of the case of the edge
   pub terms-ring : ring ≡ true → offers 7 n ≡ offerIn case (estimated ring n)
   unfolding offerIn
   terms-ring h = rw h
@@ -41,15 +42,18 @@ offered d s ends l a b n rings case work p m terms h g i j k =
 
 -- an edge was checked: its quote, and what the commit does
 module _ (d s ends : List ℕ) (c : Counts) (rings : Bool) (e : Edge) (k k′ : Checked) (q : k ≡ k′) (h : asChecked k ≡ checkIn c e) where
+  -- the quote has the terms that follow from the check, and the counts of now
   pub quote-checked : (l : List ℕ) (terms : Terms) → terms ≡ termsIn d s ends l (c .edges) rings (asChecked k′)
       → record { asked = e; terms = terms; vertices = c .vertices; edges = c .edges } ≡ quoteIn d s ends l c rings e
   unfolding quoteIn
   quote-checked l terms g = rw (← h, q, ← g)
 
+  -- the commit of a quote does what follows from the check
   pub intent-checked : (x : IntentIn) → x ≡ intentFor d s ends (c .edges) rings (asChecked k′) → x ≡ intentIn d s ends c rings e
   unfolding intentIn
   intent-checked x g = rw (← h, q) g
 
+-- an edge that passed is placed by its commit, as planned
 pub intent-passed : (d s ends : List ℕ) (c : Counts) (rings : Bool) (e : Edge) (k : Checked) (a b : Vertex) (l : Millimetres) (v : Millilitres) (p : Plan)
     → k ≡ Passed a b l v → asChecked k ≡ checkIn c e → p ≡ planFor (workFor (caseIn d (a .0) (b .0)) (a .0) (b .0)) d s ends (a .0) (b .0) (c .edges) rings
     → place (a .0) (b .0) (l .0) (v .0) p ≡ intentIn d s ends c rings e

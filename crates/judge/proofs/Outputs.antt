@@ -31,6 +31,7 @@ page-holds give xs out q a e h f =
 
 -- ---- from the list alone
 
+-- a list that is too long: no sheet is awaited, and its line says so
 pub too-long : (bs out word : List ℕ) (q : Page) → 65536 < length bs → roomBytes ≤ length out → word ≡ ascii "too long\n" → q ≡ write word (page out 0)
     → Counted (q .at) (q .slice) × (nothing (take (q .at) (q .slice)) ≡ awaited bs)
 unfolding awaited ascii
@@ -53,24 +54,28 @@ await-is bs h = rw (le-ltb 65536 (length bs) h) (go ((growList bs) .stop))
     go (stopped k x) = refl
 
 module _ (bs : List ℕ) (short : length bs ≤ 65536) where
+  -- a list that is read whole: its right text is the sheet awaited
   pub sheet-awaited : (r : Right) (n : ℕ) (xs : List ℕ) → r ≡ right.Text n → Counted (rightSize r) xs × (asRight r xs ≡ rightOf (growList bs))
       → Counted n xs × (sheet (take n xs) ≡ awaited bs)
   sheet-awaited r n xs e h =
       let g = subst (λ (z : Right). Counted (rightSize z) xs × (asRight z xs ≡ rightOf (growList bs))) e h in
       (g .0, ap await (g .1) ∙ await-is bs short)
 
+  -- a list that stops: no sheet is awaited, and its line says where
   pub none-awaited : (r : Right) (k x : ℕ) (xs out : List ℕ) (q : Page) → asRight r xs ≡ stops k x → asRight r xs ≡ rightOf (growList bs)
       → k < 18446744073709551616 → x < 4294967296 → roomBytes ≤ length out → q ≡ write (stopLine (stopped k x)) (page out 0)
       → Counted (q .at) (q .slice) × (nothing (take (q .at) (q .slice)) ≡ awaited bs)
   none-awaited r k x xs out q s h hk hx l e =
       page-holds nothing _ out q (awaited bs) e (omega (arith, stop-length k x hk hx)) (ap await (sym s ∙ h) ∙ await-is bs short)
 
+-- an equal answer has as many bytes in the slice
 pub size-held : (r s : Expected) (xs : List ℕ) → r ≡ s → Counted (sizeOf r) xs → Counted (sizeOf s) xs
 size-held r s xs e h = subst (λ (o : Expected). Counted (sizeOf o) xs) e h
 
 -- ---- from the right text and the sheet
 
 module _ (right text out : List ℕ) (long : lineBytes ≤ length out) where
+  -- a sheet that agrees: its line says so
   pub line-agrees : (word : List ℕ) (q : Page) → agrees ≡ compareTexts right text → word ≡ ascii "agrees\n" → q ≡ write word (page out 0)
       → Counted (q .at) (q .slice) × (take (q .at) (q .slice) ≡ verdictLine (compareTexts right text))
   unfolding verdictLine ascii

@@ -36,6 +36,7 @@ module _ (bs : List ℕ) (d : ReadingIn) (grown : d ≡ landListIn cleared noCou
   same-stop : (s : Stop) → s ≡ d .stop → (growList bs) .stop ≡ s
   same-stop s e = sym (e ∙ ap (λ (z : ReadingIn). z .stop) (grown ∙ list-leaves bs))
 
+  -- a list that is read whole: what is written is its right text
   pub text-given : (out : List ℕ) (q : Page) → roomBytes ≤ length out → whole ≡ d .stop
       → q ≡ write (listingIn (d .counts) (sheetOver (d .tables) (d .counts .edges) maxEdges) whole) (page out 0)
       → q .at ≤ headBytes + rowBytes * d .counts .edges + stopBytes → Counted (q .at) (q .slice) × (listed (take (q .at) (q .slice)) ≡ rightOf (growList bs))
@@ -45,6 +46,7 @@ module _ (bs : List ℕ) (d : ReadingIn) (grown : d ≡ landListIn cleared noCou
       let w = lists bs out d q l grown f b in
       (w .0, ap listed (w .1) ∙ right-whole (growList bs) (same-stop whole s))
 
+  -- a list that stops: nothing is written, and where it stops is the answer
   pub stop-given : (out : List ℕ) (k x : ℕ) → stopped k x ≡ d .stop → Counted 0 out × (stops k x ≡ rightOf (growList bs))
   stop-given out k x s = (counted 0 out (omega arith), right-stops (growList bs) k x (same-stop (stopped k x) s))
 
@@ -63,12 +65,15 @@ judged-by bs text = go ((growList bs) .stop) refl
     go whole e = ap (λ (t : RightText). judgedBy t text) (sym (right-whole (growList bs) e)) ∙ sym (whole-judged bs text e)
     go (stopped k x) e = ap (λ (t : RightText). judgedBy t text) (sym (right-stops (growList bs) k x e)) ∙ sym (refused-told bs text k x e)
 
+-- the verdict of the comparison with the right text is that on the list and the text
 pub text-judged : (bs right text : List ℕ) (v w : Verdict) → listed right ≡ rightOf (growList bs) → v ≡ w → w ≡ compareTexts right text → v ≡ judge bs text
 text-judged bs right text v w e f g = f ∙ g ∙ ap (λ (t : RightText). judgedBy t text) e ∙ judged-by bs text
 
+-- of a list that stops, no text is judged
 pub stop-judged : (bs text : List ℕ) (k x : ℕ) → stops k x ≡ rightOf (growList bs) → notJudged k x ≡ judge bs text
 stop-judged bs text k x e = ap (λ (t : RightText). judgedBy t text) e ∙ judged-by bs text
 
+-- an equal answer has as many bytes in the slice, and means the same right text
 pub size-held : (r s : Right) (xs : List ℕ) → r ≡ s → Counted (sizeOf r) xs → Counted (sizeOf s) xs
 size-held r s xs e h = subst (λ (o : Right). Counted (sizeOf o) xs) e h
 

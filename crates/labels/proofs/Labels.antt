@@ -21,6 +21,7 @@ unfolding nextIn next more32
 nextIn-is true label h = omega arith
 nextIn-is false label h = refl
 
+-- a label and two sides stored, and the test of the old label, are what labelling a vertex is
 pub label-law : (s l s′ l′ : List ℕ) (v label before after old n : ℕ) (up r : Bool) → old ≡ getD l v 0 → l′ ≡ set l v label
     → s′ ≡ orientIn up s v before after → r ≡ isRelabelled old label → n ≡ (if r then 1 else 0)
     → marksIn s′ l′ n ≡ labelVertexIn s l v label before after up
@@ -33,6 +34,7 @@ pub label-le : (s l s′ l′ : List ℕ) (v label before after n : ℕ) (up : B
 unfolding labelVertexIn
 label-le s l s′ l′ v label before after n up e = rw (ap (λ (w : MarksIn). w .count) e) (one-most (isRelabelled (getD l v 0) label))
 
+-- nothing counted before leaves the count
 pub ahead-none : (w : MarksIn) → w ≡ countAhead 0 w
 unfolding countAhead
 ahead-none w = rw zero-add
@@ -47,6 +49,7 @@ unfolding countAhead
 ahead-twice j k w = rw add-assoc
 
 module _ (degrees ends : List ℕ) (up : Bool) where
+  -- no step is left, or the walk is at a singular vertex: nothing changes
   pub relabel-none : (n : ℕ) (s l : List ℕ) (d v label : ℕ) → n ≤ 0 → relabelIn degrees ends up n s l d v label ≡ marksIn s l 0
   unfolding relabelIn
   relabel-none zero s l d v label h = refl
@@ -58,6 +61,7 @@ module _ (degrees ends : List ℕ) (up : Bool) where
   relabel-end zero s l d v label h = refl
   relabel-end (suc n) s l d v label h = rw (ne-eqb _ _ h)
 
+  -- a regular vertex is labelled, and then those behind it from the next label on
   pub relabel-on : (n : ℕ) (s l : List ℕ) (d v label d′ v′ label′ : ℕ) → getD degrees v 0 ≡ 2
       → turnIn s d v ≡ d′ → farIn ends d′ v ≡ v′ → nextIn up label ≡ label′
       → let w = labelVertexIn s l v label d d′ up in
@@ -94,6 +98,7 @@ module _ (degrees ends : List ℕ) (up : Bool) where
       ))
       (omega arith)
 
+  -- n steps relabel at most n vertices
   pub relabel-le : (n : ℕ) (s l s′ l′ : List ℕ) (d v label m : ℕ)
       → marksIn s′ l′ m ≡ relabelIn degrees ends up n s l d v label → m ≤ n
   relabel-le n s l s′ l′ d v label m e = rw (ap (λ (w : MarksIn). w .count) e) (count-le n s l d v label)
@@ -107,11 +112,13 @@ beyond-law s l s′ l′ x e d u old label m up i j g k = rw (← i, ← j, ← 
 -- the chain at the leaf x, whose one edge is d with the far end u: with regular vertices, and without
 module _ (degrees s ends l s′ l′ : List ℕ) (blocks x e d u : ℕ)
     (a : (d ≡ getD s (2 * x) 0) × (u ≡ farIn ends d x)) where
+  -- u is regular: x gets the label beyond it, and no block begins
   pub extend-on : getD degrees u 0 ≡ 2 → marksIn s′ l′ 0 ≡ beyondIn s l x e d u
       → marksIn s′ l′ blocks ≡ extendIn degrees s ends l blocks x e
   unfolding extendIn extendAt
   extend-on h k = rw (← a .0, ← a .1, eq-eqb _ _ h, ← k)
 
+  -- u is singular: x is the first of its chain with a label, and a block begins
   pub extend-begun : (k label m : ℕ) → (getD degrees u 0 ≡ 2 → ⊥) → k ≡ more16 blocks → label ≡ base k
       → marksIn s′ l′ m ≡ labelVertexIn s l x label d e true → marksIn s′ l′ k ≡ extendIn degrees s ends l blocks x e
   unfolding extendIn extendAt

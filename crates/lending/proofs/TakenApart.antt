@@ -74,6 +74,7 @@ module _ {M : Type 1} (𝓤 : URA M) (H : Heap 𝓤) (A : Atoms 𝓤) where
       abbrev own : Counts → Fml
       own c = MutRef erased κ T.the-row .own (at-last x c) (ptr-vals x)
 
+      -- counts that are lent can be lent on, number by number
       pub taken-apart : ent 𝓤 (sep 𝓤 (sem 𝓤 H A (own (x .now))) (sep 𝓤 (A .lft κ q) (sep 𝓤 R (sem 𝓤 H A F)))) (H .⇛ (ex 𝓤 (Cut x κ q R F)))
       taken-apart =
           qed W (‵ (own (x .now)) ∷ ‵ (flft κ q) ∷ raw R ∷ ‵ F ∷ []) ∵ updating ! $ fsplit3 ! $ drop ! $ open-ref ! tt (mem T.the-row) {b = b} {o = o} $
@@ -82,6 +83,7 @@ module _ {M : Type 1} (𝓤 : URA M) (H : Heap 𝓤) (A : Atoms 𝓤) where
           move ! (0 ∷ 5 ∷ 6 ∷ []) $ use3 W (later (some (λ (g : Keys fields). raw (toks 𝓤 H A fields g R) ⊛ (‵ (refs b o fields 0 (numbers (x .now)) g F) ⊛ ‵ (lents b o fields 0 g))))) (lend-all 𝓤 H A W b o R F fields 0 (numbers (x .now))) $ await ! tt $
           pick ! (λ g. split3 ! $ at-once ! $ show ! (Cut x κ q R F) g $ join ! $ frame ! $ done !)
 
+      -- counts that were lent on number by number are whole again, at the last numbers
       pub put-together : (g : Keys fields) (a : Numbers fields) → ent 𝓤 (sep 𝓤 (toks 𝓤 H A fields g R) (sep 𝓤 (sem 𝓤 H A (ends fields g a F)) (Kept x κ q g))) (H .⇛ (sep 𝓤 (sem 𝓤 H A (own (counts-of a))) (sep 𝓤 (A .lft κ q) (sep 𝓤 R (sem 𝓤 H A F)))))
       put-together g a =
           qed W (raw (toks 𝓤 H A fields g R) ∷ ‵ (ends fields g a F) ∷ (‵ (lents b o fields 0 g) ⊛ (raw (PartsBack 𝓤 H A fullShare (T.the-type .name) (nums fields) b o)

@@ -18,6 +18,7 @@ abbrev pub reply : Single 0
 reply = byValue O.the-row O′.mir (EL.val O.the-type O′.the-laws)
 
 module _ {M : Type 1} (𝓤 : URA M) (H : Heap 𝓤) (A : Atoms 𝓤) (W : Given 𝓤 H A) where
+  -- what a walk has to know of the quote, and of the answer
   pub quote-told : Told quote
   quote-told = value-told Q.the-row Q′.mir (LL.val Q.the-type Q′.the-laws) (LL.tells Q.the-type Q′.the-laws) (λ x w is. LL.lawful Q.the-type Q′.the-laws 𝓤 H A W .typed x _ is .0)
 

@@ -32,6 +32,7 @@ pub size-plain : (version : ℕ) → version ≢ 2 → 9 ≡ 1 + edgeBody versio
 unfolding edgeBody
 size-plain version h = rw (ne-eqb version 2 h)
 
+-- in version 2 an edge has 12 bytes behind its kind
 pub body-known : (version : ℕ) → version ≡ 2 → edgeBody version ≡ 12
 unfolding edgeBody
 body-known version h = rw (eq-eqb version 2 h)
