@@ -48,6 +48,7 @@ unfolding ahead
 ahead-full b [] f = (cons-full b [], tt)
 ahead-full b (l ∷ ls) f = (cons-full b l, f .1)
 
+-- no line of a text is empty
 pub lines-full : (bs : List ℕ) → Full (splitLines bs)
 unfolding splitLines
 lines-full [] = tt
@@ -155,6 +156,7 @@ unfolding compareLines
 lines-agree k [] = refl
 lines-agree k (l ∷ ls) = rw (eqList-refl l, compareLines) (lines-agree (k + 1) ls)
 
+-- a text agrees with itself
 pub same-agrees : (text : List ℕ) → compareTexts text text ≡ agrees
 unfolding compareTexts
 same-agrees text = lines-agree 1 (splitLines text)
@@ -164,10 +166,12 @@ not-judged right text k x e = said right text (notJudged k x) e
 
 -- ---- a list and a sheet
 
+-- of a list that stops, no text is judged, and the verdict says where
 pub refused-told : (bs text : List ℕ) (k x : ℕ) → (growList bs) .stop ≡ stopped k x → judge bs text ≡ notJudged k x
 unfolding judge
 refused-told bs text k x e = rw (e, judge)
 
+-- of a list that is read whole, the text is compared with its listing
 pub whole-judged : (bs text : List ℕ) → (growList bs) .stop ≡ whole → judge bs text ≡ compareTexts (listing (growList bs)) text
 unfolding judge
 whole-judged bs text e =

@@ -170,6 +170,7 @@ module _ (volume flow minute : ℕ) (ws : List Window) (g : outOfBounds flow min
   some-minutes : 1 ≤ transit volume flow
   some-minutes = transit-some volume flow v flows
 
+  -- the answer to a known volume is right where no refusal holds
   pub right : PlanIsRight volume flow minute ws
   unfolding n
   right =

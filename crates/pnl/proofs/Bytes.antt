@@ -31,6 +31,7 @@ pub words : Pieces bytesOf
 unfolding bytesOf
 words = record { none = refl; first = λ n ns. bytesOf-append (n ∷ []) ns }
 
+-- one number is its four bytes
 pub word-one : (n : ℕ) (p q : Page) → q ≡ write (bytes4 n) p → q ≡ write (bytesOf (n ∷ [])) p
 unfolding bytesOf
 word-one n p q e = rw append-nil e

@@ -44,12 +44,15 @@ module _ (x : Refusal) (n : ℕ) (e : n ≡ numberOf x) where
   few : n ≤ 33
   few = rw e (number-few x)
 
+  -- a refusal's number fits in 32 bits with a sign
   pub number-fits : SFits w32 (pos n)
   number-fits = record { sfits = omega (arith, few) }
 
+  -- 0 less a refusal's number fits too
   pub negation-fits : SFits w32 (toZ w32 0 -ℤ toZ w32 n)
   negation-fits = rw (negated n few) (negative-fits n few)
 
+  -- what is read back of that is the refusal made negative
   pub negation-is : toZ w32 (ofZ w32 (toZ w32 0 -ℤ toZ w32 n)) ≡ negℤ (pos (numberOf x))
   negation-is = toZ-ofZ negation-fits ∙ negated n few ∙ ap (λ (k : ℕ). negℤ (pos k)) e
 

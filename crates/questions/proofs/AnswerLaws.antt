@@ -43,11 +43,13 @@ find-at-answers t c v a h r k =
 
 -- A number of any size as a vertex: through the label of the vertex that it is, or above the largest vertex.
 module _ (t : Tables) (c : Counts) (r : Register) (h : HeldOf (stored t c) r) where
+  -- what is found by the label of the vertex is found by the vertex
   pub find-through : (v w label : ℕ) (a : Reply) → w ≡ v → label ≡ getD (t .labels) w 0 → a ≡ findIn t (c .vertices) (c .edges) label → a ≡ findAt r v
   find-through v w label a e f p =
       let k : findAtIn t (c .vertices) (c .edges) v ≡ findAt r v = rw (held-tables h, held-counts h) at (find-at-agrees r (h .reachable) v) in
       find-at-law t (c .vertices) (c .edges) v label a (f ∙ ap (λ (x : ℕ). getD (t .labels) x 0) e) p ∙ k
 
+  -- a number above every vertex: 8
   pub find-beyond : (v : ℕ) → maxVertices - 1 < v → refuses 8 ≡ findAt r v
   find-beyond v l =
       let k = founded r (h .reachable) in

@@ -65,6 +65,7 @@ abbrev pub Small : List ℕ → Type 0
 Small [] = Unit {0}
 Small (n ∷ ns) = (n < 4294967296) × Small ns
 
+-- at most 11 bytes for each: ten digits, and what stands behind them
 pub line-length : (n : ℕ) (ns : List ℕ) → Small (n ∷ ns) → length (line (n ∷ ns)) ≤ 11 * length (n ∷ ns)
 unfolding line spaced
 line-length n [] h = omega (arith, decimal-length 9 n (omega (arith, h .0)), length-append (decimal n) (10 ∷ []))

@@ -89,6 +89,7 @@ holding-answers v (n ∷ ns) r earlier h l =
     back-on v n (ns ++ (r ∷ earlier)) (le-ltb v (n .amount) (omega arith))
     ∙ holding-answers (v - n .amount) ns r earlier (omega arith) (omega arith)
 
+-- the record that holds the ml number v + 1 answers with its recipe
 pub holder-answers : (v : ℕ) (rs : List Record) (r : Record) → HoldsNumber v rs r → atValve v rs ≡ recipeIs (r .recipe)
 holder-answers v rs r h =
     ap (λ (xs : List Record). atValve v xs) (h .stands) ∙ holding-answers v (h .newer) r (h .earlier) (h .newer-hold-at-most) (h .reached)

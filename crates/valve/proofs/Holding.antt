@@ -32,6 +32,7 @@ pub sizes-fit : (recipes amounts : List ℕ) → Sized recipes amounts → sizes
 unfolding sizesFit
 sizes-fit recipes amounts s = rw (eq-eqb (length recipes) slots (s .recipes-long), eq-eqb (length amounts) slots (s .amounts-long))
 
+-- recipes of another size fail the test; else the size of the amounts decides
 pub sizes-no : (recipes amounts : List ℕ) → (length recipes ≡ slots → ⊥) → false ≡ sizesFit recipes amounts
 unfolding sizesFit
 sizes-no recipes amounts h = rw (ne-eqb (length recipes) slots h)

@@ -39,6 +39,7 @@ before-below i h = go (ℕ-discrete i 0)
     go (yes e) = omega (arith, before-first i e)
     go (no e) = omega (arith, before-other i e)
 
+-- the slot after any is a slot
 pub after-below : (i : ℕ) → after i < slots
 after-below i = go (decLt i 1439)
   where

@@ -7,6 +7,7 @@ use Rattle.model.specs.Graph.{Edge, degree}
 use Rattle.model.specs.Cases.{Case, Class, branch, caseAt, caseOf, classOf, closes, closesRing, extends, isolated, leaf, merges, newChain, regular, splitBoth, splitExtends, splitNew}
 use Rattle.model.proofs.Basics.Booleans.{not-both}
 
+-- an edge that closes a ring is in the case of the closing
 pub closing-case : (es : List Edge) (e : Edge) → closesRing es (e .first) (e .second) ≡ true → caseAt es e ≡ closes
 unfolding caseAt
 closing-case es e t = rw t
@@ -39,6 +40,7 @@ not-closing branch leaf = refl
 not-closing branch regular = refl
 not-closing branch branch = refl
 
+-- an edge in the case of the closing closes a ring
 pub case-closing : (es : List Edge) (e : Edge) → caseAt es e ≡ closes → closesRing es (e .first) (e .second) ≡ true
 unfolding caseAt isClosing
 case-closing es e = go (closesRing es (e .first) (e .second))

@@ -19,9 +19,11 @@ use Rattle.model.proofs.Registers.Quotes.{termsFor, terms-by, commit-la
 
 -- ---- the terms of a quote
 
+-- an edge that has a refusal is declined with it
 pub quoted-some : (r : Register) (e : Edge) (x : ℕ) → edgeRefusal r e ≡ some x → (quote r e) .terms ≡ declines x
 quoted-some r e x h = terms-by r e ∙ ap (termsFor r e) h
 
+-- an edge that has no refusal is offered, with its case and how many vertices it relabels
 pub quoted-none : (r : Register) (e : Edge) → edgeRefusal r e ≡ none → (quote r e) .terms ≡ offers (caseNumber (caseAt (r .edges) e)) (relabelsOf r e)
 quoted-none r e h = terms-by r e ∙ ap (termsFor r e) h
 
@@ -33,6 +35,7 @@ declines-is x y h = cc
 
 -- ---- what is offered lands, what is declined is refused so
 
+-- where a quote made now offers, its commit lands the edge
 pub quoted-lands : (r : Register) (q : Quote) (c n : ℕ) → q ≡ quote r (q .asked) → q .terms ≡ offers c n → commit r q ≡ landed (withEdge r (q .asked))
 quoted-lands r q c n h t =
     commit-same r q h ∙ land-edge-by r (q .asked) ∙ go (edgeRefusal r (q .asked)) refl (sym (terms-by r (q .asked)) ∙ sym (ap (λ (p : Quote). p .terms) h) ∙ t)
@@ -41,6 +44,7 @@ quoted-lands r q c n h t =
     go (some x) e k = absurd (not-offered x c n k)
     go none e k = refl
 
+-- where a quote made now declines, its commit is refused with the same
 pub quoted-declines : (r : Register) (q : Quote) (x : ℕ) → q ≡ quote r (q .asked) → q .terms ≡ declines x → commit r q ≡ refused x
 quoted-declines r q x h t =
     commit-same r q h ∙ land-edge-by r (q .asked) ∙ go (edgeRefusal r (q .asked)) refl (sym (terms-by r (q .asked)) ∙ sym (ap (λ (p : Quote). p .terms) h) ∙ t)
@@ -87,6 +91,7 @@ module _ (r : Register) (pr : Proper (r .edges)) where
         total-grows = refl;
       }
 
+  -- a commit that lands does what its quote said
   pub landed-as : (q : Quote) (r′ : Register) → commit r q ≡ landed r′ → LandedAs r q r′
   landed-as q r′ h =
       let k = commit-lands r q r′ h in

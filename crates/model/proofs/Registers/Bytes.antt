@@ -101,6 +101,7 @@ records-short version (suc n) k r (kind ∷ bs) f l w =
     go (edge c rest) e s ih = on-edge c rest e s (landEdge r c) refl ih
     go (bad x) e s ih = absurd (not-whole k x (rw (e, landRecords) at w))
 
+-- a list that is read whole has no more bytes than a header and as many vertices and edges as there can be
 pub whole-short : (bs : List ℕ) → (growList bs) .stop ≡ whole → length bs ≤ 5 + (maxVertices + 13 * maxEdges)
 unfolding growList landList empty
 whole-short bs w = go (headerRefusal bs) refl

@@ -27,6 +27,7 @@ line-some n [] h = absurd (not-suc-le-zero h)
 line-some zero (ns ∷ rows) h = refl
 line-some (suc n) (ns ∷ rows) h = line-some n rows (omega arith)
 
+-- past the last of the rows there is no line
 pub line-none : (n : ℕ) (rows : List (List ℕ)) → length rows ≤ n → lineAt n rows ≡ none
 unfolding lineAt
 line-none n [] h = refl
@@ -44,6 +45,7 @@ rows-few es (d ∷ ds) = go (eqb (nameOf es d) d) refl (rows-few es ds)
     go true e i = rw (e, rowsOf) (omega arith)
     go false e i = rw (e, rowsOf) (omega arith)
 
+-- an opened sheet has at most 4,096 lines
 pub lines-few : (r : Register) → Reachable r → (s : OpenSheet) → length (openedLines r s) ≤ maxEdges
 unfolding openedLines openedEdges
 lines-few r k s =
@@ -58,6 +60,7 @@ not-33 s (some ns) e = let z : _≡_ {A = ℕ} 0 1 = cc in omega arith
 not-33 s none e = let z : _≡_ {A = ℕ} 0 1 = cc in omega arith
 
 module _ (r : Register) (s : OpenSheet) where
+  -- 33 where the opening is beyond the register, and else the line at its place
   pub fetch-beyond : isBeyond r s ≡ true → fetch r s ≡ refuses 33
   unfolding fetch
   fetch-beyond h = rw h
@@ -66,6 +69,7 @@ module _ (r : Register) (s : OpenSheet) where
   unfolding fetch
   fetch-within h = rw h
 
+  -- 33 is answered only where the opening is beyond the register
   pub only-beyond : fetch r s ≡ refuses 33 → isBeyond r s ≡ true
   only-beyond e = go (isBeyond r s) refl
     where
@@ -73,6 +77,7 @@ module _ (r : Register) (s : OpenSheet) where
       go true h = h
       go false h = absurd (not-33 s _ (sym (fetch-within h) ∙ e))
 
+  -- a place among the lines: its line, and the sheet moves on; past them the sheet is finished
   pub fetch-line : isBeyond r s ≡ false → s .place < length (openedLines r s) → fetch r s ≡ fetched (getD (openedLines r s) (s .place) []) (movedOn s)
   unfolding fetchLine
   fetch-line h l = fetch-within h ∙ ap (fetchLine s) (line-some (s .place) (openedLines r s) l)
@@ -84,6 +89,7 @@ module _ (r : Register) (s : OpenSheet) where
   finished-is : (t u : OpenSheet) → finished t ≡ finished u → t ≡ u
   finished-is t u e = cc
 
+  -- a fetch finishes only past the lines, and leaves the sheet
   pub only-done : (s′ : OpenSheet) → fetch r s ≡ finished s′ → (s′ ≡ s) × (length (openedLines r s) ≤ s .place)
   only-done s′ e = go (isBeyond r s) refl (decLt (s .place) (length (openedLines r s)))
     where

@@ -166,6 +166,7 @@ module _ (r : Register) (k : Reachable r) (s : OpenSheet) where
   unfolding onVertices
   room h = omega (arith, counted h, f .room)
 
+  -- where 33 does not hold, the counts name a register
   pub named : isBeyond r s ≡ false → NamedIn r s
   unfolding openedEdges openedLines sheet onVertices
   named h =
@@ -204,6 +205,7 @@ module _ (r r′ : Register) (l : LandedSince r r′) (s : OpenSheet) (h : isBey
   unfolding openedEdges
   edges-stay = ap (λ (es : List Edge). take (s .edges) es) (l .edges-are) ∙ take-append-le (s .edges) (r .edges) (l .later) ((within r s h) .edges)
 
+  -- with more landed 33 does not hold either, and the lines stay
   pub still-within : isBeyond r′ s ≡ false
   still-within =
       let w = within r s h in
@@ -223,6 +225,7 @@ all-edges : (r : Register) → openedEdges r (openingOf r) ≡ r .edges
 unfolding openedEdges openingOf
 all-edges r = take-length (r .edges)
 
+-- 33 does not hold of a sheet opened just now, and its lines are those of the register
 pub opened-within : (r : Register) → Reachable r → isBeyond r (openingOf r) ≡ false
 unfolding openingOf
 opened-within r k =

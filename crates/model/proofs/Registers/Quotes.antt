@@ -88,6 +88,7 @@ abbrev pub termsFor : Register → Edge → Option ℕ → Terms
 termsFor r e (some x) = declines x
 termsFor r e none = offers (caseNumber (caseAt (r .edges) e)) (relabelsOf r e)
 
+-- a quote has the terms that its edge's refusal says
 pub terms-by : (r : Register) (e : Edge) → (quote r e) .terms ≡ termsFor r e (edgeRefusal r e)
 unfolding quote
 terms-by r e = go (edgeRefusal r e)
@@ -126,6 +127,7 @@ unfolding commitMade
 made-by r q (offers c n) h = rw (h, commitMade)
 made-by r q (declines x) h = rw (h, commitMade)
 
+-- an edge of a list lands unless it has a refusal
 pub land-edge-by : (r : Register) (e : Edge) → landEdge r e ≡ unlessRefused r e (edgeRefusal r e)
 unfolding landEdge quote
 land-edge-by r e = made-by r (quote r e) (termsFor r e (edgeRefusal r e)) (terms-by r e) ∙ go (edgeRefusal r e)
@@ -191,6 +193,7 @@ not-refused n r e = let z : _≡_ {A = ℕ} 0 1 = cc in omega arith
 refused-is : (m n : ℕ) → refused m ≡ refused n → m ≡ n
 refused-is m n e = cc
 
+-- a commit that lands came with the quote made now, and lands its edge
 pub commit-lands : (r : Register) (q : Quote) (r′ : Register) → commit r q ≡ landed r′
     → (q ≡ quote r (q .asked)) × (landEdge r (q .asked) ≡ landed r′)
 commit-lands r q r′ h = go (made-now r q)

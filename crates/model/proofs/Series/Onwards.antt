@@ -105,6 +105,7 @@ since-call m r n = go (fits (m .scratch)) refl
     go true f = since-effect (m .call) r (n f)
     go false f = since-none r
 
+-- a series in which no call clears lands more behind what was there
 pub since-after : (ms : List Made) (r : Register) → NoneClears ms → LandedSince r (after ms r)
 unfolding after
 since-after [] r n = since-none r

@@ -35,6 +35,7 @@ quoted-is p q e = cc
 not-committed : (x : ℕ) → refuses x ≢ committed
 not-committed x e = let z : _≡_ {A = ℕ} 0 1 = cc in omega arith
 
+-- a call that finds no register leaves what is stored
 pub barred-leaves : (c : Call) (l : Lent) → allFit l ≡ true → registerFor c l ≡ none → (step c l) .lent .stored ≡ l .stored
 unfolding step gate
 barred-leaves c l a h = rw (a, step, gate, h)

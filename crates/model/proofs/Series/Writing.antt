@@ -39,6 +39,7 @@ not-wrote x n e = let z : _≡_ {A = ℕ} 0 1 = cc in omega arith
 wrote-is : (m n : ℕ) → wrote m ≡ wrote n → m ≡ n
 wrote-is m n e = cc
 
+-- a call that finds no register is refused with 21
 pub barred-21 : (c : Call) (l : Lent) → allFit l ≡ true → registerFor c l ≡ none → (step c l) .reply ≡ refuses 21
 unfolding step gate
 barred-21 c l a h = rw (a, step, gate, h)
