@@ -129,10 +129,12 @@ module _ (c : Counts) (limit a b n v : ℕ) where
           unfolding checkIn
           check-edges o = rw (h, g, ne-eqb _ _ e, length-is .0, volume-is .0, le-leb _ _ o)
 
+          -- the limit is reached: 36
           pub check-limit : c .edges < maxEdges → limit ≤ c .edges → failed 36 ≡ checkIn c limit edge
           unfolding checkIn
           check-limit o k = rw (h, g, ne-eqb _ _ e, length-is .0, volume-is .0, lt-leb _ _ o, le-leb _ _ k)
 
+          -- no refusal holds: the edge passes, with the numbers that it came with
           pub check-passed : (a′ b′ : ℕ) → a′ ≡ a → b′ ≡ b → c .edges < maxEdges → c .edges < limit → passed a′ b′ m u ≡ checkIn c limit edge
           unfolding checkIn
           check-passed a′ b′ x y o k =
