@@ -15,7 +15,7 @@ use Rattle.model.specs.Basics.{if_then_else_, maxEdges, maxLength, maxVertices,
 use Rattle.model.specs.Graph.{Edge}
 use Rattle.model.specs.Cases.{closesRing}
 use Rattle.model.specs.Labels.{labelEdge, relabelCount}
-use Rattle.model.specs.Register.{Landed, Register, edgeRefusal, landEdge, landed, marksOf, refused, withEdge}
+use Rattle.model.specs.Register.{Landed, Register, edgeRefusal, landEdgeWithin, landed, marksOf, refused, withEdge}
 use Rattle.model.specs.Tables.{Counts, Tables, countsOf, tablesOf}
 use Rattle.model.specs.Notions.{Reachable}
 use Rattle.tables.specs.Steps.{more16, setPair, sum32}
@@ -128,38 +128,39 @@ landed-is count v few =
     ]
 
 -- the code's refusals are the model's, in their order
-pub check-agrees : (r : Register) (e : Edge) → r .vertices ≤ maxVertices → checkIn (countsOf r) e ≡ checkedAs e (edgeRefusal r e)
+pub check-agrees : (limit : ℕ) (r : Register) (e : Edge) → r .vertices ≤ maxVertices → checkIn (countsOf r) limit e ≡ checkedAs e (edgeRefusal limit r e)
 unfolding checkIn edgeRefusal countsOf
-check-agrees r e few =
+check-agrees limit r e few =
     rw (landed-is (r .vertices) (e .first) few, landed-is (r .vertices) (e .second) few)
     (checked-if e (not (ltb (e .first) (r .vertices) && ltb (e .second) (r .vertices))) 5 _ _
     (checked-if e (eqb (e .first) (e .second)) 6 _ _
     (checked-if e (eqb (e .len) 0 || ltb maxLength (e .len)) 7 _ _
     (checked-if e (ltb maxVolume (e .volume)) 31 _ _
-    (checked-if e (leb maxEdges (length (r .edges))) 23 _ _ refl)))))
+    (checked-if e (leb maxEdges (length (r .edges))) 23 _ _
+    (checked-if e (leb limit (length (r .edges))) 36 _ _ refl))))))
 
-module _ (r : Register) (e : Edge) (rings : Bool) where
+module _ (limit : ℕ) (r : Register) (e : Edge) (rings : Bool) where
   abbrev shown : Landed → LandingIn
   shown l = shownIn r (ringsAfter r rings e) l
 
   module _ (g : Reachable r) (warns : Warns rings (r .edges)) where
-    by-refusal : (o : Option ℕ) → edgeRefusal r e ≡ o
+    by-refusal : (o : Option ℕ) → edgeRefusal limit r e ≡ o
         → landChecked (tablesOf r) (countsOf r) rings e (checkedAs e o) ≡ shown (unlessRefused r e o)
     unfolding shownIn
     by-refusal (some x) q = refl
     by-refusal none q =
-        let a = unrefused r e q in
+        let a = (unrefused limit r e q) .0 in
         inserts-agree r e rings g warns (a .lawful .first-landed) (a .lawful .second-landed) (a .lawful .differ) (a .room)
 
-    pub land-agrees : landIn (tablesOf r) (countsOf r) rings e ≡ shownIn r (ringsAfter r rings e) (landEdge r e)
+    pub land-agrees : landIn (tablesOf r) (countsOf r) limit rings e ≡ shownIn r (ringsAfter r rings e) (landEdgeWithin limit r e)
     unfolding landIn
     land-agrees =
-        ap (landChecked (tablesOf r) (countsOf r) rings e) (check-agrees r e (few r g)) ∙ by-refusal (edgeRefusal r e) refl
-        ∙ ap (shownIn r (ringsAfter r rings e)) (sym (land-edge-by r e))
+        ap (landChecked (tablesOf r) (countsOf r) rings e) (check-agrees limit r e (few r g)) ∙ by-refusal (edgeRefusal limit r e) refl
+        ∙ ap (shownIn r (ringsAfter r rings e)) (sym (land-edge-by limit r e))
 
     -- .. in two parts, for a function that goes on by the answer
-    pub edge-parts : (l : Landed) → landEdge r e ≡ l → let shows = shownIn r (ringsAfter r rings e) l in
-        ((landIn (tablesOf r) (countsOf r) rings e) .answer ≡ shows .answer) × ((landIn (tablesOf r) (countsOf r) rings e) .tables ≡ shows .tables)
+    pub edge-parts : (l : Landed) → landEdgeWithin limit r e ≡ l → let shows = shownIn r (ringsAfter r rings e) l in
+        ((landIn (tablesOf r) (countsOf r) limit rings e) .answer ≡ shows .answer) × ((landIn (tablesOf r) (countsOf r) limit rings e) .tables ≡ shows .tables)
     edge-parts l q =
-        let p : landIn (tablesOf r) (countsOf r) rings e ≡ shown l = land-agrees ∙ ap (shownIn r (ringsAfter r rings e)) q in
+        let p : landIn (tablesOf r) (countsOf r) limit rings e ≡ shown l = land-agrees ∙ ap (shownIn r (ringsAfter r rings e)) q in
         (rw p, rw p)

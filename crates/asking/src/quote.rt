@@ -4,6 +4,7 @@ use admission::gate::Gate;
 use admission::gate::pass_gate;
 use counters::counts::Counts;
 use counters::quotes::QuoteAnswer;
+use counters::sizes::MAX_EDGES;
 use insertion::quoting::quote_edge;
 ghost use mathlib.Core.Path.{_≡_};
 ghost use mathlib.Core.List.{[]};
@@ -65,6 +66,7 @@ pub fn quote(
                 ends,
                 labels,
                 counts,
+                MAX_EDGES,
                 first,
                 second,
                 length,

@@ -5,6 +5,7 @@ use Prim.Native.Nat.{ℕ}
 use mathlib.Core.Bool.{Bool, true, false, _&&_}
 use mathlib.Core.Option.{none}
 use mathlib.Core.List.{List, []}
+use Rattle.model.specs.Basics.{maxEdges}
 use Rattle.model.specs.Register.{Landed, Quote, Register, commit, empty, landed, refused}
 use Rattle.model.specs.Format.{Read, growList, landList}
 use Rattle.model.specs.Queries.{Reply, read, refuses}
@@ -45,27 +46,27 @@ module _ (t : Tables) (c : Counts) (s : Tables) (bs : List ℕ) where
 
   -- any other grow leaves what growing from the list leaves
   pub grow-done : (t′ s′ : Tables) (r : Bool) (d : ReadingIn) → r ≡ (fits t && fits s) → t′ ≡ zeroedIf r t
-      → s′ ≡ zeroedIf r s → r ≡ true → d ≡ landListIn t′ noCounts bs
+      → s′ ≡ zeroedIf r s → r ≡ true → d ≡ landListIn t′ noCounts maxEdges bs
       → outcome (d .tables) (d .counts) s′ [] (read (d .stop)) ≡ step (grows bs) (lent t c s)
   unfolding allFit registerFor effect
   grow-done t′ s′ r d f a b e q =
       let both = and-true (fits t) (fits s) (sym f ∙ e) in
       let i : t′ ≡ cleared = a ∙ rw e (zeroed-cleared t (both .0)) in
       let j : s′ ≡ cleared = b ∙ rw e (zeroed-cleared s (both .1)) in
-      let g : landListIn t′ noCounts bs ≡ shownRead (growList bs) = rw i (list-leaves bs) in
+      let g : landListIn t′ noCounts maxEdges bs ≡ shownRead (growList bs) = rw i (list-leaves bs) in
       read-out (grows bs) empty (growList bs) d s′ (step-admits (grows bs) (lent t c s) empty (sym f ∙ e) refl) refl (q ∙ g) j
 
   -- ---- land
 
   -- behind an open gate a land leaves what landing the list leaves
   pub land-done : (s′ : Tables) (d : ReadingIn) → none ≡ barred (lent t c s) → s′ ≡ scratchAfter (lent t c s)
-      → d ≡ landListIn t c bs → outcome (d .tables) (d .counts) s′ [] (read (d .stop)) ≡ step (lands bs) (lent t c s)
+      → d ≡ landListIn t c maxEdges bs → outcome (d .tables) (d .counts) s′ [] (read (d .stop)) ≡ step (lands bs) (lent t c s)
   unfolding effect
   land-done s′ d h e q =
       let o = opened (lent t c s) h in
       let r = o .register in
-      let g : landListIn t c bs ≡ shownRead (landList r bs) = rw (held-tables (o .is), held-counts (o .is)) at (list-agrees r bs (o .is .reachable)) in
-      read-out (lands bs) r (landList r bs) d s′ (step-fits (lands bs) (lent t c s) r (o .fit) (o .holds)) refl (q ∙ g)
+      let g : landListIn t c maxEdges bs ≡ shownRead (landList maxEdges r bs) = rw (held-tables (o .is), held-counts (o .is)) at (list-agrees maxEdges r bs (o .is .reachable)) in
+      read-out (lands bs) r (landList maxEdges r bs) d s′ (step-fits (lands bs) (lent t c s) r (o .fit) (o .holds)) refl (q ∙ g)
       (e ∙ scratch-cleared (lent t c s) (o .fit))
 
 -- ---- commit
@@ -89,12 +90,12 @@ commit-shown r t′ s′ c c′ a y rings (refused n) p z l k m =
 
 module _ (t : Tables) (c : Counts) (s : Tables) (q : Quote) where
   pub commit-done : (t′ s′ : Tables) (c′ : Counts) (a : AnswerIn) (y : Reply) → none ≡ barred (lent t c s) → s′ ≡ scratchAfter (lent t c s)
-      → landingIn t′ a ≡ commitIn t c true q → c′ ≡ countsAfter c a → y ≡ replyTo a
+      → landingIn t′ a ≡ commitIn t c maxEdges true q → c′ ≡ countsAfter c a → y ≡ replyTo a
       → outcome t′ c′ s′ [] y ≡ step (commits q) (lent t c s)
   unfolding outcomeOf effect commitIn
   commit-done t′ s′ c′ a y h e l k m =
       let o = opened (lent t c s) h in
       let r = o .register in
-      let g : commitIn t c true q ≡ shownIn r (ringsAfter r true (q .asked)) (commit r q) = rw (held-tables (o .is), held-counts (o .is)) at (commit-agrees r q true (o .is .reachable) (warns-any (r .edges))) in
-      commit-shown r t′ s′ c c′ a y (ringsAfter r true (q .asked)) (commit r q) (sym (held-counts (o .is))) (e ∙ scratch-cleared (lent t c s) (o .fit)) (l ∙ g) k m
+      let g : commitIn t c maxEdges true q ≡ shownIn r (ringsAfter r true (q .asked)) (commit maxEdges r q) = rw (held-tables (o .is), held-counts (o .is)) at (commit-agrees maxEdges r q true (o .is .reachable) (warns-any (r .edges))) in
+      commit-shown r t′ s′ c c′ a y (ringsAfter r true (q .asked)) (commit maxEdges r q) (sym (held-counts (o .is))) (e ∙ scratch-cleared (lent t c s) (o .fit)) (l ∙ g) k m
       ∙ sym (step-fits (commits q) (lent t c s) r (o .fit) (o .holds))

@@ -4,6 +4,7 @@ use admission::gate::pass_gate;
 use counters::counts::Counts;
 use counters::quotes::CommitAnswer;
 use counters::quotes::Quote;
+use counters::sizes::MAX_EDGES;
 use insertion::committing::commit_quote;
 use insertion::edges::Inserted;
 ghost use mathlib.Core.Path.{_≡_};
@@ -99,6 +100,7 @@ fn commit_with(
                 volumes,
                 labels,
                 counts,
+                MAX_EDGES,
                 quote,
                 true,
             );

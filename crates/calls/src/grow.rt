@@ -4,6 +4,7 @@ use admission::gate::clear_if_fit;
 use counters::answers::ListAnswer;
 use counters::counts::Counts;
 use counters::refusals::Refusal;
+use counters::sizes::MAX_EDGES;
 use landing::records::land_list;
 ghost use mathlib.Core.Path.{_≡_};
 ghost use mathlib.Core.List.{[]};
@@ -65,6 +66,7 @@ fn grow_with(
         edges,
         blocks,
         relabellings,
+        MAX_EDGES,
         degrees,
         sides,
         ends,

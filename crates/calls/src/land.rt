@@ -3,6 +3,7 @@ use admission::gate::Gate;
 use admission::gate::pass_gate;
 use counters::answers::ListAnswer;
 use counters::counts::Counts;
+use counters::sizes::MAX_EDGES;
 use landing::records::land_list;
 ghost use mathlib.Core.Path.{_≡_};
 ghost use mathlib.Core.List.{[]};
@@ -67,6 +68,7 @@ fn land_with(
                 edges,
                 blocks,
                 relabellings,
+                MAX_EDGES,
                 degrees,
                 sides,
                 ends,

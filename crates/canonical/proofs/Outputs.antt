@@ -49,7 +49,7 @@ edges-few : (r : Register) → Reachable r → (countsOf r) .edges ≤ maxEdges
 unfolding countsOf
 edges-few r g = room r g
 
-module _ (bs out : List ℕ) (d : ReadingIn) (short : length bs ≤ 65536) (long : roomBytes ≤ length out) (grown : d ≡ landListIn cleared noCounts bs) where
+module _ (bs out : List ℕ) (d : ReadingIn) (short : length bs ≤ 65536) (long : roomBytes ≤ length out) (grown : d ≡ landListIn cleared noCounts maxEdges bs) where
   abbrev reg : Register
   reg = (growList bs) .register
 

@@ -4,12 +4,14 @@ use counters::numbers::CheckedVertex;
 use counters::numbers::Vertex;
 use counters::quotes::Terms;
 use counters::refusals::Refusal;
+use counters::sizes::MAX_EDGES;
 use insertion::quoting::quote_edge;
 use pnl::answers::answer_numbers;
 use pnl::answers::refused;
 ghost use mathlib.Core.Path.{_≡_};
 ghost use mathlib.Core.List.{List};
 ghost use Prim.Native.Nat.{ℕ};
+ghost use Rattle.model.specs.Basics.{maxEdges};
 ghost use Rattle.model.specs.Register.{Register, quote};
 ghost use Rattle.model.specs.FromC.{returnsTerms};
 ghost use Rattle.model.specs.Notions.{HeldOf};
@@ -32,7 +34,7 @@ fn terms_to(
 ) -> Terms
     ensures { λ r. ⌜ ((lengths volumes : List ℕ) (register : Register)
         → HeldOf (stored (tables (now (degrees .entry)) (now (sides .entry)) (now (ends .entry)) lengths volumes (now (labels .entry))) (asCounts counts)) register
-        → asTerms r ≡ (quote register (record { first = first .0; second = second; len = length; volume = volume })) .terms) ⌝ }
+        → asTerms r ≡ (quote maxEdges register (record { first = first .0; second = second; len = length; volume = volume })) .terms) ⌝ }
 {
     let checked = Vertex::new(second);
     match checked {
@@ -43,6 +45,7 @@ fn terms_to(
                 ends,
                 labels,
                 counts,
+                MAX_EDGES,
                 first.0,
                 v.0,
                 length,
@@ -68,7 +71,7 @@ pub fn terms_checked(
 ) -> Terms
     ensures { λ r. ⌜ ((lengths volumes : List ℕ) (register : Register)
         → HeldOf (stored (tables (now (degrees .entry)) (now (sides .entry)) (now (ends .entry)) lengths volumes (now (labels .entry))) (asCounts counts)) register
-        → asTerms r ≡ (quote register (record { first = first; second = second; len = length; volume = volume })) .terms) ⌝ }
+        → asTerms r ≡ (quote maxEdges register (record { first = first; second = second; len = length; volume = volume })) .terms) ⌝ }
 {
     let checked = Vertex::new(first);
     match checked {

@@ -1,7 +1,7 @@
 -- Document 01, "Refusals from the input" and "Refusals from the state", and document 02, "Errors": the number of each.
 use Prim.Native.Nat.{ℕ}
 use Rattle.counters.specs.declared.refusals.Refusal.{Refusal}
-use Rattle.counters.specs.declared.refusals.Refusal.the-variants.{NoMark, Version, Cut, UnknownKind, NotLanded, SameVertex, Length, NotRegular, ShortSlice, NotGrown, TooManyVertices, TooManyEdges, WrongSize, Volume, OtherQuote, Beyond}
+use Rattle.counters.specs.declared.refusals.Refusal.the-variants.{NoMark, Version, Cut, UnknownKind, NotLanded, SameVertex, Length, NotRegular, ShortSlice, NotGrown, TooManyVertices, TooManyEdges, WrongSize, Volume, OtherQuote, Beyond, OverLimit, OutOfPlace, NotRemovable, Ended}
 
 abbrev pub numberOf : Refusal → ℕ
 -- "no mark (list shorter than 3 or other bytes)"
@@ -36,3 +36,11 @@ numberOf Volume = 31
 numberOf OtherQuote = 32
 -- document 02, S-6: "an opening with more fittings or pipes than the register has, or whose pipes name a fitting beyond its own"
 numberOf Beyond = 33
+-- document 02, S-10: "neither condition holds": the house is not below its share, nor all pipes and the others' unused shares below 4,096
+numberOf OverLimit = 36
+-- document 02, S-10: "a house number above 7 or, when shares are set, a sum above 4,096 or a house not empty"
+numberOf OutOfPlace = 37
+-- document 02, S-11: "no such pipe, or the count at its largest"
+numberOf NotRemovable = 38
+-- document 02, S-11: "sheet so ended"
+numberOf Ended = 39

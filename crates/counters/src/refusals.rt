@@ -1,4 +1,4 @@
-// Document 01's refusals, and 31, 32 and 33 of document 02, which withdraws 24. A definition, `numberOf`, gives the number of each.
+// Document 01's refusals, and 31, 32, 33 and 36 to 39 of document 02, which withdraws 24. A definition, `numberOf`, gives the number of each.
 ghost use mathlib.Core.Path.{_≡_};
 ghost use Rattle.counters.specs.Refusals.{numberOf};
 
@@ -19,6 +19,10 @@ pub enum Refusal {
     Volume,
     OtherQuote,
     Beyond,
+    OverLimit,
+    OutOfPlace,
+    NotRemovable,
+    Ended,
 }
 
 impl Refusal {
@@ -42,6 +46,10 @@ impl Refusal {
             Refusal::Volume => 31,
             Refusal::OtherQuote => 32,
             Refusal::Beyond => 33,
+            Refusal::OverLimit => 36,
+            Refusal::OutOfPlace => 37,
+            Refusal::NotRemovable => 38,
+            Refusal::Ended => 39,
         }
     }
 }

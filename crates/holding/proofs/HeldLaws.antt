@@ -8,7 +8,7 @@ use mathlib.Core.Option.{Option, none, some}
 use mathlib.Core.Bool.{Bool, false}
 use mathlib.Core.List.{List, map}
 use borrow.Author.Tests.{le-leb, lt-leb}
-use Rattle.model.specs.Basics.{countFrom, maxVertices, upTo}
+use Rattle.model.specs.Basics.{countFrom, maxEdges, maxVertices, upTo}
 use Rattle.model.specs.Graph.{Edge}
 use Rattle.model.specs.Register.{Landed, Register, empty, landEdge, landVertex, landed, refused, withVertex}
 use Rattle.model.specs.Tables.{Counts, Stored, Tables, cleared, countsOf, storedEdge, storedEdges, growFrom, held, landEdges, landVertices, storedOf, tablesOf}
@@ -17,18 +17,26 @@ use Rattle.model.proofs.Computing.{computing}
 use Rattle.tables.specs.Meaning.{stored}
 use Rattle.tables.specs.Steps.{edgeOf}
 use Rattle.counters.specs.Answers.{counts}
-use Rattle.insertion.specs.Insertion.{LandingIn, refusedIn}
+use Rattle.insertion.specs.Insertion.{LandingIn, landIn, refusedIn}
 use Rattle.model.proofs.Registers.Held.{grow-again, grown-from, onVertices, vertices-grow}
 use Rattle.model.proofs.Registers.OnlyHeld.{grow-reaches, held-counts, held-tables, only-held, vertices-reach}
 use Rattle.model.proofs.Registers.Reachable.{reachable-empty}
 use Rattle.agreement.proofs.Registers.{few, stored-held, regrows}
 use Rattle.agreement.proofs.Standing.{Warns, warns-edge}
-use Rattle.agreement.proofs.Landing.{edge-parts, shownIn}
+use Rattle.agreement.proofs.Landing.{edge-parts, ringsAfter, shownIn}
 use Rattle.holding.specs.Replay.{leftAs, leftBy, regrowIn, replayIn}
 use Rattle.holding.proofs.ReplayLaws.{none-some, stored-is}
 use Rattle.model.proofs.Registers.Accepted.{vertex-lands}
 
 -- ---- edges one after the other
+
+-- an edge without a licence
+own-parts : (r : Register) (e : Edge) (rings : Bool) → Reachable r → Warns rings (r .edges) → (l : Landed) → landEdge r e ≡ l
+    → let left = landIn (tablesOf r) (countsOf r) maxEdges rings e in
+    let shows = shownIn r (ringsAfter r rings e) l in
+    (left .answer ≡ shows .answer) × (left .tables ≡ shows .tables)
+unfolding landEdge
+own-parts r e rings g w l q = edge-parts maxEdges r e rings g w l q
 
 -- what the tables answer, of what the definition leaves: the same register, or the same refusal
 abbrev pub Agrees : Landed → LandingIn → Type 0
@@ -58,10 +66,10 @@ module _ (own : Tables) where
           → Agrees (landEdges (edgesFrom n (e + 1)) r′) (replayIn (own .ends) (own .lengths) (own .volumes) n (e + 1) (tablesOf r′) (countsOf r′) rings′))
           → Agrees (landEdges (edgesFrom (suc n) e) r) (replayIn (own .ends) (own .lengths) (own .volumes) (suc n) e (tablesOf r) (countsOf r) rings)
       go (landed r′) q ih =
-          let p = edge-parts r (storedEdge own e) rings g w (landed r′) q in
+          let p = own-parts r (storedEdge own e) rings g w (landed r′) q in
           rw (q, own-is e, p .0, replayIn, landEdges, own-is e, p .1, ← next) (ih r′ _ (with-edge (storedEdge own e) g q) (warns-edge r (storedEdge own e) r′ rings g q w))
       go (refused x) q ih =
-          let p = edge-parts r (storedEdge own e) rings g w (refused x) q in
+          let p = own-parts r (storedEdge own e) rings g w (refused x) q in
           rw (q, own-is e, p .0, replayIn, landEdges, own-is e) (p .0)
 
 -- ---- vertices alone

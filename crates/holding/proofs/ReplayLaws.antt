@@ -10,7 +10,7 @@ use mathlib.Core.Option.{none, some}
 use lib.ListN.{getD}
 use lib.Dec.{eqb}
 use borrow.Author.Tests.{le-leb, lt-leb, eqb-true, eq-eqb}
-use Rattle.model.specs.Basics.{maxVertices}
+use Rattle.model.specs.Basics.{maxEdges, maxVertices}
 use Rattle.model.specs.Tables.{Tables, Counts, Stored, storedEdge}
 use Rattle.model.proofs.Registers.Equality.{counts-parts}
 use Rattle.tables.specs.Meaning.{stored, tables}
@@ -50,13 +50,13 @@ unfolding storedEdge
 own-edge es ls us e i a b l u p q r s z = rw (q, r, s, z, p)
 
 module _ (es ls us : List ℕ) (e : ℕ) (t t′ : Tables) (c : Counts) (rings : Bool) where
-  replay-step-on : (n : ℕ) (c′ : Counts) (rings′ : Bool) → 0 < n → landingIn t′ (done c′ rings′) ≡ landIn t c rings (edgeOf es ls us e)
+  replay-step-on : (n : ℕ) (c′ : Counts) (rings′ : Bool) → 0 < n → landingIn t′ (done c′ rings′) ≡ landIn t c maxEdges rings (edgeOf es ls us e)
       → replayIn es ls us n e t c rings ≡ replayIn es ls us (n - 1) (e + 1) t′ c′ rings′
   unfolding replayIn
   replay-step-on zero c′ rings′ h q = absurd (not-suc-le-zero h)
   replay-step-on (suc n) c′ rings′ h q = rw (← answer-of q, sub-one, replayIn, ← tables-of q)
 
-  replay-step-refused : (n x : ℕ) → 0 < n → landingIn t′ (refusedIn x) ≡ landIn t c rings (edgeOf es ls us e)
+  replay-step-refused : (n x : ℕ) → 0 < n → landingIn t′ (refusedIn x) ≡ landIn t c maxEdges rings (edgeOf es ls us e)
       → landingIn t′ (refusedIn x) ≡ replayIn es ls us n e t c rings
   unfolding replayIn
   replay-step-refused zero x h q = absurd (not-suc-le-zero h)
@@ -64,9 +64,9 @@ module _ (es ls us : List ℕ) (e : ℕ) (t t′ : Tables) (c : Counts) (rings :
 
 module _ (es ls us : List ℕ) (n e i a b l u : ℕ) (t t′ : Tables) (c : Counts) (rings : Bool) (more : 0 < n) (at : i ≡ 2 * e)
     (first : a ≡ getD es i 0) (second : b ≡ getD es (i + 1) 0) (long : l ≡ getD ls e 0) (holds : u ≡ getD us e 0) (answer : AnswerIn)
-    (lands : landingIn t′ answer ≡ landIn t c rings (record { first = a; second = b; len = l; volume = u })) where
-  landed-own : (answer′ : AnswerIn) → answer ≡ answer′ → landingIn t′ answer′ ≡ landIn t c rings (edgeOf es ls us e)
-  landed-own answer′ w = ap (landingIn t′) (sym w) ∙ lands ∙ ap (landIn t c rings) (own-edge es ls us e i a b l u at first second long holds)
+    (lands : landingIn t′ answer ≡ landIn t c maxEdges rings (record { first = a; second = b; len = l; volume = u })) where
+  landed-own : (answer′ : AnswerIn) → answer ≡ answer′ → landingIn t′ answer′ ≡ landIn t c maxEdges rings (edgeOf es ls us e)
+  landed-own answer′ w = ap (landingIn t′) (sym w) ∙ lands ∙ ap (landIn t c maxEdges rings) (own-edge es ls us e i a b l u at first second long holds)
 
   -- an edge lands, and the next follows; or it is refused
   pub replay-on : (c′ : Counts) (rings′ : Bool) → answer ≡ done c′ rings′

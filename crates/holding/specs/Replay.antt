@@ -5,18 +5,18 @@ use mathlib.Core.Bool.{Bool, true, false}
 use mathlib.Core.List.{List}
 use mathlib.Core.Option.{Option, none, some}
 use lib.Dec.{leb}
-use Rattle.model.specs.Basics.{if_then_else_, maxVertices}
+use Rattle.model.specs.Basics.{if_then_else_, maxEdges, maxVertices}
 use Rattle.model.specs.Tables.{Tables, Counts, Stored}
 use Rattle.counters.specs.Answers.{counts}
 use Rattle.tables.specs.Meaning.{stored}
 use Rattle.tables.specs.Steps.{edgeOf}
 use Rattle.insertion.specs.Insertion.{AnswerIn, done, refusedIn, LandingIn, landingIn, landIn}
 
--- n edges of the tables of ends, lengths and volumes, from number e on, landed on t; rings: a ring may stand
+-- n edges of the tables of ends, lengths and volumes, from number e on, landed on t without a licence; rings: a ring may stand
 unfoldable pub replayIn : List ℕ → List ℕ → List ℕ → ℕ → ℕ → Tables → Counts → Bool → LandingIn
 replayIn ends lengths volumes zero e t c rings = landingIn t (done c rings)
 replayIn ends lengths volumes (suc n) e t c rings =
-    let l = landIn t c rings (edgeOf ends lengths volumes e) in
+    let l = landIn t c maxEdges rings (edgeOf ends lengths volumes e) in
     elim (l .answer) [
       | done c′ rings′ ↦ replayIn ends lengths volumes n (e + 1) (l .tables) c′ rings′
       | refusedIn x ↦ l

@@ -2,6 +2,7 @@
 use counters::counts::Counts;
 use counters::numbers::Vertex;
 use counters::refusals::Refusal;
+use counters::sizes::MAX_EDGES;
 use insertion::edges::Inserted;
 use insertion::edges::land_edge;
 use tables::access::at16;
@@ -47,6 +48,7 @@ pub fn replay(
             volumes,
             labels,
             counts,
+            MAX_EDGES,
             at16(ownends, i),
             at16(ownends, i + 1),
             at32(ownlengths, edge),

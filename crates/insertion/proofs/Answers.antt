@@ -82,25 +82,25 @@ volume-test n =
     ]
 
 -- an edge from a to b, n mm long and of volume v: how it is checked
-module _ (c : Counts) (a b n v : ℕ) where
+module _ (c : Counts) (limit a b n v : ℕ) where
   abbrev edge : Edge
   edge = record { first = a; second = b; len = n; volume = v }
 
-  pub check-first : isLanded (c .vertices) a ≡ false → failed 5 ≡ checkIn c edge
+  pub check-first : isLanded (c .vertices) a ≡ false → failed 5 ≡ checkIn c limit edge
   unfolding checkIn
   check-first h = rw h
 
-  pub check-second : isLanded (c .vertices) a ≡ true → isLanded (c .vertices) b ≡ false → failed 5 ≡ checkIn c edge
+  pub check-second : isLanded (c .vertices) a ≡ true → isLanded (c .vertices) b ≡ false → failed 5 ≡ checkIn c limit edge
   unfolding checkIn
   check-second h g = rw (h, g)
 
   module _ (h : isLanded (c .vertices) a ≡ true) (g : isLanded (c .vertices) b ≡ true) where
-    pub check-same : a ≡ b → failed 6 ≡ checkIn c edge
+    pub check-same : a ≡ b → failed 6 ≡ checkIn c limit edge
     unfolding checkIn
     check-same e = rw (h, g, eq-eqb _ _ e)
 
     module _ (e : a ≡ b → ⊥) where
-      pub check-length : none ≡ within 1 maxLength n → failed 7 ≡ checkIn c edge
+      pub check-length : none ≡ within 1 maxLength n → failed 7 ≡ checkIn c limit edge
       unfolding checkIn
       check-length l = rw (h, g, ne-eqb _ _ e, if-none (eqb n 0 || ltb maxLength n) n (l ∙ length-test n))
 
@@ -108,7 +108,7 @@ module _ (c : Counts) (a b n v : ℕ) where
         length-is : ((eqb n 0 || ltb maxLength n) ≡ false) × (m ≡ n)
         length-is = if-some (eqb n 0 || ltb maxLength n) m n (l ∙ length-test n)
 
-        pub check-volume : none ≡ storedVolume (volumeOf v) → failed 31 ≡ checkIn c edge
+        pub check-volume : none ≡ storedVolume (volumeOf v) → failed 31 ≡ checkIn c limit edge
         unfolding checkIn
         check-volume w = rw (h, g, ne-eqb _ _ e, length-is .0, if-none (ltb maxVolume v) v (w ∙ volume-test v))
 
@@ -116,14 +116,18 @@ module _ (c : Counts) (a b n v : ℕ) where
           volume-is : (ltb maxVolume v ≡ false) × (u ≡ v)
           volume-is = if-some (ltb maxVolume v) u v (w ∙ volume-test v)
 
-          pub check-edges : maxEdges ≤ c .edges → failed 23 ≡ checkIn c edge
+          pub check-edges : maxEdges ≤ c .edges → failed 23 ≡ checkIn c limit edge
           unfolding checkIn
           check-edges o = rw (h, g, ne-eqb _ _ e, length-is .0, volume-is .0, le-leb _ _ o)
 
-          pub check-passed : (a′ b′ : ℕ) → a′ ≡ a → b′ ≡ b → c .edges < maxEdges → passed a′ b′ m u ≡ checkIn c edge
+          pub check-limit : c .edges < maxEdges → limit ≤ c .edges → failed 36 ≡ checkIn c limit edge
           unfolding checkIn
-          check-passed a′ b′ x y o =
-              rw (h, g, ne-eqb _ _ e, length-is .0, volume-is .0, lt-leb _ _ o, length-is .1, volume-is .1, x, y)
+          check-limit o k = rw (h, g, ne-eqb _ _ e, length-is .0, volume-is .0, lt-leb _ _ o, le-leb _ _ k)
+
+          pub check-passed : (a′ b′ : ℕ) → a′ ≡ a → b′ ≡ b → c .edges < maxEdges → c .edges < limit → passed a′ b′ m u ≡ checkIn c limit edge
+          unfolding checkIn
+          check-passed a′ b′ x y o k =
+              rw (h, g, ne-eqb _ _ e, length-is .0, volume-is .0, lt-leb _ _ o, lt-leb _ _ k, length-is .1, volume-is .1, x, y)
 
 -- a commit goes on as its intent says
 pub intent-given : (t : Tables) (c : Counts) (rings : Bool) (k k′ : Intent) (x : LandingIn) → k ≡ k′ → x ≡ committedIn t c rings (asIntent k′)

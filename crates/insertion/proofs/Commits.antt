@@ -1,5 +1,6 @@
 -- The ways out of a commit: the quote is another than the one made now, or its edge is landed.
 use mathlib.Core.Path.{_≡_}
+use Prim.Native.Nat.{ℕ}
 use mathlib.Core.Bool.{Bool, true, false}
 use Rattle.model.specs.Register.{Quote, eqQuote}
 use Rattle.model.specs.Tables.{Tables, Counts}
@@ -7,12 +8,12 @@ use Rattle.insertion.specs.Insertion.{AnswerIn, landIn, landingIn, refus
 use Rattle.insertion.specs.Quoting.{quoteIn}
 use Rattle.insertion.specs.Committing.{commitIn}
 
-module _ (t : Tables) (c : Counts) (rings : Bool) (q made : Quote) (same : Bool)
-    (h : made ≡ quoteIn (t .degrees) (t .sides) (t .ends) (t .labels) c rings (q .asked)) (g : same ≡ eqQuote q made) where
-  pub commit-differs : same ≡ false → landingIn t (refusedIn 32) ≡ commitIn t c rings q
+module _ (t : Tables) (c : Counts) (limit : ℕ) (rings : Bool) (q made : Quote) (same : Bool)
+    (h : made ≡ quoteIn (t .degrees) (t .sides) (t .ends) (t .labels) c limit rings (q .asked)) (g : same ≡ eqQuote q made) where
+  pub commit-differs : same ≡ false → landingIn t (refusedIn 32) ≡ commitIn t c limit rings q
   unfolding commitIn
   commit-differs e = rw (← h, ← g, e)
 
-  pub commit-lands : (t′ : Tables) (a : AnswerIn) → same ≡ true → landingIn t′ a ≡ landIn t c rings (q .asked) → landingIn t′ a ≡ commitIn t c rings q
+  pub commit-lands : (t′ : Tables) (a : AnswerIn) → same ≡ true → landingIn t′ a ≡ landIn t c limit rings (q .asked) → landingIn t′ a ≡ commitIn t c limit rings q
   unfolding commitIn
   commit-lands t′ a e l = rw (← h, ← g, e) l

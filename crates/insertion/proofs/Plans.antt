@@ -71,12 +71,12 @@ checked-lands : (t : Tables) (c : Counts) (rings : Bool) (e : Edge) (k : CheckIn
 checked-lands t c rings e (passed a b n v) = inserted-is t c rings a b n v
 checked-lands t c rings e (failed x) = refl
 
-pair-lands : (t : Tables) (c : Counts) (rings : Bool) (e : Edge)
-    → committedIn t c rings (intentIn (t .degrees) (t .sides) (t .ends) c rings e) ≡ landIn t c rings e
+pair-lands : (t : Tables) (c : Counts) (limit : ℕ) (rings : Bool) (e : Edge)
+    → committedIn t c rings (intentIn (t .degrees) (t .sides) (t .ends) c limit rings e) ≡ landIn t c limit rings e
 unfolding intentIn landIn
-pair-lands t c rings e = checked-lands t c rings e (checkIn c e)
+pair-lands t c limit rings e = checked-lands t c rings e (checkIn c limit e)
 
 -- "Landing a list is amended to go through the pair for each pipe": what was intended with a quote made now is committed
-pub pair-law : (t : Tables) (c : Counts) (rings : Bool) (e : Edge) (k : Intent) (x : LandingIn)
-    → asIntent k ≡ intentIn (t .degrees) (t .sides) (t .ends) c rings e → x ≡ committedIn t c rings (asIntent k) → x ≡ landIn t c rings e
-pair-law t c rings e k x h g = g ∙ ap (committedIn t c rings) h ∙ pair-lands t c rings e
+pub pair-law : (t : Tables) (c : Counts) (limit : ℕ) (rings : Bool) (e : Edge) (k : Intent) (x : LandingIn)
+    → asIntent k ≡ intentIn (t .degrees) (t .sides) (t .ends) c limit rings e → x ≡ committedIn t c rings (asIntent k) → x ≡ landIn t c limit rings e
+pair-law t c limit rings e k x h g = g ∙ ap (committedIn t c rings) h ∙ pair-lands t c limit rings e

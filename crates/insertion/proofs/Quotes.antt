@@ -40,17 +40,17 @@ offered d s ends l a b n rings case work p m terms h g i j k =
     (rw (← h, ← g, ← planned-counts work d s ends l a b n rings, ← i, ← j) k, rw (← h, ← g) i)
 
 -- an edge was checked: its quote, and what the commit does
-module _ (d s ends : List ℕ) (c : Counts) (rings : Bool) (e : Edge) (k k′ : Checked) (q : k ≡ k′) (h : asChecked k ≡ checkIn c e) where
+module _ (d s ends : List ℕ) (c : Counts) (limit : ℕ) (rings : Bool) (e : Edge) (k k′ : Checked) (q : k ≡ k′) (h : asChecked k ≡ checkIn c limit e) where
   pub quote-checked : (l : List ℕ) (terms : Terms) → terms ≡ termsIn d s ends l (c .edges) rings (asChecked k′)
-      → record { asked = e; terms = terms; vertices = c .vertices; edges = c .edges } ≡ quoteIn d s ends l c rings e
+      → record { asked = e; terms = terms; vertices = c .vertices; edges = c .edges } ≡ quoteIn d s ends l c limit rings e
   unfolding quoteIn
   quote-checked l terms g = rw (← h, q, ← g)
 
-  pub intent-checked : (x : IntentIn) → x ≡ intentFor d s ends (c .edges) rings (asChecked k′) → x ≡ intentIn d s ends c rings e
+  pub intent-checked : (x : IntentIn) → x ≡ intentFor d s ends (c .edges) rings (asChecked k′) → x ≡ intentIn d s ends c limit rings e
   unfolding intentIn
   intent-checked x g = rw (← h, q) g
 
-pub intent-passed : (d s ends : List ℕ) (c : Counts) (rings : Bool) (e : Edge) (k : Checked) (a b : Vertex) (l : Millimetres) (v : Millilitres) (p : Plan)
-    → k ≡ Passed a b l v → asChecked k ≡ checkIn c e → p ≡ planFor (workFor (caseIn d (a .0) (b .0)) (a .0) (b .0)) d s ends (a .0) (b .0) (c .edges) rings
-    → place (a .0) (b .0) (l .0) (v .0) p ≡ intentIn d s ends c rings e
-intent-passed d s ends c rings e k a b l v p q h g = intent-checked d s ends c rings e k (Passed a b l v) q h _ (rw g)
+pub intent-passed : (d s ends : List ℕ) (c : Counts) (limit : ℕ) (rings : Bool) (e : Edge) (k : Checked) (a b : Vertex) (l : Millimetres) (v : Millilitres) (p : Plan)
+    → k ≡ Passed a b l v → asChecked k ≡ checkIn c limit e → p ≡ planFor (workFor (caseIn d (a .0) (b .0)) (a .0) (b .0)) d s ends (a .0) (b .0) (c .edges) rings
+    → place (a .0) (b .0) (l .0) (v .0) p ≡ intentIn d s ends c limit rings e
+intent-passed d s ends c limit rings e k a b l v p q h g = intent-checked d s ends c limit rings e k (Passed a b l v) q h _ (rw g)

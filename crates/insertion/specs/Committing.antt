@@ -1,4 +1,5 @@
 -- What the commit of a quote does to the tables (document 02, S-5), as a function of lists that mirrors the code.
+use Prim.Native.Nat.{ℕ}
 use mathlib.Core.Bool.{Bool, not}
 use Rattle.model.specs.Basics.{if_then_else_}
 use Rattle.model.specs.Register.{Quote, eqQuote}
@@ -7,7 +8,7 @@ use Rattle.insertion.specs.Insertion.{LandingIn, landingIn, landIn, refu
 use Rattle.insertion.specs.Quoting.{quoteIn}
 
 -- "does exactly that when a quote made now would be the same"; "32 .., nothing written"
-unfoldable pub commitIn : Tables → Counts → Bool → Quote → LandingIn
-commitIn t c rings q =
-    if not (eqQuote q (quoteIn (t .degrees) (t .sides) (t .ends) (t .labels) c rings (q .asked))) then landingIn t (refusedIn 32)
-    else landIn t c rings (q .asked)
+unfoldable pub commitIn : Tables → Counts → ℕ → Bool → Quote → LandingIn
+commitIn t c limit rings q =
+    if not (eqQuote q (quoteIn (t .degrees) (t .sides) (t .ends) (t .labels) c limit rings (q .asked))) then landingIn t (refusedIn 32)
+    else landIn t c limit rings (q .asked)

@@ -32,7 +32,7 @@ landVertexIn c rings =
     if leb maxVertices (c .vertices) then refusedIn 22
     else done (counts (more16 (c .vertices)) (c .edges) (c .blocks) (c .relabellings)) rings
 
--- an edge that passed refusals 5, 6, 7, 31 and 23; rings: a ring may stand
+-- an edge that passed refusals 5, 6, 7, 31, 23 and 36; rings: a ring may stand
 unfoldable pub insertIn : Tables → Counts → Bool → Edge → LandingIn
 insertIn t c rings e =
     let new = c .edges in
@@ -48,18 +48,19 @@ storedVolume (known v) = some v
 storedVolume unknown = some 0
 storedVolume outOfRange = none
 
--- the ends, the length and the volume of an edge that passed, or the first of refusals 5, 6, 7, 31 and 23 that holds of it
+-- the ends, the length and the volume of an edge that passed, or the first of refusals 5, 6, 7, 31, 23 and 36 that holds of it
 pub data CheckIn : Type 0 where
   passed : ℕ → ℕ → ℕ → ℕ → CheckIn
   failed : ℕ → CheckIn
 
-unfoldable pub checkIn : Counts → Edge → CheckIn
-checkIn c e =
+unfoldable pub checkIn : Counts → ℕ → Edge → CheckIn
+checkIn c limit e =
     if not (isLanded (c .vertices) (e .first) && isLanded (c .vertices) (e .second)) then failed 5
     else if eqb (e .first) (e .second) then failed 6
     else if eqb (e .len) 0 || ltb maxLength (e .len) then failed 7
     else if ltb maxVolume (e .volume) then failed 31
     else if leb maxEdges (c .edges) then failed 23
+    else if leb limit (c .edges) then failed 36
     else passed (e .first) (e .second) (e .len) (e .volume)
 
 -- what landing comes to, once the edge was checked; a refused edge leaves the tables
@@ -67,5 +68,6 @@ abbrev pub landChecked : Tables → Counts → Bool → Edge → CheckIn → Lan
 landChecked t c rings e (passed a b n v) = insertIn t c rings (record { first = a; second = b; len = n; volume = v })
 landChecked t c rings e (failed x) = landingIn t (refusedIn x)
 
-unfoldable pub landIn : Tables → Counts → Bool → Edge → LandingIn
-landIn t c rings e = landChecked t c rings e (checkIn c e)
+-- the register may not pass `limit` edges
+unfoldable pub landIn : Tables → Counts → ℕ → Bool → Edge → LandingIn
+landIn t c limit rings e = landChecked t c rings e (checkIn c limit e)

@@ -75,7 +75,7 @@ plannedIn p degrees sides ends labels blocks a b e =
 
 -- ---- a quote's commit
 
--- an edge that passed refusals 5, 6, 7, 31 and 23, placed as planned and written down; rings: a ring may stand
+-- an edge that passed refusals 5, 6, 7, 31, 23 and 36, placed as planned and written down; rings: a ring may stand
 unfoldable pub insertPlanned : Plan → Tables → Counts → Bool → Edge → LandingIn
 insertPlanned plan t c rings e =
     let new = c .edges in
@@ -95,8 +95,8 @@ intentFor degrees sides ends n rings (passed a b l v) =
     place a b l v (planFor (workFor (caseIn degrees a b) a b) degrees sides ends a b n rings)
 intentFor degrees sides ends n rings (failed x) = refuse x
 
-unfoldable pub intentIn : List ℕ → List ℕ → List ℕ → Counts → Bool → Edge → IntentIn
-intentIn degrees sides ends c rings e = intentFor degrees sides ends (c .edges) rings (checkIn c e)
+unfoldable pub intentIn : List ℕ → List ℕ → List ℕ → Counts → ℕ → Bool → Edge → IntentIn
+intentIn degrees sides ends c limit rings e = intentFor degrees sides ends (c .edges) rings (checkIn c limit e)
 
 -- "does exactly that"; a refused edge leaves the tables
 abbrev pub committedIn : Tables → Counts → Bool → IntentIn → LandingIn

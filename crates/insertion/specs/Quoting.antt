@@ -34,12 +34,12 @@ termsIn degrees sides ends labels n rings (failed x) = declines x
 termsIn degrees sides ends labels n rings (passed a b l v) =
     offerIn (caseIn degrees a b) (workCountIn (workFor (caseIn degrees a b) a b) degrees sides ends labels a b n rings)
 
--- the quote of edge e; rings: a ring may stand
-unfoldable pub quoteIn : List ℕ → List ℕ → List ℕ → List ℕ → Counts → Bool → Edge → Quote
-quoteIn degrees sides ends labels c rings e =
+-- the quote of edge e within a limit on the register's edges; rings: a ring may stand
+unfoldable pub quoteIn : List ℕ → List ℕ → List ℕ → List ℕ → Counts → ℕ → Bool → Edge → Quote
+quoteIn degrees sides ends labels c limit rings e =
     record {
       asked = e;
-      terms = termsIn degrees sides ends labels (c .edges) rings (checkIn c e);
+      terms = termsIn degrees sides ends labels (c .edges) rings (checkIn c limit e);
       vertices = c .vertices;
       edges = c .edges;
     }

@@ -31,15 +31,23 @@ fn check_volume(volume: u32) -> CheckedVolume
     }
 }
 
-// The first of refusals 5, 6, 7, 31 and 23 that holds of an edge (document 01: pipe), or its ends, length and volume where none does.
+// The first of refusals 5, 6, 7, 31, 23 and 36 that holds of an edge (document 01: pipe), or its ends, length and volume where none does.
 pub enum Checked {
     Passed(Vertex, Vertex, Millimetres, Millilitres),
     Refused(Refusal),
 }
 
-// Document 01's order, with 31 just after 7. What a record says is a plain number until it is tested here.
-pub fn check_edge(counts: Counts, first: u16, second: u16, length: u32, volume: u32) -> Checked
-    ensures { λ r. ⌜ asChecked r ≡ checkIn (asCounts counts) (record { first = first; second = second; len = length; volume = volume }) ⌝ }
+// Document 01's order, with 31 just after 7 and 36 just after 23. A register may not pass `limit` edges; without a licence it is MAX_EDGES,
+// and 36 never holds. What a record says is a plain number until it is tested here.
+pub fn check_edge(
+    counts: Counts,
+    limit: u16,
+    first: u16,
+    second: u16,
+    length: u32,
+    volume: u32,
+) -> Checked
+    ensures { λ r. ⌜ asChecked r ≡ checkIn (asCounts counts) limit (record { first = first; second = second; len = length; volume = volume }) ⌝ }
 {
     let CheckedVertex::Is(a) = Vertex::landed(first, counts.vertices) else {
         return Checked::Refused(Refusal::NotLanded);
@@ -58,6 +66,9 @@ pub fn check_edge(counts: Counts, first: u16, second: u16, length: u32, volume: 
     };
     if MAX_EDGES <= counts.edges {
         return Checked::Refused(Refusal::TooManyEdges);
+    }
+    if limit <= counts.edges {
+        return Checked::Refused(Refusal::OverLimit);
     }
     Checked::Passed(a, b, millimetres, millilitres)
 }

@@ -24,6 +24,7 @@ pub fn commit_quote(
     volumes: &mut [u32],
     labels: &mut [u32],
     counts: Counts,
+    limit: u16,
     quote: Quote,
     rings: bool,
 ) -> Inserted
@@ -31,7 +32,7 @@ pub fn commit_quote(
         (tables (now (degrees .exit)) (now (sides .exit)) (now (ends .exit)) (now (lengths .exit)) (now (volumes .exit)) (now (labels .exit))) (asAnswer r)
         ≡ commitIn
         (tables (now (degrees .entry)) (now (sides .entry)) (now (ends .entry)) (now (lengths .entry)) (now (volumes .entry)) (now (labels .entry)))
-        (asCounts counts) rings (asQuote quote) ⌝ }
+        (asCounts counts) limit rings (asQuote quote) ⌝ }
 {
     let first = quote.first;
     let second = quote.second;
@@ -43,6 +44,7 @@ pub fn commit_quote(
         ends,
         labels,
         counts,
+        limit,
         first,
         second,
         length,
@@ -60,6 +62,7 @@ pub fn commit_quote(
         volumes,
         labels,
         counts,
+        limit,
         first,
         second,
         length,

@@ -143,6 +143,7 @@ pub fn land_edge(
     volumes: &mut [u32],
     labels: &mut [u32],
     counts: Counts,
+    limit: u16,
     first: u16,
     second: u16,
     length: u32,
@@ -153,7 +154,7 @@ pub fn land_edge(
         (tables (now (degrees .exit)) (now (sides .exit)) (now (ends .exit)) (now (lengths .exit)) (now (volumes .exit)) (now (labels .exit))) (asAnswer r)
         ≡ landIn
         (tables (now (degrees .entry)) (now (sides .entry)) (now (ends .entry)) (now (lengths .entry)) (now (volumes .entry)) (now (labels .entry)))
-        (asCounts counts) rings (record { first = first; second = second; len = length; volume = volume }) ⌝ }
+        (asCounts counts) limit rings (record { first = first; second = second; len = length; volume = volume }) ⌝ }
 {
     let prepared = prepare_edge(
         degrees,
@@ -161,6 +162,7 @@ pub fn land_edge(
         ends,
         labels,
         counts,
+        limit,
         first,
         second,
         length,

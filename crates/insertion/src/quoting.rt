@@ -133,6 +133,7 @@ pub fn prepare_edge(
     ends: &[u16],
     labels: &[u32],
     counts: Counts,
+    limit: u16,
     first: u16,
     second: u16,
     length: u32,
@@ -140,12 +141,12 @@ pub fn prepare_edge(
     rings: bool,
 ) -> Prepared
     ensures { λ r. ⌜ (asQuote (r .quote)
-        ≡ quoteIn (now (degrees .entry)) (now (sides .entry)) (now (ends .entry)) (now (labels .entry)) (asCounts counts) rings
+        ≡ quoteIn (now (degrees .entry)) (now (sides .entry)) (now (ends .entry)) (now (labels .entry)) (asCounts counts) limit rings
         (record { first = first; second = second; len = length; volume = volume }))
-        × (asIntent (r .intent) ≡ intentIn (now (degrees .entry)) (now (sides .entry)) (now (ends .entry)) (asCounts counts) rings
+        × (asIntent (r .intent) ≡ intentIn (now (degrees .entry)) (now (sides .entry)) (now (ends .entry)) (asCounts counts) limit rings
         (record { first = first; second = second; len = length; volume = volume })) ⌝ }
 {
-    let checked = check_edge(counts, first, second, length, volume);
+    let checked = check_edge(counts, limit, first, second, length, volume);
     match checked {
         Checked::Passed(a, b, millimetres, millilitres) => {
             let offer = offer_edge(degrees, sides, ends, labels, counts.edges, a, b, rings);
@@ -171,6 +172,7 @@ pub fn quote_edge(
     ends: &[u16],
     labels: &[u32],
     counts: Counts,
+    limit: u16,
     first: u16,
     second: u16,
     length: u32,
@@ -178,7 +180,7 @@ pub fn quote_edge(
     rings: bool,
 ) -> Quote
     ensures { λ r. ⌜ asQuote r
-        ≡ quoteIn (now (degrees .entry)) (now (sides .entry)) (now (ends .entry)) (now (labels .entry)) (asCounts counts) rings
+        ≡ quoteIn (now (degrees .entry)) (now (sides .entry)) (now (ends .entry)) (now (labels .entry)) (asCounts counts) limit rings
         (record { first = first; second = second; len = length; volume = volume }) ⌝ }
 {
     let prepared = prepare_edge(
@@ -187,6 +189,7 @@ pub fn quote_edge(
         ends,
         labels,
         counts,
+        limit,
         first,
         second,
         length,

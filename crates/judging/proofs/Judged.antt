@@ -32,7 +32,7 @@ right-stops : (d : Read) (k x : ℕ) → d .stop ≡ stopped k x → stops k x �
 unfolding rightOf
 right-stops d k x e = sym (ap (λ (s : Stop). elim s [ whole ↦ listed (listing d) | stopped n y ↦ stops n y ]) e)
 
-module _ (bs : List ℕ) (d : ReadingIn) (grown : d ≡ landListIn cleared noCounts bs) where
+module _ (bs : List ℕ) (d : ReadingIn) (grown : d ≡ landListIn cleared noCounts maxEdges bs) where
   same-stop : (s : Stop) → s ≡ d .stop → (growList bs) .stop ≡ s
   same-stop s e = sym (e ∙ ap (λ (z : ReadingIn). z .stop) (grown ∙ list-leaves bs))
 

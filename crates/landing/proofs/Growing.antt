@@ -2,6 +2,7 @@
 use mathlib.Core.Path.{_≡_, refl}
 use Prim.Native.Nat.{ℕ}
 use mathlib.Core.List.{List}
+use Rattle.model.specs.Basics.{maxEdges}
 use Rattle.model.specs.Register.{empty}
 use Rattle.model.specs.Format.{growList}
 use Rattle.model.specs.Tables.{tablesOf, countsOf, cleared, noCounts}
@@ -19,6 +20,6 @@ unfolding computing
 empty-counts = refl
 
 -- growing from a list on cleared tables leaves what `growList` says
-pub list-leaves : (bs : List ℕ) → landListIn cleared noCounts bs ≡ shownRead (growList bs)
+pub list-leaves : (bs : List ℕ) → landListIn cleared noCounts maxEdges bs ≡ shownRead (growList bs)
 unfolding growList
-list-leaves bs = rw (empty-tables, empty-counts) at (list-agrees empty bs reachable-empty)
+list-leaves bs = rw (empty-tables, empty-counts) at (list-agrees maxEdges empty bs reachable-empty)

@@ -11,7 +11,7 @@ use lib.Dec.{eqb, leb, ltb}
 use borrow.Author.Tests.{leb-false}
 use Rattle.model.specs.Basics.{if_then_else_, maxVertices, upTo}
 use Rattle.model.specs.Graph.{Edge}
-use Rattle.model.specs.Register.{Landed, Register, landEdge, landVertex, landed, refused, withVertex}
+use Rattle.model.specs.Register.{Landed, Register, landEdgeWithin, landVertex, landed, refused, withVertex}
 use Rattle.model.specs.Format.{Read, Record, bad, edge, edgeBody, firstRecord, headerRefusal, landList, landRecords, u16At, u32At, versionOf, vertex, volumeIn}
 use Rattle.model.specs.Tables.{countsOf, highSide, lowSide, sidesOf, tablesOf}
 use Rattle.model.specs.Notions.{Reachable, with-edge, with-vertex}
@@ -21,7 +21,7 @@ use Rattle.agreement.proofs.Standing.{Warns, warns-edge, warns-first, warns-ver
 use Rattle.insertion.specs.Insertion.{landVertexIn}
 use Rattle.agreement.proofs.Landing.{edge-parts, shownIn}
 use Rattle.landing.specs.Records.{ReadingIn, landListIn, landRecordIn, landRecordsIn, readingIn}
-use Rattle.model.proofs.Registers.Accepted.{added}
+use Rattle.model.proofs.Registers.Accepted.{added, within-lands}
 
 -- what the definition leaves, as tables, counts and answer
 abbrev pub shownRead : Read → ReadingIn
@@ -104,17 +104,17 @@ module _ (bs : List ℕ) (o : Place) where
 
 -- ---- records, and the list
 
-records-agree : (bs : List ℕ) (n k : ℕ) (r : Register) (rings : Bool) (o : Place) → Reachable r → Warns rings (r .edges)
-    → landRecordsIn bs n k (tablesOf r) (countsOf r) rings o ≡ shownRead (landRecords (o .version) n k r (drop (o .at) bs))
+records-agree : (limit : ℕ) (bs : List ℕ) (n k : ℕ) (r : Register) (rings : Bool) (o : Place) → Reachable r → Warns rings (r .edges)
+    → landRecordsIn bs n k (tablesOf r) (countsOf r) limit rings o ≡ shownRead (landRecords limit (o .version) n k r (drop (o .at) bs))
 unfolding landRecordsIn landRecordIn landRecords shownIn
-records-agree bs zero k r rings o g w = refl
-records-agree bs (suc n) k r rings o g w = go (drop (o .at) bs) refl (λ r′ rings′ j g′ w′. records-agree bs n (k + 1) r′ rings′ j g′ w′)
+records-agree limit bs zero k r rings o g w = refl
+records-agree limit bs (suc n) k r rings o g w = go (drop (o .at) bs) refl (λ r′ rings′ j g′ w′. records-agree limit bs n (k + 1) r′ rings′ j g′ w′)
   where
     Goal : Type 0
-    Goal = landRecordsIn bs (suc n) k (tablesOf r) (countsOf r) rings o ≡ shownRead (landRecords (o .version) (suc n) k r (drop (o .at) bs))
+    Goal = landRecordsIn bs (suc n) k (tablesOf r) (countsOf r) limit rings o ≡ shownRead (landRecords limit (o .version) (suc n) k r (drop (o .at) bs))
 
     Rest : Type 0
-    Rest = (r′ : Register) (rings′ : Bool) (j : Place) → Reachable r′ → Warns rings′ (r′ .edges) → landRecordsIn bs n (k + 1) (tablesOf r′) (countsOf r′) rings′ j ≡ shownRead (landRecords (j .version) n (k + 1) r′ (drop (j .at) bs))
+    Rest = (r′ : Register) (rings′ : Bool) (j : Place) → Reachable r′ → Warns rings′ (r′ .edges) → landRecordsIn bs n (k + 1) (tablesOf r′) (countsOf r′) limit rings′ j ≡ shownRead (landRecords limit (j .version) n (k + 1) r′ (drop (j .at) bs))
 
     on-vertex : (kind : ℕ) (bytes rest : List ℕ) → drop (o .at) bs ≡ kind ∷ bytes → firstRecord (o .version) kind bytes ≡ vertex rest → (l : Landed) → landVertex r ≡ l → Rest → Goal
     on-vertex kind bytes rest p q (landed r′) f ih =
@@ -124,19 +124,19 @@ records-agree bs (suc n) k r rings o g w = go (drop (o .at) bs) refl (λ r′ ri
         let s = at-vertex bs o kind bytes p rest q in
         rw (s .0, vertex-answer r rings (refused x) f, landRecordsIn, s .0, p, q, f, landRecords)
 
-    on-edge : (kind : ℕ) (bytes : List ℕ) (e : Edge) (rest : List ℕ) → drop (o .at) bs ≡ kind ∷ bytes → firstRecord (o .version) kind bytes ≡ edge e rest → (l : Landed) → landEdge r e ≡ l → Rest → Goal
+    on-edge : (kind : ℕ) (bytes : List ℕ) (e : Edge) (rest : List ℕ) → drop (o .at) bs ≡ kind ∷ bytes → firstRecord (o .version) kind bytes ≡ edge e rest → (l : Landed) → landEdgeWithin limit r e ≡ l → Rest → Goal
     on-edge kind bytes e rest p q (landed r′) f ih =
         let s = at-edge bs o kind bytes p e rest q in
-        let a = edge-parts r e rings g w (landed r′) f in
-        rw (s .0, a .0, landRecordsIn, s .0, a .1, p, q, f, landRecords, ← s .1) (ih r′ _ (pastEdge o) (with-edge e g f) (warns-edge r e r′ rings g f w))
+        let a = edge-parts limit r e rings g w (landed r′) f in
+        rw (s .0, a .0, landRecordsIn, s .0, a .1, p, q, f, landRecords, ← s .1) (ih r′ _ (pastEdge o) (with-edge e g (within-lands limit r e r′ f)) (warns-edge r e r′ rings g (within-lands limit r e r′ f) w))
     on-edge kind bytes e rest p q (refused x) f ih =
         let s = at-edge bs o kind bytes p e rest q in
-        let a = edge-parts r e rings g w (refused x) f in
+        let a = edge-parts limit r e rings g w (refused x) f in
         rw (s .0, a .0, landRecordsIn, s .0, a .1, p, q, f, landRecords)
 
     on-record : (kind : ℕ) (bytes : List ℕ) → drop (o .at) bs ≡ kind ∷ bytes → (d : Record) → firstRecord (o .version) kind bytes ≡ d → Rest → Goal
     on-record kind bytes p (vertex rest) q ih = on-vertex kind bytes rest p q (landVertex r) refl ih
-    on-record kind bytes p (edge e rest) q ih = on-edge kind bytes e rest p q (landEdge r e) refl ih
+    on-record kind bytes p (edge e rest) q ih = on-edge kind bytes e rest p q (landEdgeWithin limit r e) refl ih
     on-record kind bytes p (bad x) q ih = rw (at-bad bs o kind bytes p x q, landRecordsIn, at-bad bs o kind bytes p x q, p, q, landRecords)
 
     go : (l : List ℕ) → drop (o .at) bs ≡ l → Rest → Goal
@@ -148,10 +148,10 @@ unfolding countsOf
 first-warns r = warns-first (r .edges)
 
 -- landing a list on a register's tables leaves what `landList` says
-pub list-agrees : (r : Register) (bs : List ℕ) → Reachable r → landListIn (tablesOf r) (countsOf r) bs ≡ shownRead (landList r bs)
+pub list-agrees : (limit : ℕ) (r : Register) (bs : List ℕ) → Reachable r → landListIn (tablesOf r) (countsOf r) limit bs ≡ shownRead (landList limit r bs)
 unfolding landListIn landList headerAt
-list-agrees r bs g = go (headerRefusal bs) refl
+list-agrees limit r bs g = go (headerRefusal bs) refl
   where
-    go : (o : Option ℕ) → headerRefusal bs ≡ o → landListIn (tablesOf r) (countsOf r) bs ≡ shownRead (landList r bs)
+    go : (o : Option ℕ) → headerRefusal bs ≡ o → landListIn (tablesOf r) (countsOf r) limit bs ≡ shownRead (landList limit r bs)
     go (some x) e = rw (e, landListIn, landList)
-    go none e = rw (e, landListIn, landList) (records-agree bs (length bs) 0 r (ltb 0 ((countsOf r) .edges)) (place 5 (versionOf bs)) g (first-warns r))
+    go none e = rw (e, landListIn, landList) (records-agree limit bs (length bs) 0 r (ltb 0 ((countsOf r) .edges)) (place 5 (versionOf bs)) g (first-warns r))

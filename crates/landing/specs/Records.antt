@@ -27,12 +27,12 @@ abbrev pub stepOf : Place → AnswerIn → StepIn
 stepOf p (done c rings) = wentOn c rings p
 stepOf p (refusedIn x) = stoppedIn x
 
--- one record on the tables; p is the place behind it
-unfoldable pub landRecordIn : Tables → Counts → Bool → RecordAt → SteppedIn
-landRecordIn t c rings ends = steppedIn t ended
-landRecordIn t c rings (vertexTo p) = steppedIn t (stepOf p (landVertexIn c rings))
-landRecordIn t c rings (edgeTo e p) = let l = landIn t c rings e in steppedIn (l .tables) (stepOf p (l .answer))
-landRecordIn t c rings (badRecord x) = steppedIn t (stoppedIn x)
+-- one record on the tables, within a limit on the register's edges; p is the place behind it
+unfoldable pub landRecordIn : Tables → Counts → ℕ → Bool → RecordAt → SteppedIn
+landRecordIn t c limit rings ends = steppedIn t ended
+landRecordIn t c limit rings (vertexTo p) = steppedIn t (stepOf p (landVertexIn c rings))
+landRecordIn t c limit rings (edgeTo e p) = let l = landIn t c limit rings e in steppedIn (l .tables) (stepOf p (l .answer))
+landRecordIn t c limit rings (badRecord x) = steppedIn t (stoppedIn x)
 
 -- the tables and counts that a list leaves, and how far it was landed
 pub record ReadingIn : Type 0 where
@@ -44,20 +44,20 @@ abbrev pub readingIn : Tables → Counts → Stop → ReadingIn
 readingIn t c s = record { tables = t; counts = c; stop = s }
 
 -- the records from number k on, which stands at place p; at most n; rings: a ring may stand
-unfoldable pub landRecordsIn : List ℕ → ℕ → ℕ → Tables → Counts → Bool → Place → ReadingIn
-landRecordsIn bs zero k t c rings p = readingIn t c whole
-landRecordsIn bs (suc n) k t c rings p =
-    let s = landRecordIn t c rings (recordAt bs p) in
+unfoldable pub landRecordsIn : List ℕ → ℕ → ℕ → Tables → Counts → ℕ → Bool → Place → ReadingIn
+landRecordsIn bs zero k t c limit rings p = readingIn t c whole
+landRecordsIn bs (suc n) k t c limit rings p =
+    let s = landRecordIn t c limit rings (recordAt bs p) in
     elim (s .step) [
       | ended ↦ readingIn (s .tables) c whole
-      | wentOn c′ rings′ p′ ↦ landRecordsIn bs n (k + 1) (s .tables) c′ rings′ p′
+      | wentOn c′ rings′ p′ ↦ landRecordsIn bs n (k + 1) (s .tables) c′ limit rings′ p′
       | stoppedIn x ↦ readingIn (s .tables) c (stopped k x)
     ]
 
 -- a whole list; without edges no ring stands
-unfoldable pub landListIn : Tables → Counts → List ℕ → ReadingIn
-landListIn t c bs =
+unfoldable pub landListIn : Tables → Counts → ℕ → List ℕ → ReadingIn
+landListIn t c limit bs =
     elim (headerAt bs) [
-      | good p ↦ landRecordsIn bs (length bs) 0 t c (ltb 0 (c .edges)) p
+      | good p ↦ landRecordsIn bs (length bs) 0 t c limit (ltb 0 (c .edges)) p
       | badHeader x ↦ readingIn t c (stopped 0 x)
     ]

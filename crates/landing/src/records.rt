@@ -2,6 +2,7 @@
 use counters::answers::Stop;
 use counters::counts::Counts;
 use counters::refusals::Refusal;
+use counters::sizes::MAX_EDGES;
 use insertion::edges::Inserted;
 use insertion::edges::land_edge;
 use insertion::vertices::land_vertex;
@@ -13,6 +14,7 @@ use list::records::read_header;
 ghost use mathlib.Core.Path.{_≡_};
 ghost use lib.ListN.{length};
 ghost use lib.Dec.{ltb};
+ghost use Rattle.model.specs.Basics.{maxEdges};
 ghost use Rattle.model.specs.Tables.{noCounts};
 ghost use Rattle.counters.specs.Answers.{counts, asCounts, asStop};
 ghost use Rattle.tables.specs.Meaning.{tables};
@@ -52,13 +54,14 @@ fn land_record(
     volumes: &mut [u32],
     labels: &mut [u32],
     counts: Counts,
+    limit: u16,
     list: &[u8],
     at: Cursor,
     rings: bool,
 ) -> Step
     ensures { λ r. ⌜ steppedIn (tables (now (degrees .exit)) (now (sides .exit)) (now (ends .exit)) (now (lengths .exit)) (now (volumes .exit)) (now (labels .exit))) (asStep r)
         ≡ landRecordIn (tables (now (degrees .entry)) (now (sides .entry)) (now (ends .entry)) (now (lengths .entry)) (now (volumes .entry)) (now (labels .entry)))
-        (asCounts counts) rings (recordAt (now (list .entry)) (asPlace at)) ⌝ }
+        (asCounts counts) limit rings (recordAt (now (list .entry)) (asPlace at)) ⌝ }
 {
     let found = record_at(list, at);
     match found {
@@ -73,6 +76,7 @@ fn land_record(
                 volumes,
                 labels,
                 counts,
+                limit,
                 first,
                 second,
                 length,
@@ -93,6 +97,7 @@ fn land_records(
     edges: &mut u16,
     blocks: &mut u16,
     relabellings: &mut u32,
+    limit: u16,
     degrees: &mut [u16],
     sides: &mut [u16],
     ends: &mut [u16],
@@ -106,7 +111,7 @@ fn land_records(
         (counts (now (vertices .exit)) (now (edges .exit)) (now (blocks .exit)) (now (relabellings .exit))) (asStop r)
         ≡ landRecordsIn (now (list .entry)) (length (now (list .entry))) 0
         (tables (now (degrees .entry)) (now (sides .entry)) (now (ends .entry)) (now (lengths .entry)) (now (volumes .entry)) (now (labels .entry)))
-        (counts (now (vertices .entry)) (now (edges .entry)) (now (blocks .entry)) (now (relabellings .entry)))
+        (counts (now (vertices .entry)) (now (edges .entry)) (now (blocks .entry)) (now (relabellings .entry))) limit
         (ltb 0 (now (edges .entry))) (asPlace from) ⌝ }
 {
     let mut at = from;
@@ -128,6 +133,7 @@ fn land_records(
             volumes,
             labels,
             head,
+            limit,
             list,
             at,
             rings,
@@ -154,12 +160,13 @@ fn land_records(
     Stop::Whole
 }
 
-// A whole list: the header, then the records.
+// A whole list: the header, then the records. The register may not pass `limit` edges.
 pub fn land_list(
     vertices: &mut u16,
     edges: &mut u16,
     blocks: &mut u16,
     relabellings: &mut u32,
+    limit: u16,
     degrees: &mut [u16],
     sides: &mut [u16],
     ends: &mut [u16],
@@ -171,7 +178,7 @@ pub fn land_list(
     ensures { λ r. ⌜ readingIn (tables (now (degrees .exit)) (now (sides .exit)) (now (ends .exit)) (now (lengths .exit)) (now (volumes .exit)) (now (labels .exit)))
         (counts (now (vertices .exit)) (now (edges .exit)) (now (blocks .exit)) (now (relabellings .exit))) (asStop r)
         ≡ landListIn (tables (now (degrees .entry)) (now (sides .entry)) (now (ends .entry)) (now (lengths .entry)) (now (volumes .entry)) (now (labels .entry)))
-        (counts (now (vertices .entry)) (now (edges .entry)) (now (blocks .entry)) (now (relabellings .entry))) (now (list .entry)) ⌝ }
+        (counts (now (vertices .entry)) (now (edges .entry)) (now (blocks .entry)) (now (relabellings .entry))) limit (now (list .entry)) ⌝ }
 {
     let header = read_header(list);
     match header {
@@ -180,6 +187,7 @@ pub fn land_list(
             edges,
             blocks,
             relabellings,
+            limit,
             degrees,
             sides,
             ends,
@@ -193,7 +201,7 @@ pub fn land_list(
     }
 }
 
-// A whole list from empty, on tables that come cleared. The head lies here.
+// A whole list from empty, on tables that come cleared, without a licence. The head lies here.
 pub fn grow_list(
     degrees: &mut [u16],
     sides: &mut [u16],
@@ -205,7 +213,7 @@ pub fn grow_list(
 ) -> Reading
     ensures { λ r. ⌜ asReading (tables (now (degrees .exit)) (now (sides .exit)) (now (ends .exit)) (now (lengths .exit)) (now (volumes .exit)) (now (labels .exit))) r
         ≡ landListIn (tables (now (degrees .entry)) (now (sides .entry)) (now (ends .entry)) (now (lengths .entry)) (now (volumes .entry)) (now (labels .entry)))
-        noCounts (now (list .entry)) ⌝ }
+        noCounts maxEdges (now (list .entry)) ⌝ }
 {
     let mut vertices: u16 = 0;
     let mut edges: u16 = 0;
@@ -216,6 +224,7 @@ pub fn grow_list(
         &mut edges,
         &mut blocks,
         &mut relabellings,
+        MAX_EDGES,
         degrees,
         sides,
         ends,

@@ -67,7 +67,7 @@ unfolding printed
 printed-short bs h = rw (le-ltb 65536 (length bs) h)
 
 -- the listing of any list, with no regard to its length
-pub lists : (bs out : List ℕ) (d : ReadingIn) (q : Page) → roomBytes ≤ length out → d ≡ landListIn cleared noCounts bs
+pub lists : (bs out : List ℕ) (d : ReadingIn) (q : Page) → roomBytes ≤ length out → d ≡ landListIn cleared noCounts maxEdges bs
     → q ≡ write (listingIn (d .counts) (sheetOver (d .tables) (d .counts .edges) maxEdges) (d .stop)) (page out 0)
     → q .at ≤ headBytes + rowBytes * d .counts .edges + stopBytes → Counted (q .at) (q .slice) × (take (q .at) (q .slice) ≡ listing (growList bs))
 lists bs out d q l e f b =
@@ -80,7 +80,7 @@ lists bs out d q l e f b =
     page-holds _ (listing (growList bs)) out q f (omega (arith, few)) x
 
 -- any other: its listing
-pub prints : (bs out : List ℕ) (d : ReadingIn) (q : Page) → length bs ≤ 65536 → roomBytes ≤ length out → d ≡ landListIn cleared noCounts bs
+pub prints : (bs out : List ℕ) (d : ReadingIn) (q : Page) → length bs ≤ 65536 → roomBytes ≤ length out → d ≡ landListIn cleared noCounts maxEdges bs
     → q ≡ write (listingIn (d .counts) (sheetOver (d .tables) (d .counts .edges) maxEdges) (d .stop)) (page out 0)
     → q .at ≤ headBytes + rowBytes * d .counts .edges + stopBytes → Counted (q .at) (q .slice) × (take (q .at) (q .slice) ≡ printed bs)
 prints bs out d q h l e f b = let w = lists bs out d q l e f b in (w .0, w .1 ∙ printed-short bs h)

@@ -29,7 +29,7 @@ use Rattle.pnl.specs.FromC.{returned}
 
 -- ---- what the reading of a list says of it
 
-module _ (bs : List ℕ) (t : Tables) (c : Counts) (s : Stop) (e : readingIn t c s ≡ landListIn cleared noCounts bs) where
+module _ (bs : List ℕ) (t : Tables) (c : Counts) (s : Stop) (e : readingIn t c s ≡ landListIn cleared noCounts maxEdges bs) where
   left : readingIn t c s ≡ shownRead (growList bs)
   left = e ∙ list-leaves bs
 

@@ -11,10 +11,10 @@ use mir.Facts.{toZ-pos, toZ-ofZ}
 use Rattle.model.specs.FromC.{Returned}
 use Rattle.counters.specs.Refusals.{numberOf}
 use Rattle.counters.specs.declared.refusals.Refusal.{Refusal}
-use Rattle.counters.specs.declared.refusals.Refusal.the-variants.{NoMark, Version, Cut, UnknownKind, NotLanded, SameVertex, Length, NotRegular, ShortSlice, NotGrown, TooManyVertices, TooManyEdges, WrongSize, Volume, OtherQuote, Beyond}
+use Rattle.counters.specs.declared.refusals.Refusal.the-variants.{NoMark, Version, Cut, UnknownKind, NotLanded, SameVertex, Length, NotRegular, ShortSlice, NotGrown, TooManyVertices, TooManyEdges, WrongSize, Volume, OtherQuote, Beyond, OverLimit, OutOfPlace, NotRemovable, Ended}
 use Rattle.pnl.specs.FromC.{returned}
 
-number-few : (x : Refusal) → numberOf x ≤ 33
+number-few : (x : Refusal) → numberOf x ≤ 39
 number-few NoMark = omega arith
 number-few Version = omega arith
 number-few Cut = omega arith
@@ -31,17 +31,21 @@ number-few WrongSize = omega arith
 number-few Volume = omega arith
 number-few OtherQuote = omega arith
 number-few Beyond = omega arith
+number-few OverLimit = omega arith
+number-few OutOfPlace = omega arith
+number-few NotRemovable = omega arith
+number-few Ended = omega arith
 
-negated : (n : ℕ) → n ≤ 33 → toZ w32 0 -ℤ toZ w32 n ≡ negℤ (pos n)
+negated : (n : ℕ) → n ≤ 39 → toZ w32 0 -ℤ toZ w32 n ≡ negℤ (pos n)
 negated n h = rw (toZ-pos w32 {n = n} (omega arith)) (+ℤ-idl (negℤ (pos n)))
 
-negative-fits : (n : ℕ) → n ≤ 33 → SFits w32 (negℤ (pos n))
+negative-fits : (n : ℕ) → n ≤ 39 → SFits w32 (negℤ (pos n))
 negative-fits zero h = record { sfits = omega arith }
 negative-fits (suc n) h = record { sfits = omega arith }
 
 -- a refusal's number: it fits, its negative fits, and that is what is read back
 module _ (x : Refusal) (n : ℕ) (e : n ≡ numberOf x) where
-  few : n ≤ 33
+  few : n ≤ 39
   few = rw e (number-few x)
 
   pub number-fits : SFits w32 (pos n)

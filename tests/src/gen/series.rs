@@ -182,7 +182,7 @@ fn forged_quote(random: &mut Random, quote: Quote) -> Quote {
         5 => forged.pipes = (quote.pipes ^ 1) & 0xFFFF,
         6 => forged.terms = quote.terms.map(|(case, count)| (case % 7 + 1, count)),
         7 => forged.terms = quote.terms.map(|(case, count)| (case, count ^ 1)),
-        _ => forged.terms = Err(random.pick(&[5, 6, 7, 9, 21, 23, 31, 32])),
+        _ => forged.terms = Err(random.pick(&[5, 6, 7, 9, 21, 23, 31, 32, 36])),
     }
     forged
 }

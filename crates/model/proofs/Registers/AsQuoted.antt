@@ -14,16 +14,16 @@ use Rattle.model.specs.Notions.{Admissible, LandedAs}
 use Rattle.model.proofs.Walks.Degree.{Proper}
 use Rattle.model.proofs.Walks.Ring.{ring-decides}
 use Rattle.model.proofs.Labels.Closings.{case-closing, closing-case}
-use Rattle.model.proofs.Registers.Accepted.{accepted, no-refusal}
+use Rattle.model.proofs.Registers.Accepted.{accepted-within, no-refusal}
 use Rattle.model.proofs.Registers.Quotes.{termsFor, terms-by, commit-lands, commit-same, land-edge-by, not-refused, unlessRefused}
 
 -- ---- the terms of a quote
 
-pub quoted-some : (r : Register) (e : Edge) (x : ℕ) → edgeRefusal r e ≡ some x → (quote r e) .terms ≡ declines x
-quoted-some r e x h = terms-by r e ∙ ap (termsFor r e) h
+pub quoted-some : (limit : ℕ) (r : Register) (e : Edge) (x : ℕ) → edgeRefusal limit r e ≡ some x → (quote limit r e) .terms ≡ declines x
+quoted-some limit r e x h = terms-by limit r e ∙ ap (termsFor r e) h
 
-pub quoted-none : (r : Register) (e : Edge) → edgeRefusal r e ≡ none → (quote r e) .terms ≡ offers (caseNumber (caseAt (r .edges) e)) (relabelsOf r e)
-quoted-none r e h = terms-by r e ∙ ap (termsFor r e) h
+pub quoted-none : (limit : ℕ) (r : Register) (e : Edge) → edgeRefusal limit r e ≡ none → (quote limit r e) .terms ≡ offers (caseNumber (caseAt (r .edges) e)) (relabelsOf r e)
+quoted-none limit r e h = terms-by limit r e ∙ ap (termsFor r e) h
 
 not-offered : (x c n : ℕ) → declines x ≡ offers c n → ⊥
 not-offered x c n h = let z : _≡_ {A = ℕ} 0 1 = cc in omega arith
@@ -33,19 +33,19 @@ declines-is x y h = cc
 
 -- ---- what is offered lands, what is declined is refused so
 
-pub quoted-lands : (r : Register) (q : Quote) (c n : ℕ) → q ≡ quote r (q .asked) → q .terms ≡ offers c n → commit r q ≡ landed (withEdge r (q .asked))
-quoted-lands r q c n h t =
-    commit-same r q h ∙ land-edge-by r (q .asked) ∙ go (edgeRefusal r (q .asked)) refl (sym (terms-by r (q .asked)) ∙ sym (ap (λ (p : Quote). p .terms) h) ∙ t)
+pub quoted-lands : (limit : ℕ) (r : Register) (q : Quote) (c n : ℕ) → q ≡ quote limit r (q .asked) → q .terms ≡ offers c n → commit limit r q ≡ landed (withEdge r (q .asked))
+quoted-lands limit r q c n h t =
+    commit-same limit r q h ∙ land-edge-by limit r (q .asked) ∙ go (edgeRefusal limit r (q .asked)) refl (sym (terms-by limit r (q .asked)) ∙ sym (ap (λ (p : Quote). p .terms) h) ∙ t)
   where
-    go : (o : Option ℕ) → edgeRefusal r (q .asked) ≡ o → termsFor r (q .asked) o ≡ offers c n → unlessRefused r (q .asked) o ≡ landed (withEdge r (q .asked))
+    go : (o : Option ℕ) → edgeRefusal limit r (q .asked) ≡ o → termsFor r (q .asked) o ≡ offers c n → unlessRefused r (q .asked) o ≡ landed (withEdge r (q .asked))
     go (some x) e k = absurd (not-offered x c n k)
     go none e k = refl
 
-pub quoted-declines : (r : Register) (q : Quote) (x : ℕ) → q ≡ quote r (q .asked) → q .terms ≡ declines x → commit r q ≡ refused x
-quoted-declines r q x h t =
-    commit-same r q h ∙ land-edge-by r (q .asked) ∙ go (edgeRefusal r (q .asked)) refl (sym (terms-by r (q .asked)) ∙ sym (ap (λ (p : Quote). p .terms) h) ∙ t)
+pub quoted-declines : (limit : ℕ) (r : Register) (q : Quote) (x : ℕ) → q ≡ quote limit r (q .asked) → q .terms ≡ declines x → commit limit r q ≡ refused x
+quoted-declines limit r q x h t =
+    commit-same limit r q h ∙ land-edge-by limit r (q .asked) ∙ go (edgeRefusal limit r (q .asked)) refl (sym (terms-by limit r (q .asked)) ∙ sym (ap (λ (p : Quote). p .terms) h) ∙ t)
   where
-    go : (o : Option ℕ) → edgeRefusal r (q .asked) ≡ o → termsFor r (q .asked) o ≡ declines x → unlessRefused r (q .asked) o ≡ refused x
+    go : (o : Option ℕ) → edgeRefusal limit r (q .asked) ≡ o → termsFor r (q .asked) o ≡ declines x → unlessRefused r (q .asked) o ≡ refused x
     go (some y) e k = ap refused (declines-is y x k)
     go none e k = absurd (not-offered x _ _ (sym k))
 
@@ -67,8 +67,8 @@ closes-seven c h = rw h
 
 -- ---- an edge that is committed
 
-module _ (r : Register) (pr : Proper (r .edges)) where
-  as-made : (e : Edge) → Admissible r e → edgeRefusal r e ≡ none → LandedAs r (quote r e) (withEdge r e)
+module _ (limit : ℕ) (r : Register) (pr : Proper (r .edges)) where
+  as-made : (e : Edge) → Admissible r e → edgeRefusal limit r e ≡ none → LandedAs r (quote limit r e) (withEdge r e)
   unfolding quote withEdge relabelsOf marksOf labelEdge
   as-made e a h =
       let decides : edgeOnRing (r .edges ++ (e ∷ [])) (length (r .edges)) ≡ closesRing (r .edges) (e .first) (e .second) = ring-decides (r .edges) e pr (a .lawful .differ) in
@@ -78,7 +78,7 @@ module _ (r : Register) (pr : Proper (r .edges)) where
         at-edges = refl;
         by = caseAt (r .edges) e;
         count = relabelsOf r e;
-        terms-are = quoted-none r e h;
+        terms-are = quoted-none limit r e h;
         by-degrees = refl;
         labelled-by = refl;
         ring-closed = λ s. decides ∙ case-closing (r .edges) e (seven-closes _ s);
@@ -87,9 +87,9 @@ module _ (r : Register) (pr : Proper (r .edges)) where
         total-grows = refl;
       }
 
-  pub landed-as : (q : Quote) (r′ : Register) → commit r q ≡ landed r′ → LandedAs r q r′
+  pub landed-as : (q : Quote) (r′ : Register) → commit limit r q ≡ landed r′ → LandedAs r q r′
   landed-as q r′ h =
-      let k = commit-lands r q r′ h in
-      let a = accepted r (q .asked) r′ (k .1) in
+      let k = commit-lands limit r q r′ h in
+      let a = accepted-within limit r (q .asked) r′ (k .1) in
       subst (λ (s : Register). LandedAs r q s) (a .1)
-      (subst (λ (p : Quote). LandedAs r p (withEdge r (q .asked))) (sym (k .0)) (as-made (q .asked) (a .0) (no-refusal r (q .asked) (a .0))))
+      (subst (λ (p : Quote). LandedAs r p (withEdge r (q .asked))) (sym (k .0)) (as-made (q .asked) (a .0 .0) (no-refusal limit r (q .asked) (a .0 .0) (a .0 .1))))

@@ -10,9 +10,9 @@ use lib.ListN.{length, drop, length-drop, length-append}
 use lib.Dec.{eqb, ltb}
 use Rattle.model.specs.Basics.{if_then_else_, maxEdges, maxVertices}
 use Rattle.model.specs.Graph.{Edge}
-use Rattle.model.specs.Register.{Landed, Register, empty, landEdge, landVertex, landed, refused, withEdge, withVertex}
+use Rattle.model.specs.Register.{Landed, Register, empty, landEdgeWithin, landVertex, landed, refused, withEdge, withVertex}
 use Rattle.model.specs.Format.{whole, stopped, Record, vertex, edge, bad, u16At, u32At, volumeIn, edgeBody, firstRecord, landRecords, headerRefusal, versionOf, landList, growList}
-use Rattle.model.proofs.Registers.Accepted.{accepted, added}
+use Rattle.model.proofs.Registers.Accepted.{accepted-within, added}
 
 record Few (r : Register) : Type 0 where
   pub vertices-few : r .vertices ≤ maxVertices
@@ -58,29 +58,29 @@ few-vertex r r′ f h =
     let a = added r r′ h in
     subst (λ (s : Register). Few s × (spent s ≡ spent r + 1)) (a .1) (record { vertices-few = omega (arith, a .0); edges-few = f .edges-few }, omega arith)
 
-few-edge : (r : Register) (e : Edge) (r′ : Register) → Few r → landEdge r e ≡ landed r′ → Few r′ × (spent r′ ≡ spent r + 13)
+few-edge : (limit : ℕ) (r : Register) (e : Edge) (r′ : Register) → Few r → landEdgeWithin limit r e ≡ landed r′ → Few r′ × (spent r′ ≡ spent r + 13)
 unfolding withEdge
-few-edge r e r′ f h =
-    let a = accepted r e r′ h in
+few-edge limit r e r′ f h =
+    let a = accepted-within limit r e r′ h in
     let n : length (r .edges ++ (e ∷ [])) ≡ length (r .edges) + 1 = length-append (r .edges) (e ∷ []) in
-    subst (λ (s : Register). Few s × (spent s ≡ spent r + 13)) (a .1) (record { vertices-few = f .vertices-few; edges-few = omega (arith, n, a .0 .room) }, omega (arith, n))
+    subst (λ (s : Register). Few s × (spent s ≡ spent r + 13)) (a .1) (record { vertices-few = f .vertices-few; edges-few = omega (arith, n, a .0 .0 .room) }, omega (arith, n))
 
 not-whole : (k x : ℕ) → stopped k x ≢ whole
 not-whole k x e = let z : _≡_ {A = ℕ} 0 1 = cc in omega arith
 
-records-short : (version n k : ℕ) (r : Register) (bs : List ℕ) → Few r → length bs ≤ n → (landRecords version n k r bs) .stop ≡ whole
+records-short : (limit version n k : ℕ) (r : Register) (bs : List ℕ) → Few r → length bs ≤ n → (landRecords limit version n k r bs) .stop ≡ whole
     → length bs + spent r ≤ maxVertices + 13 * maxEdges
 unfolding landRecords
-records-short version zero k r bs f l w = omega (arith, f .vertices-few, f .edges-few)
-records-short version (suc n) k r [] f l w = omega (arith, f .vertices-few, f .edges-few)
-records-short version (suc n) k r (kind ∷ bs) f l w =
-    go (firstRecord version kind bs) refl (record-short version kind bs) (λ r′ rest g m v. records-short version n (k + 1) r′ rest g m v)
+records-short limit version zero k r bs f l w = omega (arith, f .vertices-few, f .edges-few)
+records-short limit version (suc n) k r [] f l w = omega (arith, f .vertices-few, f .edges-few)
+records-short limit version (suc n) k r (kind ∷ bs) f l w =
+    go (firstRecord version kind bs) refl (record-short version kind bs) (λ r′ rest g m v. records-short limit version n (k + 1) r′ rest g m v)
   where
     Goal : Type 0
     Goal = length (kind ∷ bs) + spent r ≤ maxVertices + 13 * maxEdges
 
     Rest : Type 0
-    Rest = (r′ : Register) (rest : List ℕ) → Few r′ → length rest ≤ n → (landRecords version n (k + 1) r′ rest) .stop ≡ whole
+    Rest = (r′ : Register) (rest : List ℕ) → Few r′ → length rest ≤ n → (landRecords limit version n (k + 1) r′ rest) .stop ≡ whole
         → length rest + spent r′ ≤ maxVertices + 13 * maxEdges
 
     on-vertex : (rest : List ℕ) → firstRecord version kind bs ≡ vertex rest → length bs ≡ length rest → (d : Landed) → landVertex r ≡ d → Rest → Goal
@@ -90,15 +90,15 @@ records-short version (suc n) k r (kind ∷ bs) f l w =
     on-vertex rest e s (refused x) h ih = absurd (not-whole k x (rw (e, h, landRecords) at w))
 
     on-edge : (c : Edge) (rest : List ℕ) → firstRecord version kind bs ≡ edge c rest → (length rest ≤ length bs) × (length bs ≤ 12 + length rest)
-        → (d : Landed) → landEdge r c ≡ d → Rest → Goal
+        → (d : Landed) → landEdgeWithin limit r c ≡ d → Rest → Goal
     on-edge c rest e s (landed r′) h ih =
-        let g = few-edge r c r′ f h in
+        let g = few-edge limit r c r′ f h in
         omega (arith, s .1, g .1, ih r′ rest (g .0) (omega (arith, s .0)) (rw (e, h, landRecords) at w))
     on-edge c rest e s (refused x) h ih = absurd (not-whole k x (rw (e, h, landRecords) at w))
 
     go : (d : Record) → firstRecord version kind bs ≡ d → Shorter d (length bs) → Rest → Goal
     go (vertex rest) e s ih = on-vertex rest e s (landVertex r) refl ih
-    go (edge c rest) e s ih = on-edge c rest e s (landEdge r c) refl ih
+    go (edge c rest) e s ih = on-edge c rest e s (landEdgeWithin limit r c) refl ih
     go (bad x) e s ih = absurd (not-whole k x (rw (e, landRecords) at w))
 
 pub whole-short : (bs : List ℕ) → (growList bs) .stop ≡ whole → length bs ≤ 5 + (maxVertices + 13 * maxEdges)
@@ -109,5 +109,5 @@ whole-short bs w = go (headerRefusal bs) refl
     go (some x) e = absurd (not-whole 0 x (rw (e, landList) at w))
     go none e =
         let d = length-drop 5 bs in
-        let s = records-short (versionOf bs) (length bs) 0 empty (drop 5 bs) (record { vertices-few = omega arith; edges-few = omega arith }) (omega (arith, d)) (rw (e, landList) at w) in
+        let s = records-short maxEdges (versionOf bs) (length bs) 0 empty (drop 5 bs) (record { vertices-few = omega arith; edges-few = omega arith }) (omega (arith, d)) (rw (e, landList) at w) in
         omega (arith, d, s)

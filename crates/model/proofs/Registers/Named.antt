@@ -101,12 +101,13 @@ all-land (e ∷ es) r f h =
 
 -- ---- and where one names a vertex beyond, none of the others holds it back from refusal 5
 
-five : (r : Register) (e : Edge) → Among (r .vertices) e ≡ false → edgeRefusal r e ≡ some 5
+five : (r : Register) (e : Edge) → Among (r .vertices) e ≡ false → edgeRefusal maxEdges r e ≡ some 5
 unfolding edgeRefusal
 five r e h = rw h
 
 not-among : (r : Register) (e : Edge) → Among (r .vertices) e ≡ false → landEdge r e ≡ refused 5
-not-among r e h = land-edge-by r e ∙ ap (unlessRefused r e) (five r e h)
+unfolding landEdge
+not-among r e h = land-edge-by maxEdges r e ∙ ap (unlessRefused r e) (five r e h)
 
 beyond-stops : (m : ℕ) (es : List Edge) (r : Register) → AllLawful m es → length (r .edges) + length es ≤ maxEdges → anyBeyond (r .vertices) es ≡ true
     → landEdges es r ≡ refused 5

@@ -14,7 +14,7 @@ use Rattle.model.specs.Basics.{if_then_else_, maxEdges, maxLength, maxVo
 use Rattle.model.specs.Graph.{Edge}
 use Rattle.model.specs.Cases.{caseAt}
 use Rattle.model.specs.Labels.{relabelCount}
-use Rattle.model.specs.Register.{Landed, Quote, Register, Terms, caseNumber, commit, commitMade, declines, edgeRefusal, eqEdge, eqQuote, eqTerms, landEdge, landed, offers, quote, refused, relabelsOf, withEdge}
+use Rattle.model.specs.Register.{Landed, Quote, Register, Terms, caseNumber, commit, commitMade, declines, edgeRefusal, eqEdge, eqQuote, eqTerms, landEdgeWithin, landed, offers, quote, refused, relabelsOf, withEdge}
 use Rattle.model.proofs.Basics.Booleans.{and-true, if-either, not-both, true-or-false}
 
 -- ---- what is equal passes the test
@@ -88,9 +88,9 @@ abbrev pub termsFor : Register → Edge → Option ℕ → Terms
 termsFor r e (some x) = declines x
 termsFor r e none = offers (caseNumber (caseAt (r .edges) e)) (relabelsOf r e)
 
-pub terms-by : (r : Register) (e : Edge) → (quote r e) .terms ≡ termsFor r e (edgeRefusal r e)
+pub terms-by : (limit : ℕ) (r : Register) (e : Edge) → (quote limit r e) .terms ≡ termsFor r e (edgeRefusal limit r e)
 unfolding quote
-terms-by r e = go (edgeRefusal r e)
+terms-by limit r e = go (edgeRefusal limit r e)
   where
     go : (o : Option ℕ) → elim o [ some x ↦ declines x | none ↦ offers (caseNumber (caseAt (r .edges) e)) (relabelsOf r e) ] ≡ termsFor r e o
     go (some x) = refl
@@ -98,9 +98,9 @@ terms-by r e = go (edgeRefusal r e)
 
 -- ---- a commit
 
-same-now : (r : Register) (e : Edge) → eqQuote (quote r e) (quote r ((quote r e) .asked)) ≡ true
+same-now : (limit : ℕ) (r : Register) (e : Edge) → eqQuote (quote limit r e) (quote limit r ((quote limit r e) .asked)) ≡ true
 unfolding quote
-same-now r e = quote-same (quote r e)
+same-now limit r e = quote-same (quote limit r e)
 
 -- what a list's edge comes to
 abbrev pub unlessRefused : Register → Edge → Option ℕ → Landed
@@ -108,11 +108,11 @@ unlessRefused r e (some x) = refused x
 unlessRefused r e none = landed (withEdge r e)
 
 -- "go through the pair for each pipe"
-pub through-pair : (r : Register) (e : Edge) → commit r (quote r e) ≡ landEdge r e
-unfolding landEdge commit
-through-pair r e = go (eqQuote (quote r e) (quote r ((quote r e) .asked))) (same-now r e)
+pub through-pair : (limit : ℕ) (r : Register) (e : Edge) → commit limit r (quote limit r e) ≡ landEdgeWithin limit r e
+unfolding landEdgeWithin commit
+through-pair limit r e = go (eqQuote (quote limit r e) (quote limit r ((quote limit r e) .asked))) (same-now limit r e)
   where
-    go : (b : Bool) → b ≡ true → (if not b then refused 32 else commitMade r (quote r e)) ≡ commitMade r (quote r e)
+    go : (b : Bool) → b ≡ true → (if not b then refused 32 else commitMade r (quote limit r e)) ≡ commitMade r (quote limit r e)
     go true h = refl
     go false h = absurd (let z : _≡_ {A = ℕ} 0 1 = cc in omega arith)
 
@@ -126,25 +126,25 @@ unfolding commitMade
 made-by r q (offers c n) h = rw (h, commitMade)
 made-by r q (declines x) h = rw (h, commitMade)
 
-pub land-edge-by : (r : Register) (e : Edge) → landEdge r e ≡ unlessRefused r e (edgeRefusal r e)
-unfolding landEdge quote
-land-edge-by r e = made-by r (quote r e) (termsFor r e (edgeRefusal r e)) (terms-by r e) ∙ go (edgeRefusal r e)
+pub land-edge-by : (limit : ℕ) (r : Register) (e : Edge) → landEdgeWithin limit r e ≡ unlessRefused r e (edgeRefusal limit r e)
+unfolding landEdgeWithin quote
+land-edge-by limit r e = made-by r (quote limit r e) (termsFor r e (edgeRefusal limit r e)) (terms-by limit r e) ∙ go (edgeRefusal limit r e)
   where
     go : (o : Option ℕ) → byTerms r e (termsFor r e o) ≡ unlessRefused r e o
     go (some x) = refl
     go none = refl
 
 -- any quote that is one made now: equal but older too
-pub commit-same : (r : Register) (q : Quote) → q ≡ quote r (q .asked) → commit r q ≡ landEdge r (q .asked)
-commit-same r q h = ap (λ (p : Quote). commit r p) h ∙ through-pair r (q .asked)
+pub commit-same : (limit : ℕ) (r : Register) (q : Quote) → q ≡ quote limit r (q .asked) → commit limit r q ≡ landEdgeWithin limit r (q .asked)
+commit-same limit r q h = ap (λ (p : Quote). commit limit r p) h ∙ through-pair limit r (q .asked)
 
 -- any other
-pub commit-differs : (r : Register) (q : Quote) → q ≢ quote r (q .asked) → commit r q ≡ refused 32
+pub commit-differs : (limit : ℕ) (r : Register) (q : Quote) → q ≢ quote limit r (q .asked) → commit limit r q ≡ refused 32
 unfolding commit
-commit-differs r q h = go (eqQuote q (quote r (q .asked))) refl
+commit-differs limit r q h = go (eqQuote q (quote limit r (q .asked))) refl
   where
-    go : (b : Bool) → eqQuote q (quote r (q .asked)) ≡ b → commit r q ≡ refused 32
-    go true t = absurd (h (quote-one q (quote r (q .asked)) t))
+    go : (b : Bool) → eqQuote q (quote limit r (q .asked)) ≡ b → commit limit r q ≡ refused 32
+    go true t = absurd (h (quote-one q (quote limit r (q .asked)) t))
     go false t = rw t
 
 -- ---- refusals
@@ -159,29 +159,30 @@ abbrev Each : Option ℕ → Type 0
 Each (some x) = OfEdge x
 Each none = Unit {0}
 
-refusals-are : (r : Register) (e : Edge) → Each (edgeRefusal r e)
+refusals-are : (limit : ℕ) (r : Register) (e : Edge) → Each (edgeRefusal limit r e)
 unfolding edgeRefusal
-refusals-are r e =
+refusals-are limit r e =
     if-either Each (not (ltb (e .first) (r .vertices) && ltb (e .second) (r .vertices))) (some 5) _ (of 5 (λ z. omega arith) (λ z. omega arith) (λ z. omega arith))
     (if-either Each (eqb (e .first) (e .second)) (some 6) _ (of 6 (λ z. omega arith) (λ z. omega arith) (λ z. omega arith))
     (if-either Each (eqb (e .len) 0 || ltb maxLength (e .len)) (some 7) _ (of 7 (λ z. omega arith) (λ z. omega arith) (λ z. omega arith))
     (if-either Each (ltb maxVolume (e .volume)) (some 31) _ (of 31 (λ z. omega arith) (λ z. omega arith) (λ z. omega arith))
-    (if-either Each (leb maxEdges (length (r .edges))) (some 23) none (of 23 (λ z. omega arith) (λ z. omega arith) (λ z. omega arith)) tt))))
+    (if-either Each (leb maxEdges (length (r .edges))) (some 23) _ (of 23 (λ z. omega arith) (λ z. omega arith) (λ z. omega arith))
+    (if-either Each (leb limit (length (r .edges))) (some 36) none (of 36 (λ z. omega arith) (λ z. omega arith) (λ z. omega arith)) tt)))))
   where
     of : (x : ℕ) → x ≢ 21 → x ≢ 25 → x ≢ 32 → OfEdge x
     of x a b c = record { not-21 = a; not-25 = b; not-32 = c }
 
-pub refusal-is : (r : Register) (e : Edge) (x : ℕ) → edgeRefusal r e ≡ some x → OfEdge x
-refusal-is r e x h = subst Each h (refusals-are r e)
+pub refusal-is : (limit : ℕ) (r : Register) (e : Edge) (x : ℕ) → edgeRefusal limit r e ≡ some x → OfEdge x
+refusal-is limit r e x h = subst Each h (refusals-are limit r e)
 
 -- ---- what a commit that landed, or that was refused, says of its quote
 
 -- the quote is one made now, or not
-pub made-now : (r : Register) (q : Quote) → (q ≡ quote r (q .asked)) ⊎ (q ≢ quote r (q .asked))
-made-now r q = go (true-or-false (eqQuote q (quote r (q .asked))))
+pub made-now : (limit : ℕ) (r : Register) (q : Quote) → (q ≡ quote limit r (q .asked)) ⊎ (q ≢ quote limit r (q .asked))
+made-now limit r q = go (true-or-false (eqQuote q (quote limit r (q .asked))))
   where
-    go : (eqQuote q (quote r (q .asked)) ≡ true) ⊎ (eqQuote q (quote r (q .asked)) ≡ false) → (q ≡ quote r (q .asked)) ⊎ (q ≢ quote r (q .asked))
-    go (inl t) = inl (quote-one q (quote r (q .asked)) t)
+    go : (eqQuote q (quote limit r (q .asked)) ≡ true) ⊎ (eqQuote q (quote limit r (q .asked)) ≡ false) → (q ≡ quote limit r (q .asked)) ⊎ (q ≢ quote limit r (q .asked))
+    go (inl t) = inl (quote-one q (quote limit r (q .asked)) t)
     go (inr f) = inr (λ h. not-both _ (ap (eqQuote q) (sym h) ∙ quote-same q) f)
 
 -- what is refused does not land
@@ -191,35 +192,35 @@ not-refused n r e = let z : _≡_ {A = ℕ} 0 1 = cc in omega arith
 refused-is : (m n : ℕ) → refused m ≡ refused n → m ≡ n
 refused-is m n e = cc
 
-pub commit-lands : (r : Register) (q : Quote) (r′ : Register) → commit r q ≡ landed r′
-    → (q ≡ quote r (q .asked)) × (landEdge r (q .asked) ≡ landed r′)
-commit-lands r q r′ h = go (made-now r q)
+pub commit-lands : (limit : ℕ) (r : Register) (q : Quote) (r′ : Register) → commit limit r q ≡ landed r′
+    → (q ≡ quote limit r (q .asked)) × (landEdgeWithin limit r (q .asked) ≡ landed r′)
+commit-lands limit r q r′ h = go (made-now limit r q)
   where
-    go : (q ≡ quote r (q .asked)) ⊎ (q ≢ quote r (q .asked)) → (q ≡ quote r (q .asked)) × (landEdge r (q .asked) ≡ landed r′)
-    go (inl e) = (e, sym (commit-same r q e) ∙ h)
-    go (inr n) = absurd (not-refused 32 r′ (sym (commit-differs r q n) ∙ h))
+    go : (q ≡ quote limit r (q .asked)) ⊎ (q ≢ quote limit r (q .asked)) → (q ≡ quote limit r (q .asked)) × (landEdgeWithin limit r (q .asked) ≡ landed r′)
+    go (inl e) = (e, sym (commit-same limit r q e) ∙ h)
+    go (inr n) = absurd (not-refused 32 r′ (sym (commit-differs limit r q n) ∙ h))
 
 -- "32 the quote differs in any part from one made now": then, and only then
-pub commit-32 : (r : Register) (q : Quote) → commit r q ≡ refused 32 → q ≢ quote r (q .asked)
-commit-32 r q h e = go (edgeRefusal r (q .asked)) refl (sym (land-edge-by r (q .asked)) ∙ sym (commit-same r q e) ∙ h)
+pub commit-32 : (limit : ℕ) (r : Register) (q : Quote) → commit limit r q ≡ refused 32 → q ≢ quote limit r (q .asked)
+commit-32 limit r q h e = go (edgeRefusal limit r (q .asked)) refl (sym (land-edge-by limit r (q .asked)) ∙ sym (commit-same limit r q e) ∙ h)
   where
-    go : (o : Option ℕ) → edgeRefusal r (q .asked) ≡ o → unlessRefused r (q .asked) o ≡ refused 32 → ⊥
-    go (some x) f k = (refusal-is r (q .asked) x f) .not-32 (refused-is x 32 k)
+    go : (o : Option ℕ) → edgeRefusal limit r (q .asked) ≡ o → unlessRefused r (q .asked) o ≡ refused 32 → ⊥
+    go (some x) f k = (refusal-is limit r (q .asked) x f) .not-32 (refused-is x 32 k)
     go none f k = not-refused 32 _ (sym k)
 
 -- a commit's refusal is 32 or one of its edge
-pub commit-refused : (r : Register) (q : Quote) (x : ℕ) → commit r q ≡ refused x → (x ≢ 21) × (x ≢ 25)
-commit-refused r q x h = go (made-now r q)
+pub commit-refused : (limit : ℕ) (r : Register) (q : Quote) (x : ℕ) → commit limit r q ≡ refused x → (x ≢ 21) × (x ≢ 25)
+commit-refused limit r q x h = go (made-now limit r q)
   where
-    on : (o : Option ℕ) → edgeRefusal r (q .asked) ≡ o → unlessRefused r (q .asked) o ≡ refused x → (x ≢ 21) × (x ≢ 25)
+    on : (o : Option ℕ) → edgeRefusal limit r (q .asked) ≡ o → unlessRefused r (q .asked) o ≡ refused x → (x ≢ 21) × (x ≢ 25)
     on (some y) f k =
-        let own = refusal-is r (q .asked) y f in
+        let own = refusal-is limit r (q .asked) y f in
         let i : y ≡ x = refused-is y x k in
         (λ z. own .not-21 (i ∙ z), λ z. own .not-25 (i ∙ z))
     on none f k = absurd (not-refused x _ (sym k))
 
-    go : (q ≡ quote r (q .asked)) ⊎ (q ≢ quote r (q .asked)) → (x ≢ 21) × (x ≢ 25)
-    go (inl e) = on (edgeRefusal r (q .asked)) refl (sym (land-edge-by r (q .asked)) ∙ sym (commit-same r q e) ∙ h)
+    go : (q ≡ quote limit r (q .asked)) ⊎ (q ≢ quote limit r (q .asked)) → (x ≢ 21) × (x ≢ 25)
+    go (inl e) = on (edgeRefusal limit r (q .asked)) refl (sym (land-edge-by limit r (q .asked)) ∙ sym (commit-same limit r q e) ∙ h)
     go (inr n) =
-        let i : 32 ≡ x = refused-is 32 x (sym (commit-differs r q n) ∙ h) in
+        let i : 32 ≡ x = refused-is 32 x (sym (commit-differs limit r q n) ∙ h) in
         (λ z. omega arith, λ z. omega arith)

@@ -6,7 +6,7 @@ use mathlib.Core.List.{List, [], _∷_, _++_}
 use mathlib.Core.Option.{none}
 use lib.ListN.{length, drop, replicate, length-append, length-replicate}
 use borrow.Author.Tests.{le-leb, le-ltb}
-use Rattle.model.specs.Basics.{bytes2, bytes4, maxVertices}
+use Rattle.model.specs.Basics.{bytes2, bytes4, maxEdges, maxVertices}
 use Rattle.model.specs.Graph.{Edge}
 use Rattle.model.specs.Register.{Register, empty, landEdge, landVertex, landed, withVertex}
 use Rattle.model.specs.Format.{Read, byteAt, edge, edgeBytes, edgeRecords, firstRecord, growList, hasMark, header, versionOf, volumeIn, edgeBody, headerRefusal, landList, landRecords, listOf, u16At, u32At, whole, written}
@@ -68,37 +68,37 @@ read-edge n e bs few l =
 -- ---- reading vertices, then edges
 
 step-vertex : (n k : ℕ) (r s : Register) (bs : List ℕ) → landVertex r ≡ landed s
-    → landRecords 2 (suc n) k r (0x46 ∷ bs) ≡ landRecords 2 n (k + 1) s bs
+    → landRecords maxEdges 2 (suc n) k r (0x46 ∷ bs) ≡ landRecords maxEdges 2 n (k + 1) s bs
 unfolding landRecords firstRecord
 step-vertex n k r s bs h = rw (landRecords, h)
 
 step-edge : (n k : ℕ) (r s : Register) (e : Edge) (bs rest : List ℕ) → firstRecord 2 0x50 bs ≡ edge e rest → landEdge r e ≡ landed s
-    → landRecords 2 (suc n) k r (0x50 ∷ bs) ≡ landRecords 2 n (k + 1) s rest
-unfolding landRecords
+    → landRecords maxEdges 2 (suc n) k r (0x50 ∷ bs) ≡ landRecords maxEdges 2 n (k + 1) s rest
+unfolding landRecords landEdge
 step-edge n k r s e bs rest q h = rw (landRecords, q, h)
 
 read-vertices : (n m fuel k : ℕ) (bs : List ℕ) → m + n ≤ maxVertices
-    → landRecords 2 (n + fuel) k (onVertices m) (replicate n 0x46 ++ bs) ≡ landRecords 2 fuel (k + n) (onVertices (m + n)) bs
+    → landRecords maxEdges 2 (n + fuel) k (onVertices m) (replicate n 0x46 ++ bs) ≡ landRecords maxEdges 2 fuel (k + n) (onVertices (m + n)) bs
 unfolding onVertices withVertex
 read-vertices zero m fuel k bs h =
     let a : 0 + fuel ≡ fuel = omega arith in
     let b : k ≡ k + 0 = omega arith in
     let c : m ≡ m + 0 = omega arith in
-    λ i. landRecords 2 (a i) (b i) (onVertices (c i)) bs
+    λ i. landRecords maxEdges 2 (a i) (b i) (onVertices (c i)) bs
 read-vertices (suc n) m fuel k bs h =
     let a : suc n + fuel ≡ suc (n + fuel) = omega arith in
     let b : k + 1 + n ≡ k + suc n = omega arith in
     let c : m + 1 + n ≡ m + suc n = omega arith in
-    ap (λ (f : ℕ). landRecords 2 f k (onVertices m) (replicate (suc n) 0x46 ++ bs)) a
+    ap (λ (f : ℕ). landRecords maxEdges 2 f k (onVertices m) (replicate (suc n) 0x46 ++ bs)) a
     ∙ step-vertex (n + fuel) k (onVertices m) (onVertices (m + 1)) (replicate n 0x46 ++ bs) (vertex-lands (onVertices m) (omega arith))
     ∙ read-vertices n (m + 1) fuel (k + 1) bs (omega arith)
-    ∙ (λ i. landRecords 2 fuel (b i) (onVertices (c i)) bs)
+    ∙ (λ i. landRecords maxEdges 2 fuel (b i) (onVertices (c i)) bs)
 
 -- a list read to its end
 abbrev Whole : Register → Read
 Whole r = record { register = r; stop = whole }
 
-records-end : (fuel k : ℕ) (r : Register) → landRecords 2 fuel k r (edgeRecords []) ≡ Whole r
+records-end : (fuel k : ℕ) (r : Register) → landRecords maxEdges 2 fuel k r (edgeRecords []) ≡ Whole r
 unfolding landRecords edgeRecords
 records-end zero k r = refl
 records-end (suc fuel) k r = refl
@@ -108,14 +108,14 @@ unfolding landEdges
 none-left r s h = landed-is r s h
 
 read-edges : (es : List Edge) (fuel k : ℕ) (r s : Register) → r .vertices ≤ maxVertices → length es ≤ fuel → landEdges es r ≡ landed s
-    → landRecords 2 fuel k r (edgeRecords es) ≡ Whole s
+    → landRecords maxEdges 2 fuel k r (edgeRecords es) ≡ Whole s
 read-edges [] fuel k r s few l h = records-end fuel k r ∙ ap Whole (none-left r s h)
 read-edges (e ∷ es) zero k r s few l h = absurd (omega arith)
 read-edges (e ∷ es) (suc fuel) k r s few l h =
     let f = edges-first e es r s h in
     let (a, is) = accepted r e (f .between) (f .one) in
     let n : (f .between) .vertices ≡ r .vertices = ap (λ (u : Register). u .vertices) (sym is) ∙ with-edge-vertices r e in
-    ap (λ (bs : List ℕ). landRecords 2 (suc fuel) k r bs) (records-cons e es)
+    ap (λ (bs : List ℕ). landRecords maxEdges 2 (suc fuel) k r bs) (records-cons e es)
     ∙ step-edge fuel k r (f .between) e (body e (edgeRecords es)) (edgeRecords es) (read-edge (r .vertices) e (edgeRecords es) few (a .lawful)) (f .one)
     ∙ read-edges es fuel (k + 1) (f .between) s (omega (arith, n)) (omega arith) (f .others)
 
@@ -167,7 +167,7 @@ header-rest : (bs : List ℕ) → drop 5 (header ++ bs) ≡ bs
 unfolding header bytes2
 header-rest bs = refl
 
-read-list : (bs : List ℕ) → headerRefusal bs ≡ none → growList bs ≡ landRecords (versionOf bs) (length bs) 0 empty (drop 5 bs)
+read-list : (bs : List ℕ) → headerRefusal bs ≡ none → growList bs ≡ landRecords maxEdges (versionOf bs) (length bs) 0 empty (drop 5 bs)
 unfolding growList landList
 read-list bs h = rw (landList, h)
 
@@ -180,7 +180,7 @@ pub written-grows : (r : Register) → Reachable r → growList (written r) ≡ 
 unfolding written listOf
 written-grows r k =
     read-list (header ++ rest) (header-good rest)
-    ∙ (λ i. landRecords (header-version rest i) (fuel-is i) 0 (empty-is i) (header-rest rest i))
+    ∙ (λ i. landRecords maxEdges (header-version rest i) (fuel-is i) 0 (empty-is i) (header-rest rest i))
     ∙ read-vertices n 0 fuel 0 (edgeRecords es) (omega (arith, few))
     ∙ read-edges es fuel (0 + n) (onVertices (0 + n)) r few-on (omega arith) again
   where

@@ -6,15 +6,15 @@ use mathlib.Core.Bool.{Bool, true, false}
 use mathlib.Core.List.{List, [], _∷_, _++_, append-assoc, append-nil}
 use mathlib.Core.Option.{Option, none, some}
 use lib.ListN.{length, drop}
-use Rattle.model.specs.Basics.{if_then_else_}
+use Rattle.model.specs.Basics.{if_then_else_, maxEdges}
 use Rattle.model.specs.Graph.{Edge}
-use Rattle.model.specs.Register.{Landed, Quote, Register, commit, landEdge, landVertex, landed, refused, withEdge, withVertex}
+use Rattle.model.specs.Register.{Landed, Quote, Register, commit, landEdgeWithin, landVertex, landed, refused, withEdge, withVertex}
 use Rattle.model.specs.Format.{Record, bad, edge, firstRecord, headerRefusal, landList, landRecords, versionOf, vertex}
 use Rattle.model.specs.Tables.{fits}
 use Rattle.model.specs.Calls.{Call, asks, commitEffect, commits, effect, grows, lands, readEffect}
 use Rattle.model.specs.Series.{Made, after, afterCall}
 use Rattle.model.specs.Notions.{LandedSince}
-use Rattle.model.proofs.Registers.Accepted.{accepted, added}
+use Rattle.model.proofs.Registers.Accepted.{accepted-within, added}
 use Rattle.model.proofs.Registers.Quotes.{commit-lands}
 use Rattle.model.proofs.Series.Clearing.{IsGrow, NoneClears}
 
@@ -42,59 +42,59 @@ with-edge-since r e = record { vertices-stay = omega arith; later = e ∷ []; ed
 vertex-since : (r r′ : Register) → landVertex r ≡ landed r′ → LandedSince r r′
 vertex-since r r′ h = subst (LandedSince r) ((added r r′ h) .1) (with-vertex-since r)
 
-edge-since : (r : Register) (e : Edge) (r′ : Register) → landEdge r e ≡ landed r′ → LandedSince r r′
-edge-since r e r′ h = subst (LandedSince r) ((accepted r e r′ h) .1) (with-edge-since r e)
+edge-since : (limit : ℕ) (r : Register) (e : Edge) (r′ : Register) → landEdgeWithin limit r e ≡ landed r′ → LandedSince r r′
+edge-since limit r e r′ h = subst (LandedSince r) ((accepted-within limit r e r′ h) .1) (with-edge-since r e)
 
 -- ---- a list
 
-since-records : (version n k : ℕ) (r : Register) (bs : List ℕ) → LandedSince r ((landRecords version n k r bs) .register)
+since-records : (limit version n k : ℕ) (r : Register) (bs : List ℕ) → LandedSince r ((landRecords limit version n k r bs) .register)
 unfolding landRecords
-since-records version zero k r bs = since-none r
-since-records version (suc n) k r [] = since-none r
-since-records version (suc n) k r (kind ∷ bs) = go (firstRecord version kind bs) refl (λ r′ rest. since-records version n (k + 1) r′ rest)
+since-records limit version zero k r bs = since-none r
+since-records limit version (suc n) k r [] = since-none r
+since-records limit version (suc n) k r (kind ∷ bs) = go (firstRecord version kind bs) refl (λ r′ rest. since-records limit version n (k + 1) r′ rest)
   where
     Goal : Type 0
-    Goal = LandedSince r ((landRecords version (suc n) k r (kind ∷ bs)) .register)
+    Goal = LandedSince r ((landRecords limit version (suc n) k r (kind ∷ bs)) .register)
 
     Rest : Type 0
-    Rest = (r′ : Register) (rest : List ℕ) → LandedSince r′ ((landRecords version n (k + 1) r′ rest) .register)
+    Rest = (r′ : Register) (rest : List ℕ) → LandedSince r′ ((landRecords limit version n (k + 1) r′ rest) .register)
 
     on-vertex : (rest : List ℕ) → firstRecord version kind bs ≡ vertex rest → (l : Landed) → landVertex r ≡ l → Rest → Goal
     on-vertex rest e (landed r′) f ih = rw (e, f, landRecords) (since-both (vertex-since r r′ f) (ih r′ rest))
     on-vertex rest e (refused x) f ih = rw (e, f, landRecords) (since-none r)
 
-    on-edge : (c : Edge) (rest : List ℕ) → firstRecord version kind bs ≡ edge c rest → (l : Landed) → landEdge r c ≡ l → Rest → Goal
-    on-edge c rest e (landed r′) f ih = rw (e, f, landRecords) (since-both (edge-since r c r′ f) (ih r′ rest))
+    on-edge : (c : Edge) (rest : List ℕ) → firstRecord version kind bs ≡ edge c rest → (l : Landed) → landEdgeWithin limit r c ≡ l → Rest → Goal
+    on-edge c rest e (landed r′) f ih = rw (e, f, landRecords) (since-both (edge-since limit r c r′ f) (ih r′ rest))
     on-edge c rest e (refused x) f ih = rw (e, f, landRecords) (since-none r)
 
     go : (d : Record) → firstRecord version kind bs ≡ d → Rest → Goal
     go (vertex rest) e ih = on-vertex rest e (landVertex r) refl ih
-    go (edge c rest) e ih = on-edge c rest e (landEdge r c) refl ih
+    go (edge c rest) e ih = on-edge c rest e (landEdgeWithin limit r c) refl ih
     go (bad x) e ih = rw (e, landRecords) (since-none r)
 
-since-list : (r : Register) (bs : List ℕ) → LandedSince r ((landList r bs) .register)
+since-list : (limit : ℕ) (r : Register) (bs : List ℕ) → LandedSince r ((landList limit r bs) .register)
 unfolding landList
-since-list r bs = go (headerRefusal bs) refl
+since-list limit r bs = go (headerRefusal bs) refl
   where
-    go : (o : Option ℕ) → headerRefusal bs ≡ o → LandedSince r ((landList r bs) .register)
+    go : (o : Option ℕ) → headerRefusal bs ≡ o → LandedSince r ((landList limit r bs) .register)
     go (some x) e = rw (e, landList) (since-none r)
-    go none e = rw (e, landList) (since-records (versionOf bs) (length bs) 0 r (drop 5 bs))
+    go none e = rw (e, landList) (since-records limit (versionOf bs) (length bs) 0 r (drop 5 bs))
 
 -- ---- a call, and a series
 
-since-commit : (q : Quote) (r : Register) → LandedSince r ((commitEffect r (commit r q)) .leaves)
+since-commit : (limit : ℕ) (q : Quote) (r : Register) → LandedSince r ((commitEffect r (commit limit r q)) .leaves)
 unfolding commitEffect
-since-commit q r = go (commit r q) refl
+since-commit limit q r = go (commit limit r q) refl
   where
-    go : (l : Landed) → commit r q ≡ l → LandedSince r ((commitEffect r l) .leaves)
-    go (landed r′) h = edge-since r (q .asked) r′ ((commit-lands r q r′ h) .1)
+    go : (l : Landed) → commit limit r q ≡ l → LandedSince r ((commitEffect r l) .leaves)
+    go (landed r′) h = edge-since limit r (q .asked) r′ ((commit-lands limit r q r′ h) .1)
     go (refused x) h = since-none r
 
 since-effect : (c : Call) (r : Register) → (IsGrow c → ⊥) → LandedSince r ((effect c r) .leaves)
 unfolding effect readEffect
 since-effect (grows bs) r n = absurd (n tt)
-since-effect (lands bs) r n = since-list r bs
-since-effect (commits q) r n = since-commit q r
+since-effect (lands bs) r n = since-list maxEdges r bs
+since-effect (commits q) r n = since-commit maxEdges q r
 since-effect (asks q) r n = since-none r
 
 since-call : (m : Made) (r : Register) → (fits (m .scratch) ≡ true → IsGrow (m .call) → ⊥) → LandedSince r (afterCall m r)

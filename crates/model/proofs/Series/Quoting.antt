@@ -8,6 +8,7 @@ use mathlib.Core.Bool.{Bool, true, false}
 use mathlib.Core.List.{List, [], _∷_, _++_}
 use mathlib.Core.Option.{Option, none, some}
 use lib.ListN.{length, length-append}
+use Rattle.model.specs.Basics.{maxEdges}
 use Rattle.model.specs.Graph.{Edge}
 use Rattle.model.specs.Labels.{relabelCount}
 use Rattle.model.specs.Register.{Landed, Quote, Register, commit, declines, landEdge, landed, offers, quote, refused, withEdge}
@@ -19,6 +20,7 @@ use Rattle.model.proofs.Registers.Kept.{kept-held}
 use Rattle.model.proofs.Registers.OnlyHeld.{only-held}
 use Rattle.model.proofs.Registers.Founded.{Founded}
 use Rattle.model.proofs.Registers.Reachable.{founded, kept}
+use Rattle.model.proofs.Registers.Accepted.{within-lands}
 use Rattle.model.proofs.Registers.Quotes.{commit-lands}
 use Rattle.model.proofs.Registers.AsQuoted.{landed-as, quoted-declines, quoted-lands}
 use Rattle.model.proofs.Series.Calls.{outcomeOf, step-fits, step-refused}
@@ -62,7 +64,7 @@ unfolding withEdge
 edges-with r e = refl
 
 module _ (l : Lent) (q : Quote) where
-  commit-stored : (r : Register) → allFit l ≡ true → held (l .stored) ≡ some r → (m : Landed) → commit r q ≡ m
+  commit-stored : (r : Register) → allFit l ≡ true → held (l .stored) ≡ some r → (m : Landed) → commit maxEdges r q ≡ m
       → ((step (commits q) l) .lent .stored ≡ storedOf ((commitEffect r m) .leaves)) × ((step (commits q) l) .reply ≡ (commitEffect r m) .reply)
   unfolding outcomeOf effect
   commit-stored r a h m e =
@@ -71,7 +73,7 @@ module _ (l : Lent) (q : Quote) where
         ap (λ (x : Outcome). x .reply) o ∙ ap (λ (n : Landed). (commitEffect r n) .reply) e,
       )
 
-  lands-stored : (r r′ : Register) → allFit l ≡ true → held (l .stored) ≡ some r → commit r q ≡ landed r′
+  lands-stored : (r r′ : Register) → allFit l ≡ true → held (l .stored) ≡ some r → commit maxEdges r q ≡ landed r′
       → StoredAs (l .stored) ((step (commits q) l) .lent .stored) q
   unfolding commitEffect storedOf countsOf tablesOf
   lands-stored r r′ a h e =
@@ -98,13 +100,13 @@ module _ (l : Lent) (q : Quote) where
       was = (only-held (l .stored) r h) .stored-is
 
       k′ : Reachable r′
-      k′ = with-edge (q .asked) k ((commit-lands r q r′ e) .1)
+      k′ = with-edge (q .asked) k (within-lands maxEdges r (q .asked) r′ ((commit-lands maxEdges r q r′ e) .1))
 
       left : (step (commits q) l) .lent .stored ≡ storedOf r′
       left = (commit-stored r a h (landed r′) e) .0
 
       done : LandedAs r q r′
-      done = landed-as r ((founded r k) .proper) q r′ e
+      done = landed-as maxEdges r ((founded r k) .proper) q r′ e
 
       edges : r′ .edges ≡ r .edges ++ (q .asked ∷ [])
       edges = ap (λ (s : Register). s .edges) (done .leaves) ∙ edges-with r (q .asked)
@@ -117,12 +119,12 @@ module _ (l : Lent) (q : Quote) where
       Goal : Type 0
       Goal = StoredAs (l .stored) ((step (commits q) l) .lent .stored) q
 
-      on-commit : (r : Register) → allFit l ≡ true → held (l .stored) ≡ some r → (m : Landed) → commit r q ≡ m → Goal
+      on-commit : (r : Register) → allFit l ≡ true → held (l .stored) ≡ some r → (m : Landed) → commit maxEdges r q ≡ m → Goal
       on-commit r a h (landed r′) e = lands-stored r r′ a h e
       on-commit r a h (refused x) e = absurd (not-committed x (sym ((commit-stored r a h (refused x) e) .1) ∙ w))
 
       on-held : (o : Option Register) → held (l .stored) ≡ o → allFit l ≡ true → Goal
-      on-held (some r) h a = on-commit r a h (commit r q) refl
+      on-held (some r) h a = on-commit r a h (commit maxEdges r q) refl
       on-held none h a = absurd (not-committed 21 (sym (barred-21 (commits q) l a h) ∙ w))
 
       on-size : (b : Bool) → allFit l ≡ b → Goal
@@ -137,12 +139,12 @@ module _ (l : Lent) (q : Quote) where
       Goal : Type 0
       Goal = (step (commits q) l) .lent .stored ≡ l .stored
 
-      on-commit : (r : Register) → allFit l ≡ true → held (l .stored) ≡ some r → (m : Landed) → commit r q ≡ m → Goal
+      on-commit : (r : Register) → allFit l ≡ true → held (l .stored) ≡ some r → (m : Landed) → commit maxEdges r q ≡ m → Goal
       on-commit r a h (landed r′) e = absurd (w ((commit-stored r a h (landed r′) e) .1))
       on-commit r a h (refused x) e = (commit-stored r a h (refused x) e) .0 ∙ sym ((only-held (l .stored) r h) .stored-is)
 
       on-held : (o : Option Register) → held (l .stored) ≡ o → allFit l ≡ true → Goal
-      on-held (some r) h a = on-commit r a h (commit r q) refl
+      on-held (some r) h a = on-commit r a h (commit maxEdges r q) refl
       on-held none h a = barred-leaves (commits q) l a h
 
       on-size : (b : Bool) → allFit l ≡ b → Goal
@@ -170,15 +172,15 @@ module _ (l : Lent) (e : Edge) where
 
   module _ (q : Quote) (w : (step (quotes e) l) .reply ≡ quoted q) where
     -- a quote was made of a register
-    quote-of : (r : Register) × ((held (l .stored) ≡ some r) × (quote r e ≡ q))
+    quote-of : (r : Register) × ((held (l .stored) ≡ some r) × (quote maxEdges r e ≡ q))
     unfolding registerFor outcomeOf effect answer answers
     quote-of = on-size (allFit l) refl
       where
         Goal : Type 0
-        Goal = (r : Register) × ((held (l .stored) ≡ some r) × (quote r e ≡ q))
+        Goal = (r : Register) × ((held (l .stored) ≡ some r) × (quote maxEdges r e ≡ q))
 
         on-held : (o : Option Register) → held (l .stored) ≡ o → allFit l ≡ true → Goal
-        on-held (some r) h a = (r, (h, quoted-is (quote r e) q (sym (ap (λ (o : Outcome). o .reply) (step-fits (quotes e) l r a h)) ∙ w)))
+        on-held (some r) h a = (r, (h, quoted-is (quote maxEdges r e) q (sym (ap (λ (o : Outcome). o .reply) (step-fits (quotes e) l r a h)) ∙ w)))
         on-held none h a = absurd (not-quoted 21 q (sym (barred-21 (quotes e) l a h) ∙ w))
 
         on-size : (b : Bool) → allFit l ≡ b → Goal
@@ -189,8 +191,8 @@ module _ (l : Lent) (e : Edge) where
     unfolding quote
     asked-is = ap (λ (p : Quote). p .asked) (sym (quote-of .1 .1))
 
-    made : (r : Register) → quote r e ≡ q → q ≡ quote r (q .asked)
-    made r i = sym i ∙ ap (quote r) (sym asked-is)
+    made : (r : Register) → quote maxEdges r e ≡ q → q ≡ quote maxEdges r (q .asked)
+    made r i = sym i ∙ ap (quote maxEdges r) (sym asked-is)
 
     -- "does exactly that when a quote made now would be the same": with what the quote left, or the same again
     module _ (k : Lent) (same : k .stored ≡ l .stored) (fit : allFit k ≡ true) where
@@ -202,8 +204,8 @@ module _ (l : Lent) (e : Edge) where
 
       pub offered-lands : (c n : ℕ) → q .terms ≡ offers c n → (step (commits q) k) .reply ≡ committed
       unfolding commitEffect
-      offered-lands c n t = (commit-stored k q r fit h (landed (withEdge r (q .asked))) (quoted-lands r q c n (made r (quote-of .1 .1)) t)) .1
+      offered-lands c n t = (commit-stored k q r fit h (landed (withEdge r (q .asked))) (quoted-lands maxEdges r q c n (made r (quote-of .1 .1)) t)) .1
 
       pub declined-refuses : (x : ℕ) → q .terms ≡ declines x → (step (commits q) k) .reply ≡ refuses x
       unfolding commitEffect
-      declined-refuses x t = (commit-stored k q r fit h (refused x) (quoted-declines r q x (made r (quote-of .1 .1)) t)) .1
+      declined-refuses x t = (commit-stored k q r fit h (refused x) (quoted-declines maxEdges r q x (made r (quote-of .1 .1)) t)) .1

@@ -15,37 +15,37 @@ same-length-13 : tie.Need-same-length-13
 same-length-13 c =
     let at-land-list = c .before .before .before .before .before .before .before .before .before .before .before .before in
     let at-clear-if-fit = at-land-list .before .before .before .before .before .before .before .before .before .before .before .before .before .before .before .before .before .before .before .before .before .before .before .before .before .before .before .before .before .before .before .before .before .before .before .before in
-    at-land-list .land-list .kept .1 .1 .1 .1 .0 ∙ at-clear-if-fit .clear-if-fit .kept .0
+    at-land-list .land-list .kept .1 .1 .1 .1 .1 .0 ∙ at-clear-if-fit .clear-if-fit .kept .0
 
 same-length-14 : tie.Need-same-length-14
 same-length-14 c =
     let at-land-list = c .before .before .before .before .before .before .before .before .before .before .before .before in
     let at-clear-if-fit = at-land-list .before .before .before .before .before .before .before .before .before .before .before .before .before .before .before .before .before .before .before .before .before .before .before .before .before .before .before .before .before .before .before .before .before .before .before .before in
-    at-land-list .land-list .kept .1 .1 .1 .1 .1 .0 ∙ at-clear-if-fit .clear-if-fit .kept .1 .0
+    at-land-list .land-list .kept .1 .1 .1 .1 .1 .1 .0 ∙ at-clear-if-fit .clear-if-fit .kept .1 .0
 
 same-length-15 : tie.Need-same-length-15
 same-length-15 c =
     let at-land-list = c .before .before .before .before .before .before .before .before .before .before .before .before in
     let at-clear-if-fit = at-land-list .before .before .before .before .before .before .before .before .before .before .before .before .before .before .before .before .before .before .before .before .before .before .before .before .before .before .before .before .before .before .before .before .before .before .before .before in
-    at-land-list .land-list .kept .1 .1 .1 .1 .1 .1 .0 ∙ at-clear-if-fit .clear-if-fit .kept .1 .1 .0
+    at-land-list .land-list .kept .1 .1 .1 .1 .1 .1 .1 .0 ∙ at-clear-if-fit .clear-if-fit .kept .1 .1 .0
 
 same-length-16 : tie.Need-same-length-16
 same-length-16 c =
     let at-land-list = c .before .before .before .before .before .before .before .before .before .before .before .before in
     let at-clear-if-fit = at-land-list .before .before .before .before .before .before .before .before .before .before .before .before .before .before .before .before .before .before .before .before .before .before .before .before .before .before .before .before .before .before .before .before .before .before .before .before in
-    at-land-list .land-list .kept .1 .1 .1 .1 .1 .1 .1 .0 ∙ at-clear-if-fit .clear-if-fit .kept .1 .1 .1 .0
+    at-land-list .land-list .kept .1 .1 .1 .1 .1 .1 .1 .1 .0 ∙ at-clear-if-fit .clear-if-fit .kept .1 .1 .1 .0
 
 same-length-17 : tie.Need-same-length-17
 same-length-17 c =
     let at-land-list = c .before .before .before .before .before .before .before .before .before .before .before .before in
     let at-clear-if-fit = at-land-list .before .before .before .before .before .before .before .before .before .before .before .before .before .before .before .before .before .before .before .before .before .before .before .before .before .before .before .before .before .before .before .before .before .before .before .before in
-    at-land-list .land-list .kept .1 .1 .1 .1 .1 .1 .1 .1 .0 ∙ at-clear-if-fit .clear-if-fit .kept .1 .1 .1 .1 .0
+    at-land-list .land-list .kept .1 .1 .1 .1 .1 .1 .1 .1 .1 .0 ∙ at-clear-if-fit .clear-if-fit .kept .1 .1 .1 .1 .0
 
 same-length-18 : tie.Need-same-length-18
 same-length-18 c =
     let at-land-list = c .before .before .before .before .before .before .before .before .before .before .before .before in
     let at-clear-if-fit = at-land-list .before .before .before .before .before .before .before .before .before .before .before .before .before .before .before .before .before .before .before .before .before .before .before .before .before .before .before .before .before .before .before .before .before .before .before .before in
-    at-land-list .land-list .kept .1 .1 .1 .1 .1 .1 .1 .1 .1 .0 ∙ at-clear-if-fit .clear-if-fit .kept .1 .1 .1 .1 .1 .0
+    at-land-list .land-list .kept .1 .1 .1 .1 .1 .1 .1 .1 .1 .1 .0 ∙ at-clear-if-fit .clear-if-fit .kept .1 .1 .1 .1 .1 .0
 
 same-length-19 : tie.Need-same-length-19
 same-length-19 c =

@@ -38,7 +38,7 @@ same-length-4 c = search needs
 returns : tie.Need-returns
 returns c =
     let at-args = c .before .before .before .before .before .before .before .before .before .before .before .before .before in
-    commit-differs (tables _ _ _ (at-args .args .lengths .now) (at-args .args .volumes .now) _) _ _ _ _ _ (c .before .before .quote-edge .ensures) (c .before .same-quote .ensures) (not-true _ (c .if1 .taken))
+    commit-differs (tables _ _ _ (at-args .args .lengths .now) (at-args .args .volumes .now) _) _ _ _ _ _ _ (c .before .before .quote-edge .ensures) (c .before .same-quote .ensures) (not-true _ (c .if1 .taken))
 
 -- src/committing.rt:46:5
 land-edge-requires : tie.Need-land-edge-requires
@@ -75,7 +75,7 @@ returns-2 c =
     let at-if1 = at-land-edge .before .before .before .before .before .before .before in
     let at-same-quote = at-if1 .before in
     let at-quote-edge = at-same-quote .before in
-    commit-lands _ _ _ _ _ _ (at-quote-edge .quote-edge .ensures) (at-same-quote .same-quote .ensures) _ _ (not-false _ (at-if1 .if1 .left)) (at-land-edge .land-edge .ensures)
+    commit-lands _ _ _ _ _ _ _ (at-quote-edge .quote-edge .ensures) (at-same-quote .same-quote .ensures) _ _ (not-false _ (at-if1 .if1 .left)) (at-land-edge .land-edge .ensures)
 
 pub commit-quote-spec : {M : Type 1} → statement M
 commit-quote-spec =

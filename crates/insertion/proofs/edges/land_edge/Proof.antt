@@ -31,7 +31,7 @@ returns : tie.Need-returns
 returns c =
     let at-commit-edge = c .before .before .before .before .before .before .before .before .before .before .before .before in
     let at-prepare-edge = at-commit-edge .before .before .before .before .before .before .before in
-    pair-law _ _ _ _ (at-prepare-edge .prepare-edge .result .intent) _ (at-prepare-edge .prepare-edge .ensures .1) (at-commit-edge .commit-edge .ensures)
+    pair-law _ _ _ _ _ (at-prepare-edge .prepare-edge .result .intent) _ (at-prepare-edge .prepare-edge .ensures .1) (at-commit-edge .commit-edge .ensures)
 
 pub land-edge-spec : {M : Type 1} → statement M
 land-edge-spec =

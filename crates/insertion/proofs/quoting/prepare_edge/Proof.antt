@@ -29,14 +29,14 @@ returns c =
     let is = at-checked .checked .given .1 in
     let passes = at-check-edge .check-edge .ensures in
     let made = c .before .before .offer-edge .ensures in
-    (c .quote-with .ensures ∙ quote-checked _ _ _ _ _ _ _ _ is passes _ _ (made .0), intent-passed _ _ _ _ _ _ _ _ _ _ _ _ is passes (made .1))
+    (c .quote-with .ensures ∙ quote-checked _ _ _ _ _ _ _ _ _ is passes _ _ (made .0), intent-passed _ _ _ _ _ _ _ _ _ _ _ _ _ is passes (made .1))
 
 returns-2 : tie.Need-returns-2
 returns-2 c =
     let at-check-edge = c .before .before .before .before in
     let is = c .before .before .checked2 .given .1 in
     let fails = at-check-edge .check-edge .ensures in
-    (c .quote-with2 .ensures ∙ quote-checked _ _ _ _ _ _ _ _ is fails _ _ refl, intent-checked _ _ _ _ _ _ _ _ is fails _ refl)
+    (c .quote-with2 .ensures ∙ quote-checked _ _ _ _ _ _ _ _ _ is fails _ _ refl, intent-checked _ _ _ _ _ _ _ _ _ is fails _ refl)
 
 pub prepare-edge-spec : {M : Type 1} → statement M
 prepare-edge-spec =
