@@ -21,6 +21,8 @@ pub mod Kept
 pub mod Whole
 -- the last clearing of a house
 pub mod Clearing
+-- calls that do not clear a house land more behind what was there
+pub mod Onwards
 -- how often one vertex is relabelled since then
 pub mod Times
 -- 21 holds in no series; a call for one house changes no answer of another

@@ -24,12 +24,13 @@ use Rattle.nursery.proofs.Kept.{call-does}
 
 -- ---- a series
 
+-- eight houses that a nursery holds stay sound, and it holds what the calls alone settle
 pub record SeriesDoes (ms : List Made) (n : Nursery) (s : Site) : Type 0 where
   pub sound : Sound (after ms s)
   pub holds : Holds (series ms n) (after ms s)
   pub left : (h : ℕ) → h < houses → (ls : List Landing) → LeftBy ls (registerAt h s) → LeftBy (since h ms s ls) (registerAt h (after ms s))
 
-series-does : (ms : List Made) (n : Nursery) (s : Site) → Sound s → Holds n s → SeriesDoes ms n s
+pub series-does : (ms : List Made) (n : Nursery) (s : Site) → Sound s → Holds n s → SeriesDoes ms n s
 unfolding after series since
 series-does [] n s o k = record { sound = o; holds = k; left = λ h l ls b. b }
 series-does (m ∷ ms) n s o k =

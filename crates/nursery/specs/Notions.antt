@@ -1,17 +1,21 @@
 -- What the theorems on houses speak of beyond the definitions: a house that is left as it was, a removal and its report, replies that turn a
--- pipe away for the limit.
+-- pipe away for the limit, fetches from an opened sheet.
 use mathlib.Core.Path.{_≡_}
 use mathlib.Core.Logic.{_≢_, _⊎_}
 use Prim.Native.Nat.{ℕ, _+_, _<_}
-use mathlib.Core.List.{List, map, List·Memᴰ as Mem}
+use mathlib.Core.List.{List, [], _∷_, map, List·Memᴰ as Mem}
 use lib.ListN.{length, getD}
+use Rattle.model.specs.Basics.{upTo}
 use Rattle.model.specs.Register.{Register, Terms, landed, offers, declines}
 use Rattle.model.specs.Format.{Stop, whole, stopped}
-use Rattle.model.specs.Queries.{Reply, read, found, measured, listed, wrote, quoted, committed, opened, fetched, finished, reported, allotted, refuses}
-use Rattle.model.specs.Tables.{growFrom}
-use Rattle.model.specs.Notions.{Reachable, Rising, history}
+use Rattle.model.specs.Queries.{OpenSheet, Reply, read, found, measured, listed, wrote, quoted, committed, opened, fetched, finished, reported, allotted, refuses}
+use Rattle.model.specs.Tables.{Tables, growFrom}
+use Rattle.model.specs.Notions.{Reachable, Rising, history, nextSheet}
+use Rattle.nursery.specs.Licence.{houses}
 use Rattle.nursery.specs.Removal.{Change, without, landedAnew}
-use Rattle.nursery.specs.Nursery.{Nursery, storedIn, removalsIn}
+use Rattle.nursery.specs.Nursery.{Nursery, storedIn, removalsIn, registerIn}
+use Rattle.nursery.specs.Calls.{inHouse, fetches}
+use Rattle.nursery.specs.Series.{Made, Site, makes, series}
 
 -- ---- houses
 
@@ -70,3 +74,21 @@ pub record TakenOut (r : Register) (d : ℕ) (r′ : Register) (cs : List Change
   pub edges-are : r′ .edges ≡ without d (r .edges)
   pub one-less : length (r′ .edges) + 1 ≡ length (r .edges)
   pub told : Report (r .labels) (r′ .labels) cs
+
+-- ---- opened sheets
+
+-- the registers that a nursery holds, its counts of removals and its shares
+unfoldable pub siteOf : Nursery → Site
+siteOf n = record { registers = map (λ (h : ℕ). registerIn h n) (upTo houses); removals = n .removals; shares = n .shares }
+
+-- a fetch with the scratch lent to it, and before it any calls since the last one: for its own house, for others, and of shares
+pub record Fetch : Type 0 where
+  pub before : List Made
+  pub scratch : Tables
+
+-- what these fetches answer in house h, one after the other, each from the sheet that the last one gave
+unfoldable pub fetchedBy : ℕ → List Fetch → Nursery → OpenSheet → List Reply
+fetchedBy h [] n s = []
+fetchedBy h (f ∷ fs) n s =
+    let o = makes (record { call = inHouse h (fetches s); scratch = f .scratch }) (series (f .before) n) in
+    o .reply ∷ fetchedBy h fs (o .lent .nursery) (nextSheet s (o .reply))
