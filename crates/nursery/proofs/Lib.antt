@@ -29,6 +29,8 @@ pub mod Times
 pub mod InSeries
 -- calls over whatever is lent: what bars them, and that one house leaves the others
 pub mod Gate
+-- and the houses that are held where nothing bars them
+pub mod Holding
 -- the licence
 pub mod OnLicence
 -- removals

@@ -54,7 +54,8 @@ unfolding countsOf
 vertices-counted [] = refl
 vertices-counted (r ∷ rs) = ap (λ (ns : List ℕ). r .vertices ∷ ns) (vertices-counted rs)
 
-empty-counts : noCounts ≡ countsOf empty
+-- cleared counts are those of the empty register
+pub empty-counts : noCounts ≡ countsOf empty
 unfolding noCounts countsOf empty
 empty-counts = refl
 
