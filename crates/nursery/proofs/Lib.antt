@@ -39,6 +39,8 @@ pub mod Taking
 pub mod Quoting
 -- what `write` answers, grown
 pub mod Writing
+-- opened sheets, fetched line by line with calls between; and when they are ended
+pub mod Fetching
 -- theorems 12 and 13
 pub mod Theorems
 -- demand 3 of the six series

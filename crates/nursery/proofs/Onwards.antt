@@ -153,6 +153,11 @@ module _ (h : ℕ) (l : h < houses) (s : Site) (o : Sound s) where
   unfolding afterCall settles effect removeEffect houseAt
   removal-counts m t = rw (t .not-refused, t .call-is, removals-put h _ _ s here-too) (rw (t .takes))
 
+  -- a grow that is not refused takes it back to 0
+  pub grow-counts : (m : Made) → Grows h m s → removalsAt h (afterCall m s) ≡ 0
+  unfolding afterCall settles effect readEffect
+  grow-counts m g = rw (g .not-refused, g .call-is, removals-put h _ _ s here-too)
+
 -- ---- a series
 
 -- calls none of which clears house h
