@@ -21,7 +21,7 @@ use Rattle.model.proofs.Registers.Fetched.{fetch-ended, fetch-within, only-ende
 use Rattle.nursery.specs.Licence.{houses}
 use Rattle.nursery.specs.Nursery.{Nursery, houseIn, registerIn, removalsIn, storedIn}
 use Rattle.nursery.specs.Calls.{Lent, Outcome, asks, barred, effect, fetches, grownBy, inHouse, opens, ownOf, step}
-use Rattle.nursery.specs.Series.{Made, Site, after, afterCall, askedOf, houseAt, makes, registerAt, removalsAt, series}
+use Rattle.nursery.specs.Series.{Made, Site, after, afterCall, askedOf, houseAt, makes, registerAt, removalsAt, replyTo, series}
 use Rattle.nursery.specs.Notions.{Fetch, fetchedBy, siteOf}
 use Rattle.nursery.proofs.State.{Holds, Sound}
 use Rattle.nursery.proofs.Kept.{call-does}
@@ -221,6 +221,24 @@ sheets-of h l n s o k =
 
     grown-none : (ms : List Made) (m : Made) → Grows h m (after ms s) → removalsAt h (after (ms ++ (m ∷ [])) s) ≡ 0
     grown-none ms m g = rw (after-last ms m s) (grow-counts h l (after ms s) ((series-does ms n s o k) .sound) m g)
+
+-- what some fetches in house h answer, as the calls alone settle it
+unfoldable pub fetchesAt : ℕ → List Fetch → Site → OpenSheet → List Reply
+fetchesAt h [] s w = []
+fetchesAt h (f ∷ fs) s w =
+    let a = replyTo (record { call = inHouse h (fetches w); scratch = f .scratch }) (after (f .before) s) in
+    a ∷ fetchesAt h fs (after (f .before) s) (nextSheet w a)
+
+-- whatever is called between, and for any house number
+pub fetched-settled : (h : ℕ) (fs : List Fetch) (n : Nursery) (s : Site) → Sound s → Holds n s → (w : OpenSheet) → fetchedBy h fs n w ≡ fetchesAt h fs s w
+unfolding fetchedBy fetchesAt
+fetched-settled h [] n s o k w = refl
+fetched-settled h (f ∷ fs) n s o k w =
+    let d = series-does (f .before) n s o k in
+    let m : Made = record { call = inHouse h (fetches w); scratch = f .scratch } in
+    let a = replyTo m (after (f .before) s) in
+    by-answer h f fs n w a ((call-does (series (f .before) n) (after (f .before) s) (d .sound) (d .holds) m) .reply-is)
+    ∙ ap (λ (xs : List Reply). a ∷ xs) (fetched-settled h fs (series (f .before) n) (after (f .before) s) (d .sound) (d .holds) (nextSheet w a))
 
 -- ---- a sheet that was opened
 

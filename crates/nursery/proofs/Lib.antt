@@ -45,3 +45,5 @@ pub mod Fetching
 pub mod Theorems
 -- demand 3 of the six series
 pub mod Applied
+-- one house's sheet, fetched while pipes land there and elsewhere; after a grow; and ended by a removal
+pub mod Interleaved
