@@ -15,7 +15,7 @@ use Rattle.model.specs.Queries.{OpenSheet, Reply, fetched, finished, opened, re
 use Rattle.model.specs.Opened.{fetch, fetchLine, isBeyond, lineAt, movedOn, openedEdges, openedLines, openingOf}
 use Rattle.model.specs.Tables.{Tables, fits, held}
 use Rattle.model.specs.Calls.{Answer, Ask, answer, answers, fetching, opening}
-use Rattle.model.specs.Notions.{LandedSince, NamedIn, Reachable, linesThenDone, nextSheet}
+use Rattle.model.specs.Notions.{NamedIn, linesThenDone, nextSheet}
 use Rattle.model.proofs.Registers.Named.{lines-stay, opened-sheet, opened-within, still-within}
 use Rattle.model.proofs.Registers.Fetched.{fetch-ended, fetch-within, only-ended}
 use Rattle.nursery.specs.Licence.{houses}

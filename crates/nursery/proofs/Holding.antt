@@ -1,14 +1,14 @@
 -- Whatever is lent: where nothing bars a call that grows nothing, the nursery holds eight sound houses, those that are read from it.
 use mathlib.Core.Path.{_≡_, refl, sym, ap, _∙_, subst}
-use Prim.Native.Nat.{ℕ, _+_, _≤_, _<_}
+use Prim.Native.Nat.{ℕ, _≤_, _<_}
 use native.Mathlib.Omega.{arith}
 use mathlib.Core.Bool.{false}
-use mathlib.Core.Option.{Option, none, some}
+use mathlib.Core.Option.{none, some}
 use mathlib.Core.List.{List, map}
 use lib.ListN.{length, getD, length-map, List·getD-map}
 use lib.Seq.{ext-getD}
-use Rattle.model.specs.Basics.{countFrom, sum, upTo}
-use Rattle.model.specs.Register.{Register, empty}
+use Rattle.model.specs.Basics.{sum, upTo}
+use Rattle.model.specs.Register.{empty}
 use Rattle.model.specs.Tables.{Counts, Stored, countsOf, held, noCounts, storedOf}
 use Rattle.model.specs.Notions.{Reachable}
 use Rattle.model.proofs.Basics.Lists.{getD-counted, length-upTo}

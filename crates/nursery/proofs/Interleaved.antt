@@ -1,6 +1,6 @@
 -- Document 02, S-6 and S-11, of house 2: its sheet is opened at four pipes and fetched while the other two land, with calls for house 1 between;
 -- the same sheet after a grow; and ended by a removal, until a grow.
-use mathlib.Core.Path.{_≡_, refl, sym, ap, _∙_, subst}
+use mathlib.Core.Path.{_≡_, refl, sym, ap, _∙_}
 use mathlib.Core.Logic.{inl, inr}
 use Prim.Native.Nat.{ℕ, _<_}
 use native.Mathlib.Omega.{arith}
@@ -8,7 +8,7 @@ use mathlib.Core.Bool.{Bool, true, false, not, _&&_, true≢false}
 use mathlib.Core.List.{List, [], _∷_}
 use lib.ListN.{drop, length, replicate}
 use lib.Dec.{eqb}
-use borrow.Author.Tests.{eq-eqb, not-false, not-true}
+use borrow.Author.Tests.{eq-eqb, not-true}
 use Rattle.model.specs.Format.{listOf}
 use Rattle.model.specs.Queries.{OpenSheet, fetched, finished, opened, refuses}
 use Rattle.model.specs.Opened.{isBeyond, openedLines}
@@ -22,7 +22,7 @@ use Rattle.nursery.specs.Licence.{houses}
 use Rattle.nursery.specs.Removal.{Removed, keptWith, remove, removed}
 use Rattle.nursery.specs.Nursery.{noHouses}
 use Rattle.nursery.specs.Calls.{Call, HouseCall, asks, commits, finds, grows, inHouse, lands, opens, removes, setsShares}
-use Rattle.nursery.specs.Series.{Made, Site, admitted, after, afterCall, emptySite, houseAt, makes, registerAt, removalsAt, replyTo, series}
+use Rattle.nursery.specs.Series.{Made, Site, admitted, after, afterCall, emptySite, houseAt, makes, registerAt, removalsAt, series}
 use Rattle.nursery.specs.Notions.{Fetch, fetchedBy}
 use Rattle.nursery.proofs.Computing.{settling}
 use Rattle.nursery.proofs.Computed.{fifthQuote, here, line, made, opened as calling, unfit}
@@ -30,7 +30,7 @@ use Rattle.nursery.proofs.State.{holds-empty, sound-empty}
 use Rattle.nursery.proofs.Kept.{call-does}
 use Rattle.nursery.proofs.Whole.{from-start}
 use Rattle.nursery.proofs.Clearing.{Clears, NoneClears}
-use Rattle.nursery.proofs.Fetching.{NoneBetween, Sheets, fetched-settled, fetchesAt, sheets-of}
+use Rattle.nursery.proofs.Fetching.{NoneBetween, fetched-settled, fetchesAt, sheets-of}
 
 -- ---- whether a call clears a house, as a test
 
@@ -110,8 +110,8 @@ printing =
     behind [] ∷
     behind (here (commits fifthQuote) ∷ made (inHouse 1 (grows line)) ∷ []) ∷
     behind (
-      here (lands (listOf 0 (edge 3 6 900 ∷ []))) ∷ unfit (grows loop) ∷ here (removes 6 (replicate 9 0)) ∷ made (inHouse 1 (removes 0 (replicate 30 0))) ∷
-      here (finds 8195) ∷ []
+    here (lands (listOf 0 (edge 3 6 900 ∷ []))) ∷ unfit (grows loop) ∷ here (removes 6 (replicate 9 0)) ∷ made (inHouse 1 (removes 0 (replicate 30 0))) ∷
+    here (finds 8195) ∷ []
     ) ∷
     behind [] ∷ []
 

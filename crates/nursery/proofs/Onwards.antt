@@ -1,7 +1,7 @@
 -- Document 02, S-6 and S-11: a call that does not clear a house leaves the vertices and edges that were there, lands more behind them, and
 -- leaves the count of removals. Without a grow that count never falls, and a removal raises it.
 use mathlib.Core.Path.{_≡_, refl, sym, ap, _∙_, subst}
-use mathlib.Core.Logic.{_≢_, inl, inr}
+use mathlib.Core.Logic.{inl, inr}
 use Prim.Native.Nat.{ℕ, _+_, _≤_, _<_}
 use native.Mathlib.Omega.{arith}
 use native.Mathlib.Decide.{ℕ-discrete}
@@ -137,9 +137,10 @@ module _ (h : ℕ) (l : h < houses) (s : Site) (o : Sound s) where
       record { landed-since = g .since; count-stays = g .count }
     where
       still : (c : HouseCall) → m .call ≡ inHouse h c → admitted m s ≡ true → Quiet c (houseAt h s)
-      still c e f =
-          (λ bs q. quiet (inl (record { bytes = bs; call-is = e ∙ ap (inHouse h) q; not-refused = f })),
-          λ d slice r cs q w. quiet (inr (record { edge = d; slice = slice; call-is = e ∙ ap (inHouse h) q; not-refused = f; left = r; changes = cs; takes = w })))
+      still c e f = (
+        λ bs q. quiet (inl (record { bytes = bs; call-is = e ∙ ap (inHouse h) q; not-refused = f })),
+        λ d slice r cs q w. quiet (inr (record { edge = d; slice = slice; call-is = e ∙ ap (inHouse h) q; not-refused = f; left = r; changes = cs; takes = w })),
+      )
 
   -- a call that is no grow of house h never lowers its count of removals
   pub count-rises : (m : Made) → (Grows h m s → ⊥) → removalsAt h s ≤ removalsAt h (afterCall m s)
