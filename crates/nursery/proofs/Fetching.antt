@@ -17,7 +17,7 @@ use Rattle.model.specs.Tables.{Tables, fits, held}
 use Rattle.model.specs.Calls.{Answer, Ask, answer, answers, fetching, opening}
 use Rattle.model.specs.Notions.{NamedIn, linesThenDone, nextSheet}
 use Rattle.model.proofs.Registers.Named.{lines-stay, opened-sheet, opened-within, still-within}
-use Rattle.model.proofs.Registers.Fetched.{fetch-ended, fetch-within, only-ended}
+use Rattle.model.proofs.Registers.Fetched.{fetch-ended, fetch-within, moved-on, only-ended}
 use Rattle.nursery.specs.Licence.{houses}
 use Rattle.nursery.specs.Nursery.{Nursery, houseIn, registerIn, removalsIn, storedIn}
 use Rattle.nursery.specs.Calls.{Lent, Outcome, asks, barred, effect, fetches, grownBy, inHouse, opens, ownOf, step}
@@ -96,7 +96,7 @@ module _ (h : ℕ) (l : h < houses) where
   lines-left : (fs : List Fetch) (n : Nursery) (s : Site) → Sound s → Holds n s → (w : OpenSheet) → w .removals ≡ removalsAt h s
       → isBeyond (registerAt h s) w ≡ false → NoneBetween h fs s
       → (rows : List (List ℕ)) → drop (w .place) (openedLines (registerAt h s) w) ≡ rows → fetchedBy h fs n w ≡ linesThenDone (length fs) rows w
-  unfolding fetchedBy linesThenDone fetchLine nextSheet movedOn
+  unfolding fetchedBy linesThenDone fetchLine nextSheet
   lines-left [] n s o k w c b quiet rows e = refl
   lines-left (f ∷ fs) n s o k w c b quiet rows e =
       go rows e (λ w′ c′ b′ rows′ e′. lines-left fs n′ s′ (d .sound) (d .holds) w′ c′ b′ (quiet .1 .1) rows′ e′)
@@ -139,8 +139,8 @@ module _ (h : ℕ) (l : h < houses) where
           ∙ ap (λ (xs : List Reply). finished w ∷ xs) (ih w count still [] (ap (λ (ls : List (List ℕ)). drop (w .place) ls) same ∙ e))
       go (ns ∷ rows) e ih =
           let a = at-place (w .place) (openedLines (registerAt h s) w) ns rows e in
-          let left : drop (w .place + 1) (openedLines (registerAt h s′) (movedOn w)) ≡ rows =
-          ap (λ (i : ℕ). drop i (openedLines (registerAt h s′) (movedOn w))) (add-one (w .place))
+          let left : drop ((movedOn w) .place) (openedLines (registerAt h s′) (movedOn w)) ≡ rows =
+          ap (λ (i : ℕ). drop i (openedLines (registerAt h s′) (movedOn w))) (moved-on w ∙ add-one (w .place))
           ∙ ap (λ (ls : List (List ℕ)). drop (suc (w .place)) ls) (moved-lines (registerAt h s′) w ∙ same) ∙ a .behind in
           by-answer h f fs n w (fetched ns (movedOn w)) (answered (some ns) (a .line))
           ∙ ap (λ (xs : List Reply). fetched ns (movedOn w) ∷ xs) (ih (movedOn w) (moved-count w ∙ count) (moved-within (registerAt h s′) w ∙ still) rows left)

@@ -1,7 +1,7 @@
 -- Document 02, S-6: what a fetch from an opened sheet answers.
 use mathlib.Core.Path.{_≡_, refl, sym, ap, _∙_}
 use mathlib.Core.Logic.{_≢_}
-use Prim.Native.Nat.{ℕ, zero, suc, _≤_, _<_}
+use Prim.Native.Nat.{ℕ, zero, suc, _+_, _≤_, _<_}
 use native.Mathlib.Omega.{arith}
 use native.Mathlib.Decide.{decLt, ℕ-discrete}
 use native.Mathlib.Nat.{not-suc-le-zero}
@@ -53,6 +53,11 @@ lines-few r k s =
     omega (arith, rows-few es (upTo (length es)), length-upTo (length es), length-take (s .edges) (r .edges), (founded r k) .room)
 
 -- ---- a fetch
+
+-- "moves on by one", whatever its place
+pub moved-on : (s : OpenSheet) → (movedOn s) .place ≡ s .place + 1
+unfolding movedOn
+moved-on s = refl
 
 not-33 : (s : OpenSheet) (o : Option (List ℕ)) → fetchLine s o ≢ refuses 33
 unfolding fetchLine
