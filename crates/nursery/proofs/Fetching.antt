@@ -84,6 +84,12 @@ moved-lines : (r : Register) (w : OpenSheet) → openedLines r (movedOn w) ≡ o
 unfolding movedOn openedLines openedEdges
 moved-lines r w = refl
 
+-- whatever is lent: a fetch that 25, 21 and 37 do not bar answers for the house that it finds
+pub fetched-as : (h : ℕ) (w : OpenSheet) (l : Lent) → barred (inHouse h (fetches w)) l ≡ none
+    → (step (inHouse h (fetches w)) l) .reply ≡ fetch (removalsIn h (l .nursery)) (registerIn h (l .nursery)) w
+unfolding effect answer answers houseIn
+fetched-as h w l free = ap (λ (p : Outcome). p .reply) (step-effect h (fetches w) l _ free refl)
+
 -- ---- fetches, one after the other
 
 module _ (h : ℕ) (l : h < houses) where
@@ -183,6 +189,7 @@ after-last : (ms : List Made) (m : Made) (s : Site) → after (ms ++ (m ∷ []))
 unfolding after
 after-last ms m s = after-append ms (m ∷ []) s
 
+-- all that holds of any eight sound houses that a nursery holds: of those at the end of a series, and of those that an opening finds
 pub sheets-of : (h : ℕ) → h < houses → (n : Nursery) (s : Site) → Sound s → Holds n s → Sheets h n s
 sheets-of h l n s o k =
     record {
@@ -229,7 +236,7 @@ fetchesAt h (f ∷ fs) s w =
     let a = replyTo (record { call = inHouse h (fetches w); scratch = f .scratch }) (after (f .before) s) in
     a ∷ fetchesAt h fs (after (f .before) s) (nextSheet w a)
 
--- whatever is called between, and for any house number
+-- they answer so over the tables that the calls leave, whatever is called between, and for any house number
 pub fetched-settled : (h : ℕ) (fs : List Fetch) (n : Nursery) (s : Site) → Sound s → Holds n s → (w : OpenSheet) → fetchedBy h fs n w ≡ fetchesAt h fs s w
 unfolding fetchedBy fetchesAt
 fetched-settled h [] n s o k w = refl
@@ -256,8 +263,9 @@ pub record PrintsOpened (h : ℕ) (n : Nursery) (w : OpenSheet) : Type 0 where
   pub held-is : held (storedIn h n) ≡ some register
   pub opening-is : w ≡ openingOf (removalsIn h n) register
   pub line-by-line : (fs : List Fetch) → NoneBetween h fs (siteOf n) → fetchedBy h fs n w ≡ linesThenDone (length fs) (sheet register) w
-  pub then : Sheets h n (siteOf n)
+  pub afterwards : Sheets h n (siteOf n)
 
+-- whatever is lent: if a sheet is opened, it prints so; the heads and the counts of removals are eight, as their type has it
 pub prints-opened : (h : ℕ) (l : Lent) → length (l .nursery .heads) ≡ houses → length (l .nursery .removals) ≡ houses → (w : OpenSheet)
     → (step (inHouse h opens) l) .reply ≡ opened w → PrintsOpened h ((step (inHouse h opens) l) .lent .nursery) w
 unfolding ownOf grownBy effect answer answers houseIn openingOf
@@ -286,7 +294,7 @@ prints-opened h l heads counts w e =
               lines-left h i fs n (siteOf n) o k now (sym (removals-of n h))
               (subst (λ (x : Register). isBeyond x now ≡ false) is (opened-within (removalsIn h n) r (register-reachable h n)))
               quiet (sheet r) (subst (λ (x : Register). openedLines x now ≡ sheet r) is (opened-sheet (removalsIn h n) r));
-          then = sheets-of h i n (siteOf n) o k;
+          afterwards = sheets-of h i n (siteOf n) o k;
         }
 
     go : (x : Option ℕ) → barred (inHouse h opens) l ≡ x → PrintsOpened h n w

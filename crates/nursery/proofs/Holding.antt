@@ -21,12 +21,13 @@ use Rattle.nursery.specs.Notions.{siteOf}
 use Rattle.nursery.proofs.State.{Holds, Sound, edges-are, empty-counts}
 use Rattle.nursery.proofs.Gate.{Open, is-open, register-reachable}
 
--- the houses that are read are those that are held
+-- the houses that are read: the register of each ..
 pub register-of : (n : Nursery) (h : ℕ) → h < houses → registerAt h (siteOf n) ≡ registerIn h n
 unfolding registerAt siteOf upTo
 register-of n h l =
     getD-counted (λ (g : ℕ). registerIn g n) empty 0 houses h l ∙ ap (λ (g : ℕ). registerIn g n) (omega arith)
 
+-- .. and its count of removals
 pub removals-of : (n : Nursery) (h : ℕ) → removalsAt h (siteOf n) ≡ removalsIn h n
 unfolding removalsAt siteOf removalsIn
 removals-of n h = refl

@@ -81,7 +81,7 @@ pub record Onwards (h : ℕ) (s s′ : Site) : Type 0 where
   pub landed-since : LandedSince (registerAt h s) (registerAt h s′)
   pub count-stays : removalsAt h s′ ≡ removalsAt h s
 
-pub onwards-none : (h : ℕ) (s : Site) → Onwards h s s
+onwards-none : (h : ℕ) (s : Site) → Onwards h s s
 onwards-none h s = record { landed-since = since-none (registerAt h s); count-stays = refl }
 
 onwards-both : {h : ℕ} {q r s : Site} → Onwards h q r → Onwards h r s → Onwards h q s
