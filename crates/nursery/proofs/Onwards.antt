@@ -129,7 +129,7 @@ module _ (h : ℕ) (l : h < houses) (s : Site) (o : Sound s) where
         go true f c e = rw (f, e) (one c e f)
         go false f c e = rw f was
 
-  -- a call that does not clear house h: no grow of it, no removal from it, or a refused one
+  -- a call that does not clear house h, that is, no grow of it and no removal from it, but a refused one: it only lands more there
   pub call-onwards : (m : Made) → (Clears h m s → ⊥) → Onwards h s (afterCall m s)
   unfolding houseAt
   call-onwards m quiet =
@@ -161,7 +161,7 @@ module _ (h : ℕ) (l : h < houses) (s : Site) (o : Sound s) where
 
 -- ---- a series
 
--- calls none of which clears house h
+-- calls none of which clears house h only land more there, and leave its count of removals
 pub series-onwards : (h : ℕ) → h < houses → (ms : List Made) (n : Nursery) (s : Site) → Sound s → Holds n s → NoneClears h ms s → Onwards h s (after ms s)
 unfolding after
 series-onwards h l [] n s o k quiet = onwards-none h s
@@ -169,7 +169,7 @@ series-onwards h l (m ∷ ms) n s o k quiet =
     let d = call-does n s o k m in
     onwards-both (call-onwards h l s o m (quiet .0)) (series-onwards h l ms ((makes m n) .lent .nursery) (afterCall m s) (d .sound) (d .holds) (quiet .1))
 
--- none of the calls grows house h, or it is refused
+-- none of the calls grows house h, but refused ones
 abbrev pub NoneGrows : ℕ → List Made → Site → Type 0
 NoneGrows h [] s = Unit {0}
 NoneGrows h (m ∷ ms) s = (Grows h m s → ⊥) × NoneGrows h ms (afterCall m s)
