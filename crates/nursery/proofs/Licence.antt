@@ -27,14 +27,14 @@ sum-but (x ∷ xs) (suc h) l = omega (arith, sum-but xs h (omega arith))
 
 -- ---- the larger of share and edges
 
-reserve-at : (ss ns : List ℕ) (h : ℕ) → length ss ≡ length ns → h < length ss → getD (reserves ss ns) h 0 ≡ max (getD ss h 0) (getD ns h 0)
+pub reserve-at : (ss ns : List ℕ) (h : ℕ) → length ss ≡ length ns → h < length ss → getD (reserves ss ns) h 0 ≡ max (getD ss h 0) (getD ns h 0)
 unfolding reserves
 reserve-at [] ns h e l = absurd (omega arith)
 reserve-at (s ∷ ss) [] h e l = absurd (omega arith)
 reserve-at (s ∷ ss) (n ∷ ns) zero e l = refl
 reserve-at (s ∷ ss) (n ∷ ns) (suc h) e l = reserve-at ss ns h (omega arith) (omega arith)
 
-reserves-long : (ss ns : List ℕ) → length ss ≡ length ns → length (reserves ss ns) ≡ length ss
+pub reserves-long : (ss ns : List ℕ) → length ss ≡ length ns → length (reserves ss ns) ≡ length ss
 unfolding reserves
 reserves-long [] ns e = refl
 reserves-long (s ∷ ss) [] e = absurd (omega arith)
@@ -87,10 +87,10 @@ module _ (h : ℕ) (ss ns : List ℕ) (e : length ss ≡ length ns) (l : h < len
   abbrev others : ℕ
   others = sum (set (reserves ss ns) h 0)
 
-  whole : sum (reserves ss ns) ≡ max (getD ss h 0) (getD ns h 0) + others
+  pub whole : sum (reserves ss ns) ≡ max (getD ss h 0) (getD ns h 0) + others
   whole = rw (← reserve-at ss ns h e l) (sum-but (reserves ss ns) h (omega (arith, reserves-long ss ns e)))
 
-  put : (n : ℕ) → sum (reserves ss (set ns h n)) ≡ max (getD ss h 0) n + others
+  pub put : (n : ℕ) → sum (reserves ss (set ns h n)) ≡ max (getD ss h 0) n + others
   put n = rw (reserves-set ss ns h n e l) (sum-put (reserves ss ns) h (max (getD ss h 0) n) (omega (arith, reserves-long ss ns e)))
 
   -- the limit does not hang on the house's own edges

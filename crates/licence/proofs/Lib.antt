@@ -1,0 +1,5 @@
+pub mod HeadLaws
+pub mod ReserveLaws
+pub mod FitLaws
+pub mod OtherLaws
+pub mod PassLaws
