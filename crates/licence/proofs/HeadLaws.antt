@@ -11,7 +11,7 @@ use Rattle.counters.specs.Answers.{asCounts}
 use Rattle.counters.specs.declared.counts.Counts.{Counts}
 use Rattle.nursery.specs.Licence.{houses}
 use Rattle.licence.specs.declared.heads.Heads.{Heads}
-use Rattle.licence.specs.Meaning.{asHeads, headAt}
+use Rattle.licence.specs.Meaning.{asHeads, asRemovals, headAt}
 
 -- the list has the head of each house at its number
 pub head-at : (heads : Heads) (h : ℕ) → h < houses → headAt (heads .counts) h ≡ getD (asHeads heads) h T.noCounts
@@ -25,6 +25,19 @@ head-at heads (suc (suc (suc (suc (suc zero))))) l = refl
 head-at heads (suc (suc (suc (suc (suc (suc zero)))))) l = refl
 head-at heads (suc (suc (suc (suc (suc (suc (suc zero))))))) l = refl
 head-at heads (suc (suc (suc (suc (suc (suc (suc (suc h)))))))) l = absurd (omega arith)
+
+-- and its count of removals
+pub removals-at : (heads : Heads) (h : ℕ) → h < houses → getD (heads .removals) h 0 ≡ getD (asRemovals heads) h 0
+unfolding asRemovals
+removals-at heads zero l = refl
+removals-at heads (suc zero) l = refl
+removals-at heads (suc (suc zero)) l = refl
+removals-at heads (suc (suc (suc zero))) l = refl
+removals-at heads (suc (suc (suc (suc zero)))) l = refl
+removals-at heads (suc (suc (suc (suc (suc zero))))) l = refl
+removals-at heads (suc (suc (suc (suc (suc (suc zero)))))) l = refl
+removals-at heads (suc (suc (suc (suc (suc (suc (suc zero))))))) l = refl
+removals-at heads (suc (suc (suc (suc (suc (suc (suc (suc h)))))))) l = absurd (omega arith)
 
 -- a list of eight is its elements
 pub eight-are : {A : Type 0} (d : A) (xs : List A) → length xs ≡ houses
