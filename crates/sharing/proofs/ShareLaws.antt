@@ -1,0 +1,1 @@
+-- Setting the shares: from the gate of all houses to the call.
