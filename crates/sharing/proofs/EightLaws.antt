@@ -3,11 +3,12 @@ use mathlib.Core.Path.{_≡_, refl, sym, ap, _∙_}
 use mathlib.Core.Logic.{_≢_}
 use Prim.Native.Nat.{ℕ, zero, suc, _+_, _≤_, _<_}
 use native.Mathlib.Omega.{arith}
+use native.Mathlib.Nat.{not-suc-le-zero}
 use native.Mathlib.Numerals.{add-one}
 use mathlib.Core.Bool.{Bool, true, false}
-use mathlib.Core.List.{List, [], _∷_, _++_, map}
-use lib.ListN.{length, getD, set, take, drop, drop-of-length-le, length-map, List·getD-map}
-use lib.Seq.{drop-cons}
+use mathlib.Core.List.{List, [], _∷_, _++_, append-nil, map}
+use lib.ListN.{length, getD, set, take, drop, drop-of-length-le, length-append, length-drop, length-map, List·getD-map}
+use lib.Seq.{drop-cons, length-take-le, take-all}
 use borrow.Author.Tests.{eq-eqb, ne-eqb}
 use Rattle.model.specs.Basics.{sum}
 use Rattle.model.specs.Tables.{Counts, noCounts}
@@ -64,6 +65,24 @@ none-left heads h l q = sym (ap anySome (drop-of-length-le (verticesOf heads) {i
 
 -- ---- a copy
 
--- the first h are those of ys, the others those of xs
-pub copied : List ℕ → List ℕ → ℕ → List ℕ
-copied xs ys h = take h ys ++ drop h xs
+put-next : (xs ys : List ℕ) (h : ℕ) → length xs ≡ length ys → h < length ys → set (take h ys ++ drop h xs) h (getD ys h 0) ≡ take (suc h) ys ++ drop (suc h) xs
+put-next xs [] h e l = absurd (not-suc-le-zero l)
+put-next [] (y ∷ ys) h e l = absurd (omega arith)
+put-next (x ∷ xs) (y ∷ ys) zero e l = refl
+put-next (x ∷ xs) (y ∷ ys) (suc h) e l = ap (λ (zs : List ℕ). y ∷ zs) (put-next xs ys h (omega arith) (omega arith))
+
+-- the first h were copied, and one more is
+pub copied-on : (xs ys zs us : List ℕ) (h y : ℕ) → length xs ≡ houses → length ys ≡ houses → h < 8 → zs ≡ take h ys ++ drop h xs → y ≡ getD ys h 0 → us ≡ set zs h y
+    → us ≡ take (h + 1) ys ++ drop (h + 1) xs
+copied-on xs ys zs us h y e f l q k p =
+    p ∙ ap (λ (w : List ℕ). set w h y) q ∙ ap (λ (v : ℕ). set (take h ys ++ drop h xs) h v) k ∙ put-next xs ys h (e ∙ sym f) (omega (arith, l, f))
+    ∙ ap (λ (i : ℕ). take i ys ++ drop i xs) (sym (add-one h))
+
+-- all were
+pub copied-all : (xs ys zs : List ℕ) (h : ℕ) → length xs ≡ houses → length ys ≡ houses → 8 ≤ h → zs ≡ take h ys ++ drop h xs → zs ≡ ys
+copied-all xs ys zs h e f l q =
+    q ∙ ap (λ (w : List ℕ). take h ys ++ w) (drop-of-length-le xs {i = h} (omega (arith, l, e))) ∙ append-nil (take h ys) ∙ take-all h ys (omega (arith, l, f))
+
+pub copied-long : (xs ys zs : List ℕ) (h : ℕ) → length xs ≡ houses → length ys ≡ houses → h ≤ 8 → zs ≡ take h ys ++ drop h xs → length zs ≡ length xs
+copied-long xs ys zs h e f l q =
+    ap length q ∙ length-append (take h ys) (drop h xs) ∙ omega (arith, length-take-le h ys (omega (arith, l, f)), length-drop h xs, e, l)
