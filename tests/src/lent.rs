@@ -235,7 +235,7 @@ pub struct Answer {
     /// The refusal's number, or 0.
     pub refusal: u32,
     /// Numbers of the scratch that are not 0 after the call.
-    scratch: usize,
+    pub scratch: usize,
     /// Of the house that the call was for, or of one of the eight.
     head: Head,
     removals: u32,

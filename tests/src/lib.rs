@@ -48,4 +48,6 @@ mod eight;
 #[cfg(test)]
 mod invariants;
 #[cfg(test)]
+mod series;
+#[cfg(test)]
 mod values;
