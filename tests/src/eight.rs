@@ -281,3 +281,38 @@ fn quotes_of_another_house() {
     refused(&mut lent, 8, &Call::Commit(made), 37);
     answered(&mut lent, 1, &Call::Commit(made));
 }
+
+/// What examples/houses.rattle prints.
+#[test]
+fn the_example_of_two_houses() {
+    let line = |fittings: usize, from: usize, count: usize| {
+        let mut records = vec![Record::Fitting; fittings];
+        records.extend((from..from + count).map(|at| records::pipe(at, at + 1, 1_000)));
+        list::write(2, &records)
+    };
+    let mut lent = cleared();
+    let mut out = String::new();
+    let landed = |lent: &mut Lent, out: &mut String, house: u32, list: Vec<u8>| {
+        let refusal = lent.call(house, &Call::Land(list)).refusal;
+        let at = house as usize;
+        let counts = [0, 1].map(|place| lent.number(at, 6, place));
+        *out += &format!("{house} {} {} {refusal}\n", counts[0], counts[1]);
+    };
+    answered(
+        &mut lent,
+        0,
+        &Call::Shares(vec![2, 4_091, 0, 0, 0, 0, 0, 0]),
+    );
+    landed(&mut lent, &mut out, 0, line(6, 0, 5));
+    landed(&mut lent, &mut out, 0, line(1, 5, 1));
+    landed(&mut lent, &mut out, 1, line(4, 0, 3));
+    let before = held(&mut lent, 0);
+    answered(&mut lent, 0, &Call::Remove(2, 12_288));
+    let after = held(&mut lent, 0);
+    let tags = before.tags().iter().zip(after.tags()).enumerate();
+    for (fitting, (old, new)) in tags.filter(|(_, (old, new))| old != new) {
+        out += &format!("0 {fitting} {old} {new}\n");
+    }
+    landed(&mut lent, &mut out, 0, line(0, 5, 1));
+    assert_eq!(out, include_str!("../../examples/houses.out"));
+}
