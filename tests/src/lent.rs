@@ -567,7 +567,7 @@ impl Lent {
         let heads = heads.flat_map(|part| part.head.iter().chain([&part.removals]));
         let table = |table: usize| {
             let parts = self.parts.iter().flat_map(|part| &part.tables[table]);
-            hash(parts.chain(&[BEFORE]))
+            sparse_hash(parts.chain(&[BEFORE]))
         };
         Answer {
             first,
@@ -593,8 +593,20 @@ fn fits(numbers: &mut Vec<u32>, size: usize) -> Result<(), Refusal> {
     Err(Refusal::TooShort)
 }
 
+/// As tests/lent/main.rattle computes it: of the numbers that are not 0, each behind its place.
+fn sparse_hash<'a>(numbers: impl IntoIterator<Item = &'a u32>) -> u64 {
+    let placed = (0..).zip(numbers).filter(|(_, &number)| number != 0);
+    let one = |hash, (place, &number): (u32, &u32)| step(step(hash, place), number);
+    placed.fold(0, one)
+}
+
+fn step(hash: u64, number: u32) -> u64 {
+    (hash * 2_147_483_629 + u64::from(number) + 1) % 4_294_967_291
+}
+
 /// As tests/lent/main.rattle computes it.
 fn hash<'a>(numbers: impl IntoIterator<Item = &'a u32>) -> u64 {
-    let one = |hash, &number| (hash * 2_147_483_629 + u64::from(number) + 1) % 4_294_967_291;
-    numbers.into_iter().fold(0, one)
+    numbers
+        .into_iter()
+        .fold(0, |hash, &number| step(hash, number))
 }

@@ -22,7 +22,7 @@ const LONGEST_LIST: usize = 65_536;
 /// series have three kinds of full rings, and lists that stop with 22 and 23.
 const FULL_SIZE_TURN: usize = 30;
 const FIRST_FULL_SIZE: usize = 12;
-/// Until then it is the only house with pipes, or leaves only few of them.
+/// For so many turns it is the only house with pipes, or leaves only few of them to the others; then all are cleared.
 const AFTER_FULL_SIZE: usize = 6;
 
 /// Every call is made then with something lent in a wrong size, which goes by the number of the series; for a number
@@ -113,6 +113,10 @@ pub fn next(source: &mut Source, turn: usize, lent: &mut Lent) -> Vec<Command> {
     }
     if (FULL_SIZE_TURN..=FULL_SIZE_TURN + AFTER_FULL_SIZE).contains(&turn) {
         return beside_a_large_one(random, lent);
+    }
+    if turn == FULL_SIZE_TURN + AFTER_FULL_SIZE + 1 {
+        // A large house makes every call slow.
+        return shared_out(source, turn, lent);
     }
     match turn {
         WRONG_SIZE_TURN => {
