@@ -473,6 +473,7 @@ fn place_lines(s: &mut Series) {
     s.house = 65_538;
     s.find(8_195);
     s.lent.set(5, LABELS, 4_095, 1);
+    s.lent.set(5, HEAD, 1, 4_000);
     s.find(8_195);
     s.grow(&list);
     s.house = 2;

@@ -30,6 +30,8 @@ const AFTER_FULL_SIZE: usize = 6;
 const WRONG_SIZE_TURN: usize = 10;
 const NO_HOUSE_TURN: usize = 13;
 const DAMAGED_TURN: usize = 16;
+/// A house with more pipes in its head than there may be is grown then.
+const FORGED_HEAD_TURN: usize = 19;
 
 /// The most tags that are asked for in turn.
 const MOST_TAGS: usize = 40;
@@ -150,6 +152,14 @@ pub fn next(source: &mut Source, turn: usize, lent: &mut Lent) -> Vec<Command> {
             commands.push(Command::Set(other, table, place, old));
             return commands;
         }
+        FORGED_HEAD_TURN => {
+            // A grow counts its own house as empty in the sum, whatever its head says.
+            return vec![
+                Command::Set(now.number, 6, 1, random.pick(&[4_097, 65_535])),
+                now.call(question(random, now)),
+                now.call(grow(source, turn)),
+            ];
+        }
         _ => {}
     }
     if now.house.pipes().is_empty() && random.one_in(2) {
@@ -209,7 +219,10 @@ fn first_calls(random: &mut Random, lent: &mut Lent) -> Vec<Command> {
             commands.push(now.call(Call::Grow(lists::header(2))));
         }
     }
-    commands.push(Command::Call(8, Call::Grow(lists::header(2))));
+    // In its low bits 13 is the house that is not cleared.
+    for no_house in [8, 13] {
+        commands.push(Command::Call(no_house, Call::Grow(lists::header(2))));
+    }
     commands.push(command(0, Call::Shares(vec![0; HOUSES])));
     commands.push(command(NOT_CLEARED, Call::Grow(lists::header(2))));
     commands
@@ -254,6 +267,18 @@ fn shared_out(source: &mut Source, turn: usize, lent: &mut Lent) -> Vec<Command>
     }
     commands.extend(cleared(random, lent));
     let shares = drawn_shares(random);
+    if random.one_in(2) {
+        // A fitting is enough; and so is a sum of one too many.
+        let any = random.below(HOUSES);
+        let fitting = lists::write(version(random), &[Record::Fitting]);
+        commands.push(command(any, Call::Land(fitting)));
+        commands.push(command(any, Call::Shares(shares.clone())));
+        commands.push(command(any, Call::Grow(lists::header(2))));
+    }
+    let mut over = shares.clone();
+    let sum: usize = shares.iter().map(|&share| usize::from(share)).sum();
+    over[random.below(HOUSES)] += u16::try_from(LICENSED_PIPES + 1 - sum).expect("16 bits");
+    commands.push(command(0, Call::Shares(over)));
     // Mostly the house with the greatest share, which then has room.
     let greatest = (0..HOUSES).max_by_key(|&house| shares[house]);
     source.busy = random.pick(&[source.busy, greatest.unwrap_or(0), greatest.unwrap_or(0)]);
