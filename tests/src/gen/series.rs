@@ -364,6 +364,12 @@ fn removals(random: &mut Random, now: &Now) -> Vec<Command> {
     if random.one_in(3) {
         commands.extend([now.call(Call::Open), now.call(Call::Fetch(opened))]);
     }
+    if count > 0 && random.one_in(3) {
+        // No removal more, or the last one.
+        let counted = random.pick(&[u32::MAX, u32::MAX - 1]);
+        commands.push(Command::Set(now.number, 6, 4, counted));
+        commands.push(now.call(Call::Remove(0, SLICE)));
+    }
     for _ in 0..random.between(1, 2) {
         commands.push(now.call(remove(random, now)));
     }
