@@ -1,8 +1,7 @@
-// Commit for a house: the pipe of a quote landed on its register as it is.
-use crate::left::Committed;
-use calls::commit::commit_own;
-use counters::quotes::CommitAnswer;
-use counters::quotes::Quote;
+// Land for a house: a list landed on its register as it is.
+use crate::left::Landed;
+use calls::land::land_own;
+use counters::answers::ListAnswer;
 use counters::sizes::EDGES;
 use counters::sizes::ENDS;
 use counters::sizes::SIDES;
@@ -17,19 +16,19 @@ ghost use Prim.Native.Nat.{ℕ, _<_};
 ghost use mathlib.Core.List.{[]};
 ghost use lib.ListN.{getD};
 ghost use Rattle.model.specs.Tables.{noCounts};
-ghost use Rattle.nursery.specs.Calls.{commits, inHouse, step};
+ghost use Rattle.nursery.specs.Calls.{lands, inHouse, step};
 ghost use Rattle.nursery.specs.Licence.{houses};
 ghost use Rattle.nursery.specs.Nursery.{tablesIn};
-ghost use Rattle.counters.specs.Quotes.{asQuote, commitReply};
+ghost use Rattle.counters.specs.Answers.{listReply};
 ghost use Rattle.tables.specs.Meaning.{tables};
 ghost use Rattle.admission.specs.Lent as own;
 ghost use Rattle.admission.specs.Own.{ownStep};
 ghost use Rattle.licence.specs.Meaning.{asHeads, asRemovals, lent};
 ghost use Rattle.licence.specs.Others.{Long};
-ghost use Rattle.houses.specs.Left.{left, outcome, putOwn};
+ghost use Rattle.growing.specs.Left.{left, outcome, putOwn};
 
 // On the part of house h, with the limit that the licence comes to.
-fn commit_house(
+fn land_house(
     heads: Heads,
     limit: u16,
     degrees: &mut [u16],
@@ -45,13 +44,13 @@ fn commit_house(
     svolumes: &mut [u32],
     slabels: &mut [u32],
     h: usize,
-    quote: Quote,
-) -> Committed
+    list: &[u8],
+) -> Landed
     requires { ⌜ (h < houses) × Long (tables (now degrees) (now sides) (now ends) (now lengths) (now volumes) (now labels)) ⌝ }
     ensures { λ r. ⌜ ((removals : ℕ) → left (tables (now (degrees .exit)) (now (sides .exit)) (now (ends .exit)) (now (lengths .exit)) (now (volumes .exit)) (now (labels .exit))) (asHeads (r .heads))
-        (tables (now (sdegrees .exit)) (now (ssides .exit)) (now (sends .exit)) (now (slengths .exit)) (now (svolumes .exit)) (now (slabels .exit))) (commitReply (r .answer))
+        (tables (now (sdegrees .exit)) (now (ssides .exit)) (now (sends .exit)) (now (slengths .exit)) (now (svolumes .exit)) (now (slabels .exit))) (listReply (r .answer))
         ≡ putOwn h (tables (now (degrees .entry)) (now (sides .entry)) (now (ends .entry)) (now (lengths .entry)) (now (volumes .entry)) (now (labels .entry))) (asHeads heads)
-        (ownStep limit removals (commits (asQuote quote))
+        (ownStep limit removals (lands (now (list .entry)))
         (own.lent (tablesIn h (tables (now (degrees .entry)) (now (sides .entry)) (now (ends .entry)) (now (lengths .entry)) (now (volumes .entry)) (now (labels .entry)))) (getD (asHeads heads) h noCounts)
         (tables (now (sdegrees .entry)) (now (ssides .entry)) (now (sends .entry)) (now (slengths .entry)) (now (svolumes .entry)) (now (slabels .entry))))))
         × (asRemovals (r .heads) ≡ asRemovals heads) ⌝ }
@@ -60,7 +59,7 @@ fn commit_house(
     let s = SIDES * h;
     let n = ENDS * h;
     let e = EDGES * h;
-    let own = commit_own(
+    let own = land_own(
         head_of(heads, h),
         limit,
         &mut degrees[v..v + VERTICES],
@@ -75,17 +74,17 @@ fn commit_house(
         slengths,
         svolumes,
         slabels,
-        quote,
+        list,
     );
     let answer = own.answer;
-    Committed {
+    Landed {
         heads: with_head(heads, h, own.counts),
         answer,
     }
 }
 
-// The heads by value: `commit` has them lent.
-pub fn commit_with(
+// The heads by value: `land` has them lent.
+pub fn land_with(
     heads: Heads,
     degrees: &mut [u16],
     sides: &mut [u16],
@@ -101,11 +100,11 @@ pub fn commit_with(
     svolumes: &mut [u32],
     slabels: &mut [u32],
     house: u32,
-    quote: Quote,
-) -> Committed
+    list: &[u8],
+) -> Landed
     ensures { λ r. ⌜ outcome (tables (now (degrees .exit)) (now (sides .exit)) (now (ends .exit)) (now (lengths .exit)) (now (volumes .exit)) (now (labels .exit))) (r .heads) (now (shares .entry))
-        (tables (now (sdegrees .exit)) (now (ssides .exit)) (now (sends .exit)) (now (slengths .exit)) (now (svolumes .exit)) (now (slabels .exit))) [] (commitReply (r .answer))
-        ≡ step (inHouse house (commits (asQuote quote)))
+        (tables (now (sdegrees .exit)) (now (ssides .exit)) (now (sends .exit)) (now (slengths .exit)) (now (svolumes .exit)) (now (slabels .exit))) [] (listReply (r .answer))
+        ≡ step (inHouse house (lands (now (list .entry))))
         (lent (tables (now (degrees .entry)) (now (sides .entry)) (now (ends .entry)) (now (lengths .entry)) (now (volumes .entry)) (now (labels .entry))) heads (now (shares .entry))
         (tables (now (sdegrees .entry)) (now (ssides .entry)) (now (sends .entry)) (now (slengths .entry)) (now (svolumes .entry)) (now (slabels .entry)))) ⌝ }
 {
@@ -128,7 +127,7 @@ pub fn commit_with(
         false,
     );
     match passed {
-        Passed::Open(limit) => commit_house(
+        Passed::Open(limit) => land_house(
             heads,
             limit,
             degrees,
@@ -144,11 +143,11 @@ pub fn commit_with(
             svolumes,
             slabels,
             house as usize,
-            quote,
+            list,
         ),
-        Passed::Refused(refusal) => Committed {
+        Passed::Refused(refusal) => Landed {
             heads,
-            answer: CommitAnswer::Refused(refusal),
+            answer: ListAnswer::Refused(refusal),
         },
     }
 }

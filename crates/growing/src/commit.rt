@@ -1,7 +1,8 @@
-// Grow for a house: a list landed on its cleared register. The count of removals is "0 when cleared" (document 02, S-11).
-use crate::left::Landed;
-use calls::grow::grow_own;
-use counters::answers::ListAnswer;
+// Commit for a house: the pipe of a quote landed on its register as it is.
+use crate::left::Committed;
+use calls::commit::commit_own;
+use counters::quotes::CommitAnswer;
+use counters::quotes::Quote;
 use counters::sizes::EDGES;
 use counters::sizes::ENDS;
 use counters::sizes::SIDES;
@@ -11,25 +12,24 @@ use licence::gate::pass_others;
 use licence::heads::Heads;
 use licence::heads::head_of;
 use licence::heads::with_head;
-use licence::heads::with_removals;
 ghost use mathlib.Core.Path.{_≡_};
 ghost use Prim.Native.Nat.{ℕ, _<_};
 ghost use mathlib.Core.List.{[]};
-ghost use lib.ListN.{getD, set};
+ghost use lib.ListN.{getD};
 ghost use Rattle.model.specs.Tables.{noCounts};
-ghost use Rattle.nursery.specs.Calls.{grows, inHouse, step};
+ghost use Rattle.nursery.specs.Calls.{commits, inHouse, step};
 ghost use Rattle.nursery.specs.Licence.{houses};
 ghost use Rattle.nursery.specs.Nursery.{tablesIn};
-ghost use Rattle.counters.specs.Answers.{listReply};
+ghost use Rattle.counters.specs.Quotes.{asQuote, commitReply};
 ghost use Rattle.tables.specs.Meaning.{tables};
 ghost use Rattle.admission.specs.Lent as own;
 ghost use Rattle.admission.specs.Own.{ownStep};
 ghost use Rattle.licence.specs.Meaning.{asHeads, asRemovals, lent};
 ghost use Rattle.licence.specs.Others.{Long};
-ghost use Rattle.houses.specs.Left.{left, outcome, putOwn};
+ghost use Rattle.growing.specs.Left.{left, outcome, putOwn};
 
 // On the part of house h, with the limit that the licence comes to.
-fn grow_house(
+fn commit_house(
     heads: Heads,
     limit: u16,
     degrees: &mut [u16],
@@ -45,22 +45,22 @@ fn grow_house(
     svolumes: &mut [u32],
     slabels: &mut [u32],
     h: usize,
-    list: &[u8],
-) -> Landed
+    quote: Quote,
+) -> Committed
     requires { ⌜ (h < houses) × Long (tables (now degrees) (now sides) (now ends) (now lengths) (now volumes) (now labels)) ⌝ }
     ensures { λ r. ⌜ ((removals : ℕ) → left (tables (now (degrees .exit)) (now (sides .exit)) (now (ends .exit)) (now (lengths .exit)) (now (volumes .exit)) (now (labels .exit))) (asHeads (r .heads))
-        (tables (now (sdegrees .exit)) (now (ssides .exit)) (now (sends .exit)) (now (slengths .exit)) (now (svolumes .exit)) (now (slabels .exit))) (listReply (r .answer))
+        (tables (now (sdegrees .exit)) (now (ssides .exit)) (now (sends .exit)) (now (slengths .exit)) (now (svolumes .exit)) (now (slabels .exit))) (commitReply (r .answer))
         ≡ putOwn h (tables (now (degrees .entry)) (now (sides .entry)) (now (ends .entry)) (now (lengths .entry)) (now (volumes .entry)) (now (labels .entry))) (asHeads heads)
-        (ownStep limit removals (grows (now (list .entry)))
+        (ownStep limit removals (commits (asQuote quote))
         (own.lent (tablesIn h (tables (now (degrees .entry)) (now (sides .entry)) (now (ends .entry)) (now (lengths .entry)) (now (volumes .entry)) (now (labels .entry)))) (getD (asHeads heads) h noCounts)
         (tables (now (sdegrees .entry)) (now (ssides .entry)) (now (sends .entry)) (now (slengths .entry)) (now (svolumes .entry)) (now (slabels .entry))))))
-        × (asRemovals (r .heads) ≡ set (asRemovals heads) h 0) ⌝ }
+        × (asRemovals (r .heads) ≡ asRemovals heads) ⌝ }
 {
     let v = VERTICES * h;
     let s = SIDES * h;
     let n = ENDS * h;
     let e = EDGES * h;
-    let own = grow_own(
+    let own = commit_own(
         head_of(heads, h),
         limit,
         &mut degrees[v..v + VERTICES],
@@ -75,17 +75,17 @@ fn grow_house(
         slengths,
         svolumes,
         slabels,
-        list,
+        quote,
     );
     let answer = own.answer;
-    Landed {
-        heads: with_removals(with_head(heads, h, own.counts), h, 0),
+    Committed {
+        heads: with_head(heads, h, own.counts),
         answer,
     }
 }
 
-// The heads by value: `grow` has them lent.
-pub fn grow_with(
+// The heads by value: `commit` has them lent.
+pub fn commit_with(
     heads: Heads,
     degrees: &mut [u16],
     sides: &mut [u16],
@@ -101,11 +101,11 @@ pub fn grow_with(
     svolumes: &mut [u32],
     slabels: &mut [u32],
     house: u32,
-    list: &[u8],
-) -> Landed
+    quote: Quote,
+) -> Committed
     ensures { λ r. ⌜ outcome (tables (now (degrees .exit)) (now (sides .exit)) (now (ends .exit)) (now (lengths .exit)) (now (volumes .exit)) (now (labels .exit))) (r .heads) (now (shares .entry))
-        (tables (now (sdegrees .exit)) (now (ssides .exit)) (now (sends .exit)) (now (slengths .exit)) (now (svolumes .exit)) (now (slabels .exit))) [] (listReply (r .answer))
-        ≡ step (inHouse house (grows (now (list .entry))))
+        (tables (now (sdegrees .exit)) (now (ssides .exit)) (now (sends .exit)) (now (slengths .exit)) (now (svolumes .exit)) (now (slabels .exit))) [] (commitReply (r .answer))
+        ≡ step (inHouse house (commits (asQuote quote)))
         (lent (tables (now (degrees .entry)) (now (sides .entry)) (now (ends .entry)) (now (lengths .entry)) (now (volumes .entry)) (now (labels .entry))) heads (now (shares .entry))
         (tables (now (sdegrees .entry)) (now (ssides .entry)) (now (sends .entry)) (now (slengths .entry)) (now (svolumes .entry)) (now (slabels .entry)))) ⌝ }
 {
@@ -125,10 +125,10 @@ pub fn grow_with(
         svolumes,
         slabels,
         house,
-        true,
+        false,
     );
     match passed {
-        Passed::Open(limit) => grow_house(
+        Passed::Open(limit) => commit_house(
             heads,
             limit,
             degrees,
@@ -144,11 +144,11 @@ pub fn grow_with(
             svolumes,
             slabels,
             house as usize,
-            list,
+            quote,
         ),
-        Passed::Refused(refusal) => Landed {
+        Passed::Refused(refusal) => Committed {
             heads,
-            answer: ListAnswer::Refused(refusal),
+            answer: CommitAnswer::Refused(refusal),
         },
     }
 }

@@ -1,6 +1,6 @@
-// Land for a house: a list landed on its register as it is.
+// Grow for a house: a list landed on its cleared register. The count of removals is "0 when cleared" (document 02, S-11).
 use crate::left::Landed;
-use calls::land::land_own;
+use calls::grow::grow_own;
 use counters::answers::ListAnswer;
 use counters::sizes::EDGES;
 use counters::sizes::ENDS;
@@ -11,12 +11,13 @@ use licence::gate::pass_others;
 use licence::heads::Heads;
 use licence::heads::head_of;
 use licence::heads::with_head;
+use licence::heads::with_removals;
 ghost use mathlib.Core.Path.{_≡_};
 ghost use Prim.Native.Nat.{ℕ, _<_};
 ghost use mathlib.Core.List.{[]};
-ghost use lib.ListN.{getD};
+ghost use lib.ListN.{getD, set};
 ghost use Rattle.model.specs.Tables.{noCounts};
-ghost use Rattle.nursery.specs.Calls.{lands, inHouse, step};
+ghost use Rattle.nursery.specs.Calls.{grows, inHouse, step};
 ghost use Rattle.nursery.specs.Licence.{houses};
 ghost use Rattle.nursery.specs.Nursery.{tablesIn};
 ghost use Rattle.counters.specs.Answers.{listReply};
@@ -25,10 +26,10 @@ ghost use Rattle.admission.specs.Lent as own;
 ghost use Rattle.admission.specs.Own.{ownStep};
 ghost use Rattle.licence.specs.Meaning.{asHeads, asRemovals, lent};
 ghost use Rattle.licence.specs.Others.{Long};
-ghost use Rattle.houses.specs.Left.{left, outcome, putOwn};
+ghost use Rattle.growing.specs.Left.{left, outcome, putOwn};
 
 // On the part of house h, with the limit that the licence comes to.
-fn land_house(
+fn grow_house(
     heads: Heads,
     limit: u16,
     degrees: &mut [u16],
@@ -50,16 +51,16 @@ fn land_house(
     ensures { λ r. ⌜ ((removals : ℕ) → left (tables (now (degrees .exit)) (now (sides .exit)) (now (ends .exit)) (now (lengths .exit)) (now (volumes .exit)) (now (labels .exit))) (asHeads (r .heads))
         (tables (now (sdegrees .exit)) (now (ssides .exit)) (now (sends .exit)) (now (slengths .exit)) (now (svolumes .exit)) (now (slabels .exit))) (listReply (r .answer))
         ≡ putOwn h (tables (now (degrees .entry)) (now (sides .entry)) (now (ends .entry)) (now (lengths .entry)) (now (volumes .entry)) (now (labels .entry))) (asHeads heads)
-        (ownStep limit removals (lands (now (list .entry)))
+        (ownStep limit removals (grows (now (list .entry)))
         (own.lent (tablesIn h (tables (now (degrees .entry)) (now (sides .entry)) (now (ends .entry)) (now (lengths .entry)) (now (volumes .entry)) (now (labels .entry)))) (getD (asHeads heads) h noCounts)
         (tables (now (sdegrees .entry)) (now (ssides .entry)) (now (sends .entry)) (now (slengths .entry)) (now (svolumes .entry)) (now (slabels .entry))))))
-        × (asRemovals (r .heads) ≡ asRemovals heads) ⌝ }
+        × (asRemovals (r .heads) ≡ set (asRemovals heads) h 0) ⌝ }
 {
     let v = VERTICES * h;
     let s = SIDES * h;
     let n = ENDS * h;
     let e = EDGES * h;
-    let own = land_own(
+    let own = grow_own(
         head_of(heads, h),
         limit,
         &mut degrees[v..v + VERTICES],
@@ -78,13 +79,13 @@ fn land_house(
     );
     let answer = own.answer;
     Landed {
-        heads: with_head(heads, h, own.counts),
+        heads: with_removals(with_head(heads, h, own.counts), h, 0),
         answer,
     }
 }
 
-// The heads by value: `land` has them lent.
-pub fn land_with(
+// The heads by value: `grow` has them lent.
+pub fn grow_with(
     heads: Heads,
     degrees: &mut [u16],
     sides: &mut [u16],
@@ -104,7 +105,7 @@ pub fn land_with(
 ) -> Landed
     ensures { λ r. ⌜ outcome (tables (now (degrees .exit)) (now (sides .exit)) (now (ends .exit)) (now (lengths .exit)) (now (volumes .exit)) (now (labels .exit))) (r .heads) (now (shares .entry))
         (tables (now (sdegrees .exit)) (now (ssides .exit)) (now (sends .exit)) (now (slengths .exit)) (now (svolumes .exit)) (now (slabels .exit))) [] (listReply (r .answer))
-        ≡ step (inHouse house (lands (now (list .entry))))
+        ≡ step (inHouse house (grows (now (list .entry))))
         (lent (tables (now (degrees .entry)) (now (sides .entry)) (now (ends .entry)) (now (lengths .entry)) (now (volumes .entry)) (now (labels .entry))) heads (now (shares .entry))
         (tables (now (sdegrees .entry)) (now (ssides .entry)) (now (sends .entry)) (now (slengths .entry)) (now (svolumes .entry)) (now (slabels .entry)))) ⌝ }
 {
@@ -124,10 +125,10 @@ pub fn land_with(
         svolumes,
         slabels,
         house,
-        false,
+        true,
     );
     match passed {
-        Passed::Open(limit) => land_house(
+        Passed::Open(limit) => grow_house(
             heads,
             limit,
             degrees,
