@@ -32,11 +32,11 @@ pub fn distance(
     from: Vertex,
     to: Vertex,
 ) -> Measured
-    ensures { λ r. ⌜ (limit removals : ℕ) → outcome (tables (now (degrees .entry)) (now (sides .entry)) (now (ends .entry)) (now (lengths .entry)) (now (volumes .entry)) (now (labels .entry))) (asCounts counts)
+    ensures { λ r. ⌜ ((limit removals : ℕ) → outcome (tables (now (degrees .entry)) (now (sides .entry)) (now (ends .entry)) (now (lengths .entry)) (now (volumes .entry)) (now (labels .entry))) (asCounts counts)
         (tables (now (sdegrees .exit)) (now (ssides .exit)) (now (sends .exit)) (now (slengths .exit)) (now (svolumes .exit)) (now (slabels .exit))) [] (measuredReply r)
         ≡ ownStep limit removals (measures (from .0) (to .0))
         (lent (tables (now (degrees .entry)) (now (sides .entry)) (now (ends .entry)) (now (lengths .entry)) (now (volumes .entry)) (now (labels .entry))) (asCounts counts)
-        (tables (now (sdegrees .entry)) (now (ssides .entry)) (now (sends .entry)) (now (slengths .entry)) (now (svolumes .entry)) (now (slabels .entry)))) ⌝ }
+        (tables (now (sdegrees .entry)) (now (ssides .entry)) (now (sends .entry)) (now (slengths .entry)) (now (svolumes .entry)) (now (slabels .entry))))) ⌝ }
 {
     let passed = pass_gate(
         degrees,

@@ -35,7 +35,7 @@ pub fn find(
     slabels: &mut [u32],
     label: Label,
 ) -> FoundChain
-    ensures { λ r. ⌜ (limit removals : ℕ) → outcome
+    ensures { λ r. ⌜ ((limit removals : ℕ) → outcome
         (tables (now (degrees .entry)) (now (sides .entry)) (now (ends .entry)) (now (lengths .entry)) (now (volumes .entry)) (now (labels .entry)))
         (asCounts counts)
         (tables (now (sdegrees .exit)) (now (ssides .exit)) (now (sends .exit)) (now (slengths .exit)) (now (svolumes .exit)) (now (slabels .exit)))
@@ -43,7 +43,7 @@ pub fn find(
         ≡ ownStep limit removals (finds (label .0))
         (lent (tables (now (degrees .entry)) (now (sides .entry)) (now (ends .entry)) (now (lengths .entry)) (now (volumes .entry)) (now (labels .entry)))
         (asCounts counts)
-        (tables (now (sdegrees .entry)) (now (ssides .entry)) (now (sends .entry)) (now (slengths .entry)) (now (svolumes .entry)) (now (slabels .entry)))) ⌝ }
+        (tables (now (sdegrees .entry)) (now (ssides .entry)) (now (sends .entry)) (now (slengths .entry)) (now (svolumes .entry)) (now (slabels .entry))))) ⌝ }
 {
     let passed = pass_gate(
         degrees,
@@ -83,7 +83,7 @@ pub fn find_at(
     slabels: &mut [u32],
     vertex: Vertex,
 ) -> FoundChain
-    ensures { λ r. ⌜ (limit removals : ℕ) → outcome
+    ensures { λ r. ⌜ ((limit removals : ℕ) → outcome
         (tables (now (degrees .entry)) (now (sides .entry)) (now (ends .entry)) (now (lengths .entry)) (now (volumes .entry)) (now (labels .entry)))
         (asCounts counts)
         (tables (now (sdegrees .exit)) (now (ssides .exit)) (now (sends .exit)) (now (slengths .exit)) (now (svolumes .exit)) (now (slabels .exit)))
@@ -91,7 +91,7 @@ pub fn find_at(
         ≡ ownStep limit removals (findsAt (vertex .0))
         (lent (tables (now (degrees .entry)) (now (sides .entry)) (now (ends .entry)) (now (lengths .entry)) (now (volumes .entry)) (now (labels .entry)))
         (asCounts counts)
-        (tables (now (sdegrees .entry)) (now (ssides .entry)) (now (sends .entry)) (now (slengths .entry)) (now (svolumes .entry)) (now (slabels .entry)))) ⌝ }
+        (tables (now (sdegrees .entry)) (now (ssides .entry)) (now (sends .entry)) (now (slengths .entry)) (now (svolumes .entry)) (now (slabels .entry))))) ⌝ }
 {
     let passed = pass_gate(
         degrees,

@@ -35,7 +35,7 @@ pub fn quote(
     length: u32,
     volume: u32,
 ) -> QuoteAnswer
-    ensures { λ r. ⌜ (removals : ℕ) → outcome
+    ensures { λ r. ⌜ ((removals : ℕ) → outcome
         (tables (now (degrees .entry)) (now (sides .entry)) (now (ends .entry)) (now (lengths .entry)) (now (volumes .entry)) (now (labels .entry)))
         (asCounts counts)
         (tables (now (sdegrees .exit)) (now (ssides .exit)) (now (sends .exit)) (now (slengths .exit)) (now (svolumes .exit)) (now (slabels .exit)))
@@ -43,7 +43,7 @@ pub fn quote(
         ≡ ownStep limit removals (quotes (record { first = first; second = second; len = length; volume = volume }))
         (lent (tables (now (degrees .entry)) (now (sides .entry)) (now (ends .entry)) (now (lengths .entry)) (now (volumes .entry)) (now (labels .entry)))
         (asCounts counts)
-        (tables (now (sdegrees .entry)) (now (ssides .entry)) (now (sends .entry)) (now (slengths .entry)) (now (svolumes .entry)) (now (slabels .entry)))) ⌝ }
+        (tables (now (sdegrees .entry)) (now (ssides .entry)) (now (sends .entry)) (now (slengths .entry)) (now (svolumes .entry)) (now (slabels .entry))))) ⌝ }
 {
     let passed = pass_gate(
         degrees,

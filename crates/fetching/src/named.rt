@@ -29,9 +29,9 @@ pub fn line_named(
     edges: u16,
     place: u16,
 ) -> Line
-    ensures { λ r. ⌜ (removals : ℕ) → lineReply (openSheet vertices edges place removals) r
+    ensures { λ r. ⌜ ((removals : ℕ) → lineReply (openSheet vertices edges place removals) r
         ≡ fetchIn (now (ends .entry)) (now (lengths .entry)) (now (volumes .entry)) (asCounts counts) (openSheet vertices edges place removals)
-        (tables (now (sdegrees .entry)) (now (ssides .entry)) (now (sends .entry)) (now (slengths .entry)) (now (svolumes .entry)) (now (slabels .entry))) ⌝ }
+        (tables (now (sdegrees .entry)) (now (ssides .entry)) (now (sends .entry)) (now (slengths .entry)) (now (svolumes .entry)) (now (slabels .entry)))) ⌝ }
 {
     if counts.vertices < vertices {
         return Line::Beyond;

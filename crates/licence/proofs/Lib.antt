@@ -3,3 +3,5 @@ pub mod ReserveLaws
 pub mod FitLaws
 pub mod OtherLaws
 pub mod PassLaws
+pub mod StepLaws
+pub mod CallLaws

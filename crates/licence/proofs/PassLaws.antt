@@ -1,5 +1,6 @@
 -- The gate of the other houses: from its tests to what it answers.
 use mathlib.Core.Path.{_≡_, refl, sym, ap, _∙_}
+use mathlib.Core.Logic.{_≢_}
 use Prim.Native.Nat.{ℕ, zero, suc, _+_, _*_, _-_, _≤_, _<_, max}
 use native.Mathlib.Omega.{arith}
 use native.Mathlib.Decide.{decLt}
@@ -10,7 +11,7 @@ use mathlib.Core.Option.{Option, none, some}
 use lib.ListN.{length, getD, set}
 use lib.Seq.{set-out}
 use lib.Dec.{eqb, ltb}
-use borrow.Author.Tests.{eq-eqb, eqb-true, le-ltb, lt-ltb, ne-eqb}
+use borrow.Author.Tests.{eq-eqb, eqb-true, le-ltb, lt-ltb, ltb-true, ne-eqb}
 use Rattle.model.specs.Basics.{countFrom, if_then_else_, maxEdges, maxVertices, sum, upTo}
 use Rattle.model.specs.Register.{Register}
 use Rattle.model.specs.Tables.{Counts, Tables, cleared, eqList, fits, held, noCounts, rightSizes, sizes}
@@ -164,3 +165,25 @@ module _ (t : Tables) (heads : Heads) (ss : List ℕ) (s : Tables) where
           → (p ≡ passOthers house grows (lent t heads ss s)) × (u ≡ scratchPassed (lent t heads ss s))
       unfolding passOthers upTo edgesIn edgesOf
       others-pass u p e h q = (rw (fit-is, f, k, damaged-told t (asHeads heads) _ ss house houses 0, h) q, cleared-is u e)
+
+not-opens : (x limit : ℕ) → barsWith x ≢ opensWith limit
+not-opens x limit e = let z : _≡_ {A = ℕ} 0 1 = cc in omega arith
+
+-- what an open gate shows
+pub open-known : (t : Tables) (heads : Heads) (ss : List ℕ) (s : Tables) (house : ℕ) (g : Bool) (limit : ℕ) → opensWith limit ≡ passOthers house g (lent t heads ss s)
+    → (house < houses) × Long t × (scratchPassed (lent t heads ss s) ≡ cleared)
+unfolding passOthers licenceIn scratchPassed
+open-known t heads ss s house g limit e = go (eightFit t ss) refl (fits s) refl (anyDamaged (some house) (nursery t heads ss) (upTo houses)) refl
+    (overfull ss (edgesBut (emptied house g) (edgesIn (nursery t heads ss)))) refl (ltb house houses) refl
+  where
+    Known : Type 0
+    Known = (house < houses) × Long t × (scratchPassed (lent t heads ss s) ≡ cleared)
+
+    go : (a : Bool) → eightFit t ss ≡ a → (b : Bool) → fits s ≡ b → (d : Bool) → anyDamaged (some house) (nursery t heads ss) (upTo houses) ≡ d
+        → (o : Bool) → overfull ss (edgesBut (emptied house g) (edgesIn (nursery t heads ss))) ≡ o → (i : Bool) → ltb house houses ≡ i → Known
+    go false p b q d r o x i y = absurd (not-opens 25 limit (sym (rw (fit-is t heads ss s, p) at e)))
+    go true p false q d r o x i y = absurd (not-opens 25 limit (sym (rw (fit-is t heads ss s, p, q) at e)))
+    go true p true q true r o x i y = absurd (not-opens 21 limit (sym (rw (fit-is t heads ss s, p, q, r) at e)))
+    go true p true q false r true x i y = absurd (not-opens 21 limit (sym (rw (fit-is t heads ss s, p, q, r, x) at e)))
+    go true p true q false r false x false y = absurd (not-opens 37 limit (sym (rw (fit-is t heads ss s, p, q, r, x, y) at e)))
+    go true p true q false r false x true y = (ltb-true house houses y, (eight-long t ss p) .0, rw (fit-is t heads ss s, p, q))

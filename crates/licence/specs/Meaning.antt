@@ -2,10 +2,11 @@
 use Prim.Native.Nat.{ℕ}
 use mathlib.Core.List.{List, [], _∷_, map}
 use lib.ListN.{getD}
+use Rattle.model.specs.Queries.{Reply}
 use Rattle.model.specs.Tables as T
 use Rattle.counters.specs.Answers.{asCounts}
 use Rattle.nursery.specs.Nursery.{Nursery}
-use Rattle.nursery.specs.Calls.{Lent}
+use Rattle.nursery.specs.Calls.{Lent, Outcome}
 use Rattle.counters.specs.declared.counts.Counts.{Counts}
 use Rattle.licence.specs.declared.heads.Heads.{Heads}
 
@@ -35,3 +36,7 @@ nursery t heads shares = record { tables = t; heads = asHeads heads; removals = 
 -- and scratch
 abbrev pub lent : T.Tables → Heads → List ℕ → T.Tables → Lent
 lent t heads shares scratch = record { nursery = nursery t heads shares; scratch = scratch }
+
+-- what a call leaves and answers: tables, heads, shares, scratch, the lent slice, the answer
+abbrev pub outcome : T.Tables → Heads → List ℕ → T.Tables → List ℕ → Reply → Outcome
+outcome t heads shares scratch xs a = record { lent = lent t heads shares scratch; slice = xs; reply = a }

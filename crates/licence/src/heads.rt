@@ -35,6 +35,14 @@ pub fn head_of(heads: Heads, h: usize) -> Counts
     heads.counts[h]
 }
 
+// Its count of removals.
+pub fn removals_of(heads: Heads, h: usize) -> u32
+    requires { ⌜ h < houses ⌝ }
+    ensures { λ r. ⌜ r ≡ getD (asRemovals heads) h 0 ⌝ }
+{
+    heads.removals[h]
+}
+
 // The head of house i, or another one if i is h.
 fn head_or(heads: Heads, i: usize, h: usize, own: Counts) -> Counts
     requires { ⌜ i < houses ⌝ }
@@ -68,7 +76,7 @@ fn removals_or(heads: Heads, i: usize, h: usize, count: u32) -> u32
     requires { ⌜ i < houses ⌝ }
     ensures { λ r. ⌜ r ≡ getD (set (asRemovals heads) h count) i 0 ⌝ }
 {
-    if i == h { count } else { heads.removals[i] }
+    if i == h { count } else { removals_of(heads, i) }
 }
 
 // The heads with another count of removals for this house.

@@ -57,7 +57,7 @@ impl OpenSheet {
         slabels: &mut [u32],
         removals: u32,
     ) -> Opened
-        ensures { λ r. ⌜ (limit : ℕ) → outcome
+        ensures { λ r. ⌜ ((limit : ℕ) → outcome
             (tables (now (degrees .entry)) (now (sides .entry)) (now (ends .entry)) (now (lengths .entry)) (now (volumes .entry)) (now (labels .entry)))
             (asCounts counts)
             (tables (now (sdegrees .exit)) (now (ssides .exit)) (now (sends .exit)) (now (slengths .exit)) (now (svolumes .exit)) (now (slabels .exit)))
@@ -65,7 +65,7 @@ impl OpenSheet {
             ≡ ownStep limit removals opens
             (lent (tables (now (degrees .entry)) (now (sides .entry)) (now (ends .entry)) (now (lengths .entry)) (now (volumes .entry)) (now (labels .entry)))
             (asCounts counts)
-            (tables (now (sdegrees .entry)) (now (ssides .entry)) (now (sends .entry)) (now (slengths .entry)) (now (svolumes .entry)) (now (slabels .entry)))) ⌝ }
+            (tables (now (sdegrees .entry)) (now (ssides .entry)) (now (sends .entry)) (now (slengths .entry)) (now (svolumes .entry)) (now (slabels .entry))))) ⌝ }
     {
         let passed = pass_gate(
             degrees,
@@ -130,7 +130,7 @@ impl OpenSheet {
         slabels: &mut [u32],
         removals: u32,
     ) -> Fetched
-        ensures { λ r. ⌜ (limit : ℕ) → outcome
+        ensures { λ r. ⌜ ((limit : ℕ) → outcome
             (tables (now (degrees .entry)) (now (sides .entry)) (now (ends .entry)) (now (lengths .entry)) (now (volumes .entry)) (now (labels .entry)))
             (asCounts counts)
             (tables (now (sdegrees .exit)) (now (ssides .exit)) (now (sends .exit)) (now (slengths .exit)) (now (svolumes .exit)) (now (slabels .exit)))
@@ -138,7 +138,7 @@ impl OpenSheet {
             ≡ ownStep limit removals (fetches (asSheet self))
             (lent (tables (now (degrees .entry)) (now (sides .entry)) (now (ends .entry)) (now (lengths .entry)) (now (volumes .entry)) (now (labels .entry)))
             (asCounts counts)
-            (tables (now (sdegrees .entry)) (now (ssides .entry)) (now (sends .entry)) (now (slengths .entry)) (now (svolumes .entry)) (now (slabels .entry)))) ⌝ }
+            (tables (now (sdegrees .entry)) (now (ssides .entry)) (now (sends .entry)) (now (slengths .entry)) (now (svolumes .entry)) (now (slabels .entry))))) ⌝ }
     {
         let passed = pass_gate(
             degrees,
