@@ -24,9 +24,9 @@ ghost use Rattle.counters.specs.Quotes.{asQuote, commitReply};
 ghost use Rattle.tables.specs.Meaning.{tables};
 ghost use Rattle.admission.specs.Lent as own;
 ghost use Rattle.admission.specs.Own.{ownStep};
-ghost use Rattle.licence.specs.Meaning.{asHeads, asRemovals, lent};
+ghost use Rattle.licence.specs.Meaning.{asHeads, asRemovals, lent, outcome};
 ghost use Rattle.licence.specs.Others.{Long};
-ghost use Rattle.growing.specs.Left.{left, outcome, putOwn};
+ghost use Rattle.growing.specs.Left.{left, putOwn};
 
 // On the part of house h, with the limit that the licence comes to.
 fn commit_house(
@@ -49,7 +49,7 @@ fn commit_house(
 ) -> Committed
     requires { ⌜ (h < houses) × Long (tables (now degrees) (now sides) (now ends) (now lengths) (now volumes) (now labels)) ⌝ }
     ensures { λ r. ⌜ ((removals : ℕ) → left (tables (now (degrees .exit)) (now (sides .exit)) (now (ends .exit)) (now (lengths .exit)) (now (volumes .exit)) (now (labels .exit))) (asHeads (r .heads))
-        (tables (now (sdegrees .exit)) (now (ssides .exit)) (now (sends .exit)) (now (slengths .exit)) (now (svolumes .exit)) (now (slabels .exit))) (commitReply (r .answer))
+        (tables (now (sdegrees .exit)) (now (ssides .exit)) (now (sends .exit)) (now (slengths .exit)) (now (svolumes .exit)) (now (slabels .exit))) [] (commitReply (r .answer))
         ≡ putOwn h (tables (now (degrees .entry)) (now (sides .entry)) (now (ends .entry)) (now (lengths .entry)) (now (volumes .entry)) (now (labels .entry))) (asHeads heads)
         (ownStep limit removals (commits (asQuote quote))
         (own.lent (tablesIn h (tables (now (degrees .entry)) (now (sides .entry)) (now (ends .entry)) (now (lengths .entry)) (now (volumes .entry)) (now (labels .entry)))) (getD (asHeads heads) h noCounts)
@@ -151,4 +151,52 @@ pub fn commit_with(
             answer: CommitAnswer::Refused(refusal),
         },
     }
+}
+
+// What outsiders call: the heads are lent, and those of this house are updated in the caller's copy.
+pub fn commit(
+    heads: &mut Heads,
+    degrees: &mut [u16],
+    sides: &mut [u16],
+    ends: &mut [u16],
+    lengths: &mut [u32],
+    volumes: &mut [u32],
+    labels: &mut [u32],
+    shares: &[u16],
+    sdegrees: &mut [u16],
+    ssides: &mut [u16],
+    sends: &mut [u16],
+    slengths: &mut [u32],
+    svolumes: &mut [u32],
+    slabels: &mut [u32],
+    house: u32,
+    quote: Quote,
+) -> CommitAnswer
+    ensures { λ r. ⌜ outcome (tables (now (degrees .exit)) (now (sides .exit)) (now (ends .exit)) (now (lengths .exit)) (now (volumes .exit)) (now (labels .exit))) (now (heads .exit)) (now (shares .entry))
+        (tables (now (sdegrees .exit)) (now (ssides .exit)) (now (sends .exit)) (now (slengths .exit)) (now (svolumes .exit)) (now (slabels .exit))) [] (commitReply r)
+        ≡ step (inHouse house (commits (asQuote quote)))
+        (lent (tables (now (degrees .entry)) (now (sides .entry)) (now (ends .entry)) (now (lengths .entry)) (now (volumes .entry)) (now (labels .entry))) (now (heads .entry)) (now (shares .entry))
+        (tables (now (sdegrees .entry)) (now (ssides .entry)) (now (sends .entry)) (now (slengths .entry)) (now (svolumes .entry)) (now (slabels .entry)))) ⌝ }
+{
+    let c = *heads;
+    let r = commit_with(
+        c,
+        degrees,
+        sides,
+        ends,
+        lengths,
+        volumes,
+        labels,
+        shares,
+        sdegrees,
+        ssides,
+        sends,
+        slengths,
+        svolumes,
+        slabels,
+        house,
+        quote,
+    );
+    *heads = r.heads;
+    r.answer
 }
