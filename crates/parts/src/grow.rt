@@ -21,7 +21,7 @@ ghost use Rattle.counters.specs.Answers.{listReply};
 ghost use Rattle.tables.specs.Meaning.{tables};
 ghost use Rattle.admission.specs.Lent as own;
 ghost use Rattle.admission.specs.Own.{ownStep};
-ghost use Rattle.licence.specs.Meaning.{asHeads, asRemovals, lent};
+ghost use Rattle.licence.specs.Meaning.{asHeads, asRemovals};
 ghost use Rattle.licence.specs.Others.{Long};
 ghost use Rattle.parts.specs.Left.{left, putOwn};
 
