@@ -1,5 +1,5 @@
 -- Setting the shares: from the gate, which is asked for a house that is none of the eight, to the call.
-use mathlib.Core.Path.{_≡_, refl, sym, ap, _∙_}
+use mathlib.Core.Path.{_≡_, refl, sym, ap, ap₂, _∙_}
 use mathlib.Core.Logic.{_≢_}
 use Prim.Native.Nat.{ℕ, _≤_, _<_}
 use native.Mathlib.Omega.{arith}
@@ -16,7 +16,9 @@ use Rattle.nursery.specs.Licence.{houses, licence, overfull}
 use Rattle.nursery.specs.Nursery.{edgesIn, verticesIn, withShares}
 use Rattle.nursery.specs.Calls as call
 use Rattle.nursery.specs.Calls.{anyDamaged, anySome, barred, edgesBut, notGrown, nurseryFits, outOfPlace, ownOf, setsShares, step}
+use Rattle.model.proofs.Basics.Booleans.{and-true}
 use Rattle.nursery.proofs.Gate.{step-barred, step-open}
+use Rattle.nursery.proofs.Parts.{fits-sized}
 use Rattle.licence.specs.declared.heads.Heads.{Heads}
 use Rattle.licence.specs.Meaning.{lent, nursery, outcome}
 use Rattle.licence.specs.Gate.{barsWith, emptied, licenceIn, opensWith, passOthers, scratchPassed}
@@ -99,3 +101,52 @@ module _ (t : Tables) (heads : Heads) (ss : List ℕ) (s : Tables) (asked : List
             go true p true q o r = rw (fit-is, p, grown-is, q) (ap (λ (y : ℕ). some y) (sym (bars-same x 21 (rw (p, q) at e))))
             go true p false q true r = rw (fit-is, p, grown-is, q, r) (ap (λ (y : ℕ). some y) (sym (bars-same x 21 (rw (p, q, r) at e))))
             go true p false q false r = absurd (d (bars-same x 37 (rw (p, q, r) at e)))
+
+    -- nothing else bars it: so all eight fit, hold registers, and are within the licence
+    record Passed : Type 0 where
+      fit : (nurseryFits (nursery t heads ss) && fits s) ≡ true
+      grown : notGrown (ownOf (setsShares asked)) (nursery t heads ss) ≡ false
+
+    passed : barsWith 37 ≡ passOthers houses false l → Passed
+    unfolding passOthers licenceIn
+    passed e = go (nurseryFits (nursery t heads ss) && fits s) refl (anyDamaged (some houses) (nursery t heads ss) (upTo houses)) refl
+        (overfull ss (edgesBut (emptied houses false) (edgesIn (nursery t heads ss)))) refl
+      where
+        other : (x : ℕ) → 37 ≡ x → x < 37 → ⊥
+        other x q k = omega arith
+
+        go : (a : Bool) → (nurseryFits (nursery t heads ss) && fits s) ≡ a → (b : Bool) → anyDamaged (some houses) (nursery t heads ss) (upTo houses) ≡ b
+            → (o : Bool) → overfull ss (edgesBut (emptied houses false) (edgesIn (nursery t heads ss))) ≡ o → Passed
+        go false p b q o r = absurd (other 25 (bars-same 37 25 (rw p at e)) (omega arith))
+        go true p true q o r = absurd (other 21 (bars-same 37 21 (rw (p, q) at e)) (omega arith))
+        go true p false q true r = absurd (other 21 (bars-same 37 21 (rw (p, q, r) at e)) (omega arith))
+        go true p false q false r = record { fit = p; grown = grown-is ∙ rw (q, r) }
+
+    pub eight-shares : barsWith 37 ≡ passOthers houses false l → length ss ≡ houses
+    eight-shares e = (fits-sized (nursery t heads ss) ((and-true (nurseryFits (nursery t heads ss)) (fits s) ((passed e) .fit)) .0)) .1
+
+    -- then 37 or the shares
+    pub shares-done : (s′ : Tables) (us : List ℕ) (a : Reply) → barsWith 37 ≡ passOthers houses false l → s′ ≡ scratchPassed l
+        → answered us a ≡ allotIn asked (verticesOf heads) ss → outcome t heads us s′ [] a ≡ step (setsShares asked) l
+    unfolding barred outOfPlace allotIn verticesOf verticesIn call.lentSlice call.does withShares scratchPassed
+    shares-done s′ us a e z q = go (ltb licence (sum asked) || anySome (verticesOf heads)) refl
+      where
+        k : Passed
+        k = passed e
+
+        u : s′ ≡ cleared
+        u = z ∙ rw (k .fit)
+
+        go : (o : Bool) → (ltb licence (sum asked) || anySome (verticesOf heads)) ≡ o → outcome t heads us s′ [] a ≡ step (setsShares asked) l
+        go true o =
+            let w : answered us a ≡ answered ss (refuses 37) = rw o at q in
+            ap₂ (λ (x : Answered) (v : Tables). outcome t heads (x .shares) v [] (x .reply)) w (z ∙ sym scratch-is)
+            ∙ sym (step-barred (setsShares asked) l 37 (rw (fit-is, k .fit, k .grown, o)))
+        go false o =
+            let w : answered us a ≡ answered asked allotted = rw o at q in
+            ap₂ (λ (x : Answered) (v : Tables). outcome t heads (x .shares) v [] (x .reply)) w u
+            ∙ sym (step-open (setsShares asked) l (rw (fit-is, k .fit, k .grown, o)))
+
+  -- the gate is never open for a house that is none
+  pub never-open : (limit : ℕ) → opensWith limit ≡ passOthers houses false l → ⊥
+  never-open limit e = let k = open-known t heads ss s houses false limit e in omega (arith, k .0)
