@@ -1,1 +1,2 @@
 pub mod JoinLaws
+pub mod LandSteps
