@@ -81,7 +81,7 @@ pub fn grow_with(
     }
 }
 
-// What outsiders call: the heads are lent, and those of this house are updated in the caller's copy.
+// What outsiders call: the heads are lent, and the head of this house is updated in the caller's copy.
 pub fn grow(
     heads: &mut Heads,
     degrees: &mut [u16],
