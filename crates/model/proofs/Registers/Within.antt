@@ -8,7 +8,7 @@ use mathlib.Core.Bool.{Bool, true, false}
 use mathlib.Core.Option.{Option, none, some, Option·some-injective, Option·none-ne-some}
 use lib.ListN.{length}
 use lib.Dec.{leb}
-use borrow.Author.Tests.{eqb-false, le-leb, le-ltb, leb-true, lt-leb, lt-ltb, ne-eqb}
+use borrow.Author.Tests.{le-leb, le-ltb, leb-true, lt-leb, lt-ltb, ne-eqb}
 use Rattle.model.specs.Basics.{if_then_else_, maxEdges, maxLength, maxVolume}
 use Rattle.model.specs.Graph.{Edge}
 use Rattle.model.specs.Register.{Register, edgeRefusal, landEdge, landEdgeWithin}

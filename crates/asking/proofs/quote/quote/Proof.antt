@@ -1,5 +1,7 @@
 use mathlib.Core.Path.{refl, sym, ap, _∙_}
-use Rattle.model.specs.Calls.{quotes, registerFor, lentSlice, lentTo}
+use Rattle.model.specs.Calls.{quoting, lentTo}
+use Rattle.nursery.specs.Calls.{quotes, sliceOf}
+use Rattle.admission.specs.Own.{houseOf, registerFor}
 use Rattle.admission.specs.Gate.{gateRefusal}
 use Rattle.admission.proofs.GateLaws.{query-refused}
 use Rattle.asking.proofs.QuoteLaws.{quote-answers}
@@ -56,7 +58,7 @@ same-length-6 c = search needs
 returns : tie.Need-returns
 returns c =
     let at-pass-gate = c .before .before .before .before .before .before .before .before .before .before .before .before .before .before .before in
-    query-answered (quotes _) _ _ _ _ (ap gateRefusal (sym (c .before .enum-told .given .1)) ∙ at-pass-gate .pass-gate .ensures .0) (at-pass-gate .pass-gate .ensures .1) (quote-answers _ _ _ _ (c .quote-edge .ensures))
+    λ removals. query-answered _ removals (quoting _) _ _ _ _ (ap gateRefusal (sym (c .before .enum-told .given .1)) ∙ at-pass-gate .pass-gate .ensures .0) (at-pass-gate .pass-gate .ensures .1) (quote-answers _ removals _ _ _ _ (c .quote-edge .ensures))
 
 -- src/quote.rt:16:1
 same-length-7 : tie.Need-same-length-7
@@ -84,10 +86,10 @@ same-length-12 c = search needs
 
 -- src/quote.rt:16:1
 returns-2 : tie.Need-returns-2
-unfolding registerFor lentSlice lentTo
+unfolding registerFor sliceOf lentTo
 returns-2 c =
     let at-pass-gate = c .before .before .before .before .before .before .before .before .before .before .before .before .before .before .before in
-    query-refused (quotes _) _ refl _ _ (ap gateRefusal (sym (c .before .passed .given .1)) ∙ at-pass-gate .pass-gate .ensures .0) (at-pass-gate .pass-gate .ensures .1)
+    λ removals. query-refused _ removals (quotes _) _ refl _ _ (ap gateRefusal (sym (c .before .passed .given .1)) ∙ at-pass-gate .pass-gate .ensures .0) (at-pass-gate .pass-gate .ensures .1)
 
 pub quote-spec : {M : Type 1} → statement M
 quote-spec =

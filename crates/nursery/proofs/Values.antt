@@ -1,0 +1,42 @@
+-- The values of specs/Values, computed from the definitions.
+use mathlib.Core.Path.{refl}
+use Rattle.nursery.specs.Values.{Licences, Removals, eight, houseOf, removing, splitFirst}
+use Rattle.nursery.proofs.Computing.{settling}
+
+pub licences : Licences
+unfolding settling eight
+licences =
+    record {
+      just-full = refl;
+      share-passes = refl;
+      pipes-pass = refl;
+      limit = refl;
+      may-96th = refl;
+      not-97th = refl;
+      below-share = refl;
+      at-share = refl;
+      kept-for-others = refl;
+      no-shares = refl;
+    }
+
+pub removals : Removals
+unfolding settling houseOf removing splitFirst
+removals =
+    record {
+      report = refl;
+      reported-three = refl;
+      head = refl;
+      rows = refl;
+      later-move = refl;
+      one-birth = refl;
+      counted = refl;
+      too-short = refl;
+      nothing-differs = refl;
+      total-before = refl;
+      total-after = refl;
+      no-such-pipe = refl;
+      last-removal = refl;
+      no-more-removals = refl;
+      grow-clears = refl;
+      land-keeps = refl;
+    }

@@ -1,0 +1,80 @@
+-- Values of document 02, S-10 and S-11, to be computed from the definitions: licences by house, what a call does to a house, and one series of
+-- calls.
+use mathlib.Core.Path.{_≡_}
+use Prim.Native.Nat.{ℕ, _-_}
+use mathlib.Core.Bool.{true, false}
+use mathlib.Core.List.{List, [], _∷_, _++_}
+use lib.ListN.{length, replicate}
+use Rattle.model.specs.Basics.{maxEdges}
+use Rattle.model.specs.Format.{listOf, growList}
+use Rattle.model.specs.Queries.{refuses, reported, sheetNumbers}
+use Rattle.model.specs.Tables.{countsOf}
+use Rattle.model.specs.Calls.{House}
+use Rattle.model.specs.Values.{edge, house}
+use Rattle.nursery.specs.Licence.{limitOf, mayLand, overfull}
+use Rattle.nursery.specs.Calls.{Effect, effect, grows, lands, removes}
+
+-- ---- S-10: the licence of one house
+
+-- eight numbers: these in front, and 0 for the other houses
+unfoldable pub eight : List ℕ → List ℕ
+eight ns = ns ++ replicate (8 - length ns) 0
+
+pub record Licences : Type 0 where
+  -- "the larger of share and pipes, summed over them, passes 4,096"
+  pub just-full : overfull (eight (90 ∷ 4006 ∷ [])) (eight (50 ∷ 4000 ∷ [])) ≡ false
+  pub share-passes : overfull (eight (90 ∷ 4007 ∷ [])) (eight (50 ∷ 4000 ∷ [])) ≡ true
+  pub pipes-pass : overfull (eight (90 ∷ 0 ∷ [])) (eight (50 ∷ 4007 ∷ [])) ≡ true
+  -- share 90, others 4,000, 50 of its own: the 96th pipe may land, and the 97th may not
+  pub limit : limitOf 0 (eight (90 ∷ 0 ∷ [])) (eight (50 ∷ 4000 ∷ [])) ≡ 96
+  pub may-96th : mayLand 0 (eight (90 ∷ 0 ∷ [])) (eight (95 ∷ 4000 ∷ [])) ≡ true
+  pub not-97th : mayLand 0 (eight (90 ∷ 0 ∷ [])) (eight (96 ∷ 4000 ∷ [])) ≡ false
+  -- below its share it may, whatever the others have
+  pub below-share : mayLand 0 (eight (90 ∷ 0 ∷ [])) (eight (89 ∷ 4006 ∷ [])) ≡ true
+  pub at-share : mayLand 0 (eight (90 ∷ 0 ∷ [])) (eight (90 ∷ 4006 ∷ [])) ≡ false
+  -- the others' unused shares are kept for them, and their own does not count twice
+  pub kept-for-others : limitOf 2 (eight (90 ∷ 4000 ∷ [])) (eight (50 ∷ 10 ∷ 6 ∷ [])) ≡ 6
+  -- no shares: first come, first served
+  pub no-shares : limitOf 2 (eight []) (eight (50 ∷ 10 ∷ 6 ∷ [])) ≡ 4036
+
+-- ---- S-11: what a removal does to a house
+
+-- a house of this list, without a licence, from which pipes were taken out so often
+unfoldable pub houseOf : List ℕ → ℕ → House
+houseOf bs removals = record { register = (growList bs) .register; limit = maxEdges; removals = removals }
+
+-- what removing pipe d leaves there and in a slice of so many sevens, and answers
+unfoldable pub removing : ℕ → ℕ → List ℕ → Effect
+removing d room bs = effect (removes d (replicate room 7)) (houseOf bs 3)
+
+-- two runs, the coupling of the first split by the pipe 1-7, and then joined
+unfoldable pub splitFirst : List ℕ
+splitFirst = listOf 8 (edge 0 1 1 ∷ edge 1 2 1 ∷ edge 1 7 1 ∷ edge 3 4 1 ∷ edge 4 5 1 ∷ edge 5 6 1 ∷ edge 2 3 1 ∷ [])
+
+pub record Removals : Type 0 where
+  -- document 01's house without pipe 4, which joined its runs: a fitting that ceases to be a coupling, one that becomes one, one with another
+  -- tag
+  pub report : (removing 4 10 house) .slice ≡ 2 ∷ 8193 ∷ 0 ∷ 3 ∷ 0 ∷ 16383 ∷ 4 ∷ 8195 ∷ 16384 ∷ 7 ∷ []
+  pub reported-three : (removing 4 9 house) .reply ≡ reported 3
+  -- births and re-hung total are those of the new landing, and pipe 5 is now pipe 4
+  pub head : countsOf ((removing 4 9 house) .leaves) ≡ record { vertices = 7; edges = 5; blocks = 2; relabellings = 0 }
+  pub rows : sheetNumbers ((removing 4 9 house) .leaves) ≡ 0 ∷ 0 ∷ 2 ∷ 1 ∷ 3000 ∷ 0 ∷ 2 ∷ 5 ∷ 6 ∷ 2 ∷ 2100 ∷ 0 ∷ []
+  -- without pipe 1 the later ones move down by one, and so do the births
+  pub later-move : (removing 1 9 house) .slice ≡ 1 ∷ 8192 ∷ 0 ∷ 2 ∷ 8193 ∷ 0 ∷ 4 ∷ 8195 ∷ 8192 ∷ []
+  pub one-birth : countsOf ((removing 1 9 house) .leaves) ≡ record { vertices = 7; edges = 5; blocks = 1; relabellings = 0 }
+  pub counted : (removing 4 9 house) .removals ≡ 4
+  -- a slice too short gives 9, and changes nothing
+  pub too-short : removing 4 8 house ≡ record { leaves = (growList house) .register; removals = 3; slice = replicate 8 7; reply = refuses 9 }
+  -- no tag differs: nothing to report, into no slice
+  pub nothing-differs : removing 0 0 (listOf 2 (edge 0 1 5 ∷ []))
+      ≡ record { leaves = (growList (listOf 2 [])) .register; removals = 4; slice = []; reply = reported 0 }
+  -- the total of the new landing may be greater than the old one: the first run has its coupling again, and gives way
+  pub total-before : (growList splitFirst) .register .relabellings ≡ 0
+  pub total-after : (removing 2 24 splitFirst) .leaves .relabellings ≡ 1
+  -- 38: no such pipe, before 9; and a count at its largest
+  pub no-such-pipe : (removing 6 0 house) .reply ≡ refuses 38
+  pub last-removal : (effect (removes 4 (replicate 9 7)) (houseOf house 4294967294)) .removals ≡ 4294967295
+  pub no-more-removals : (effect (removes 4 (replicate 9 7)) (houseOf house 4294967295)) .reply ≡ refuses 38
+  -- a grow clears the count, a landing does not
+  pub grow-clears : (effect (grows house) (houseOf house 3)) .removals ≡ 0
+  pub land-keeps : (effect (lands (listOf 1 [])) (houseOf house 3)) .removals ≡ 3
