@@ -60,6 +60,7 @@ module _ (t t′ s s′ s″ : Tables) (heads heads′ : Heads) (ss : List ℕ) 
   kept-count r = r ∙ sym (set-getD (asRemovals heads) house 0)
 
   module _ (e : opensWith limit ≡ passOthers house false (lent t heads ss s)) (z : s′ ≡ scratchPassed (lent t heads ss s)) (r : asRemovals heads′ ≡ asRemovals heads) where
+    -- what a land and a commit leave and answer, the other houses as they were, is what the call for the house does
     pub land-joined : (bs : List ℕ) → Done (lands bs) → outcome t′ heads′ ss s″ [] a ≡ step (inHouse house (lands bs)) (lent t heads ss s)
     land-joined bs f =
         let k = removalsIn house (nursery t heads ss) in
@@ -70,6 +71,7 @@ module _ (t t′ s s′ s″ : Tables) (heads heads′ : Heads) (ss : List ℕ) 
         let k = removalsIn house (nursery t heads ss) in
         own-done false (commits q) k k e z f (kept-count r) ∙ committed-step house (lent t heads ss s) limit q (sym e)
 
+  -- so is what a grow does, with the count of removals back at 0
   pub grow-joined : opensWith limit ≡ passOthers house true (lent t heads ss s) → s′ ≡ scratchPassed (lent t heads ss s) → asRemovals heads′ ≡ set (asRemovals heads) house 0
       → (bs : List ℕ) → Done (grows bs) → outcome t′ heads′ ss s″ [] a ≡ step (inHouse house (grows bs)) (lent t heads ss s)
   grow-joined e z r bs f = own-done true (grows bs) 0 0 e z f r ∙ grown-step house (lent t heads ss s) limit 0 bs (sym e)

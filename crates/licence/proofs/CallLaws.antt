@@ -40,6 +40,7 @@ module _ (h : ℕ) (degrees sides ends lengths volumes labels : List ℕ) where
   two : 8192 * h + 8192 - 8192 * h ≡ 8192
   two = omega arith
 
+  -- they are the tables of the house
   pub parts-are : cut ≡ tablesIn h (tables degrees sides ends lengths volumes labels)
   unfolding tablesIn part
   parts-are = rw (one, two)

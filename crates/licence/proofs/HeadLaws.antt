@@ -87,6 +87,7 @@ heads-put heads h own a b c e f g i j ns p0 p1 p2 p3 p4 p5 p6 p7 =
 
 -- ---- the counts of removals
 
+-- the count that is put, and any other
 pub removals-put : (heads : Heads) (i h count : ℕ) → i < houses → i ≡ h → count ≡ getD (set (asRemovals heads) h count) i 0
 unfolding asRemovals
 removals-put heads i h count l e = sym (ap (λ (k : ℕ). getD (set (asRemovals heads) k count) i 0) (sym e) ∙ getD-set-same (asRemovals heads) i count 0 l)

@@ -40,6 +40,7 @@ module _ (h : ℕ) (degrees sides ends lengths volumes labels : List ℕ) (c : C
   two : 8192 * h + 8192 - 8192 * h ≡ 8192
   two = omega arith
 
+  -- the replay of this part tells whether the house holds a register
   pub part-held : Regrows r
       (tables
       (take (4096 * h + 4096 - 4096 * h) (drop (4096 * h) degrees))

@@ -35,14 +35,17 @@ module _ (ss : List ℕ) (heads : Heads) (house : ℕ) where
   abbrev ns : List ℕ
   ns = edgesOf heads
 
+  -- a number that is none of the eight keeps nothing
   pub own-none : (grows : Bool) → 7 < house → 0 ≡ ownReserve house grows ss ns
   unfolding ownReserve
   own-none grows l = rw (le-ltb house houses (omega (arith, l)))
 
+  -- a house that is grown counts as empty, and keeps its share
   pub own-grown : (grows : Bool) (s r : ℕ) → house ≤ 7 → grows ≡ true → s ≡ getD ss house 0 → r ≡ max s 0 → r ≡ ownReserve house grows ss ns
   unfolding ownReserve
   own-grown grows s r l g p e = rw (lt-ltb house houses (omega (arith, l)), g, ← p) e
 
+  -- any other keeps the larger of its share and its edges
   pub own-edges : (grows : Bool) (s r : ℕ) (own : Counts) → house ≤ 7 → grows ≡ false → s ≡ getD ss house 0 → own ≡ getD (asHeads heads) house noCounts
       → r ≡ max s (own .edges) → r ≡ ownReserve house grows ss ns
   unfolding ownReserve
@@ -80,6 +83,7 @@ module _ (ss : List ℕ) (heads : Heads) (house : ℕ) (grows : Bool) (eight : l
           let z : sum (set (reserves ss es) house 0) ≡ sum (reserves ss es) = ap sum (set-out (reserves ss es) house 0 (omega (arith, l, eight, reserves-long ss es as-many))) in
           rw g (omega (arith, k, o, z))
 
+  -- the sum passes the licence: the gate is barred with 21
   pub sum-passes : 4096 < others + own → barsWith 21 ≡ licenceIn house grows ss es
   unfolding licenceIn overfull
   sum-passes l = rw (lt-ltb licence (sum (reserves ss (edgesBut (emptied house grows) es))) (omega (arith, l, both-are)))
@@ -88,10 +92,12 @@ module _ (ss : List ℕ) (heads : Heads) (house : ℕ) (grows : Bool) (eight : l
   unfolding overfull
   not-over l = le-ltb licence (sum (reserves ss (edgesBut (emptied house grows) es))) (omega (arith, l, both-are))
 
+  -- it does not, but there is no such house: 37
   pub no-house : others + own ≤ 4096 → 7 < house → barsWith 37 ≡ licenceIn house grows ss es
   unfolding licenceIn
   no-house l k = rw (not-over l, le-ltb house houses (omega (arith, k)))
 
+  -- neither: the gate opens, and the limit is what the others leave of the licence
   pub limit-left : (limit : ℕ) → others + own ≤ 4096 → house ≤ 7 → limit ≡ 4096 - others → opensWith limit ≡ licenceIn house grows ss es
   unfolding licenceIn limitOf
   limit-left limit l k e = rw (not-over l, lt-ltb house houses (omega (arith, k)), e, o)

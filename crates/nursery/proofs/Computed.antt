@@ -214,6 +214,7 @@ unfoldable pub opened : Unit {0}
 unfolding made here none unfit left counted answers stops short calls ringed standing fifthQuote sixthQuote declinedQuote committing every pairwise line lastOfLine shared settled sharedReplies eight
 opened = tt
 
+-- the series with lists that stop and calls that are refused
 pub called : Called
 unfolding settling opened
 called =
@@ -231,6 +232,7 @@ called =
       distance = refl;
     }
 
+-- the series with a ring that is tapped
 pub rings : Ringed
 unfolding settling opened
 rings =
@@ -246,6 +248,7 @@ rings =
       distance = refl;
     }
 
+-- the series with a ring that stands at the end
 pub stands : Standing
 unfolding settling opened
 stands =
@@ -262,6 +265,7 @@ stands =
       to-chain = refl;
     }
 
+-- the series with two edges that are committed
 pub commitments : Committing
 unfolding settling opened
 commitments =
@@ -277,10 +281,12 @@ commitments =
       find-8195 = refl;
     }
 
+-- the series in which many labels change
 pub pairs : Pairwise
 unfolding settling opened
 pairs = record { accepted = refl; relabelled = refl; logarithm = refl }
 
+-- the series of three houses on one licence
 pub shares : Shared
 unfolding settling opened
 shares =

@@ -30,6 +30,7 @@ use Rattle.nursery.proofs.Effects.{does-house}
 
 -- ---- the two ways of a call
 
+-- a call that nothing bars does what it is defined to do
 pub step-open : (c : Call) (l : Lent) → barred c l ≡ none → step c l ≡ does c (l .nursery)
 unfolding step
 step-open c l e = rw (e, step)
@@ -74,6 +75,7 @@ at-gate c l =
     (if-either AtGate (notGrown (ownOf c) (l .nursery)) (some 21) _ (inr (inl refl))
     (if-either AtGate (outOfPlace c (verticesIn (l .nursery))) (some 37) none (inr (inr refl)) tt))
 
+-- whatever bars a call is one of these three
 pub barred-by : (c : Call) (l : Lent) (x : ℕ) → barred c l ≡ some x → (x ≡ 25) ⊎ ((x ≡ 21) ⊎ (x ≡ 37))
 barred-by c l x e = subst AtGate e (at-gate c l)
 
@@ -147,6 +149,7 @@ not-none h n d = go (held (storedIn h n)) refl
     go (some r) e = rw (e, registerIn)
     go none e = absurd (d e)
 
+-- a call that nothing bars has all of this
 pub is-open : (c : Call) (l : Lent) → barred c l ≡ none → Open c l
 unfolding barred allFit notGrown overfull
 is-open c l e =

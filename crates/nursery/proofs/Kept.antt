@@ -38,6 +38,7 @@ edges-put : (h : ℕ) (r : Register) (removals : ℕ) (s : Site) → edgesAt (pu
 unfolding edgesAt putAt
 edges-put h r removals s = map-set (λ (x : Register). length (x .edges)) (s .registers) h r
 
+-- the house has the register that is put, and any other house its own
 pub register-put : (h : ℕ) (r : Register) (removals : ℕ) (s : Site) → h < length (s .registers) → registerAt h (putAt h r removals s) ≡ r
 unfolding registerAt putAt
 register-put h r removals s l = getD-set-same (s .registers) h r empty l
@@ -46,6 +47,7 @@ pub register-other : (g h : ℕ) (r : Register) (removals : ℕ) (s : Site) → 
 unfolding registerAt putAt
 register-other g h r removals s d = getD-set-other (s .registers) h g r empty d
 
+-- any other house has its own count of removals
 pub removals-other : (g h : ℕ) (r : Register) (removals : ℕ) (s : Site) → g ≢ h → removalsAt g (putAt h r removals s) ≡ removalsAt g s
 unfolding removalsAt putAt
 removals-other g h r removals s d = getD-set-other (s .removals) h g removals 0 d
@@ -221,5 +223,6 @@ module _ (n : Nursery) (s : Site) (o : Sound s) (k : Holds n s) where
         left = λ h l ls b. rw (f, p) (d .left h l ls b);
       }
 
+  -- every call keeps the eight houses sound and held, and is answered as the calls alone settle it
   pub call-does : (m : Made) → CallDoes m n s
   call-does m = by-tests (m .call) (m .scratch) (fits (m .scratch) && bringsEight (m .call)) refl (outOfPlace (m .call) (verticesAt s)) refl

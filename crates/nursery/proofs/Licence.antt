@@ -27,6 +27,7 @@ sum-but (x ∷ xs) (suc h) l = omega (arith, sum-but xs h (omega arith))
 
 -- ---- the larger of share and edges
 
+-- the number of each house in the list is the larger of its own two
 pub reserve-at : (ss ns : List ℕ) (h : ℕ) → length ss ≡ length ns → h < length ss → getD (reserves ss ns) h 0 ≡ max (getD ss h 0) (getD ns h 0)
 unfolding reserves
 reserve-at [] ns h e l = absurd (omega arith)
@@ -34,6 +35,7 @@ reserve-at (s ∷ ss) [] h e l = absurd (omega arith)
 reserve-at (s ∷ ss) (n ∷ ns) zero e l = refl
 reserve-at (s ∷ ss) (n ∷ ns) (suc h) e l = reserve-at ss ns h (omega arith) (omega arith)
 
+-- there is one for each house
 pub reserves-long : (ss ns : List ℕ) → length ss ≡ length ns → length (reserves ss ns) ≡ length ss
 unfolding reserves
 reserves-long [] ns e = refl
@@ -48,6 +50,7 @@ reserves-set (s ∷ ss) [] h n e l = absurd (omega arith)
 reserves-set (s ∷ ss) (m ∷ ns) zero n e l = refl
 reserves-set (s ∷ ss) (m ∷ ns) (suc h) n e l = ap (λ (xs : List ℕ). max s m ∷ xs) (reserves-set ss ns h n (omega arith) (omega arith))
 
+-- the edges of all are within the sum
 pub edges-most : (ss ns : List ℕ) → length ss ≡ length ns → sum ns ≤ sum (reserves ss ns)
 unfolding reserves sum
 edges-most [] [] e = omega arith
@@ -87,9 +90,11 @@ module _ (h : ℕ) (ss ns : List ℕ) (e : length ss ≡ length ns) (l : h < len
   abbrev others : ℕ
   others = sum (set (reserves ss ns) h 0)
 
+  -- the sum is what the house keeps and what the others keep
   pub whole : sum (reserves ss ns) ≡ max (getD ss h 0) (getD ns h 0) + others
   whole = rw (← reserve-at ss ns h e l) (sum-but (reserves ss ns) h (omega (arith, reserves-long ss ns e)))
 
+  -- so it is with any other number of edges in the house
   pub put : (n : ℕ) → sum (reserves ss (set ns h n)) ≡ max (getD ss h 0) n + others
   put n = rw (reserves-set ss ns h n e l) (sum-put (reserves ss ns) h (max (getD ss h 0) n) (omega (arith, reserves-long ss ns e)))
 

@@ -49,6 +49,7 @@ edges-eight : (n : Nursery) → length (n .heads) ≡ houses → length (edgesIn
 unfolding edgesIn
 edges-eight n e = length-map (n .heads) (λ (c : Counts). c .edges) ∙ e
 
+-- there are as many shares as numbers of edges, and one is that of the house
 pub as-many : (n : Nursery) (h : ℕ) → Among h n → length (n .shares) ≡ length (edgesIn n)
 as-many n h a = a .eight-shares ∙ sym (a .eight-edges)
 
@@ -65,6 +66,7 @@ empty-within h (commits q) n l e w = omega (arith, w, without-own h (n .shares) 
 empty-within h (removes d slice) n l e w = omega (arith, w, without-own h (n .shares) (edgesIn n) e l)
 empty-within h (asks q) n l e w = omega (arith, w, without-own h (n .shares) (edgesIn n) e l)
 
+-- a call for a house that nothing bars shows all this of it
 pub among : (h : ℕ) (c : HouseCall) (l : Lent) → length (l .nursery .heads) ≡ houses → Open (inHouse h c) l → Among h (l .nursery)
 unfolding ownOf
 among h c l e o =

@@ -153,6 +153,7 @@ module _ (h : ℕ) (l : h < houses) (n : ℕ) (xs ys : List ℕ) (e : length xs 
   still-long = part-length n h xs ys long one ∙ e
 
 module _ (h : ℕ) (own t : Tables) (l : h < houses) (o : Sized 1 own) (s : Sized houses t) where
+  -- the tables that are put into house h are read there
   pub house-own : tablesIn h (putTables h own t) ≡ own
   unfolding tablesIn putTables
   house-own =
@@ -164,6 +165,7 @@ module _ (h : ℕ) (own t : Tables) (l : h < houses) (o : Sized 1 own) (s : Size
       (own-part h l maxEdges (t .volumes) (own .volumes) (s .volumes-long) (o .volumes-long))
       (own-part h l maxVertices (t .labels) (own .labels) (s .labels-long) (o .labels-long))
 
+  -- any other house has its own
   pub house-other : (g : ℕ) → g ≢ h → tablesIn g (putTables h own t) ≡ tablesIn g t
   unfolding tablesIn putTables
   house-other g d =
@@ -175,6 +177,7 @@ module _ (h : ℕ) (own t : Tables) (l : h < houses) (o : Sized 1 own) (s : Size
       (other-part h l maxEdges (t .volumes) (own .volumes) (s .volumes-long) (o .volumes-long) g d)
       (other-part h l maxVertices (t .labels) (own .labels) (s .labels-long) (o .labels-long) g d)
 
+  -- and the tables are as long as before
   pub house-sized : Sized houses (putTables h own t)
   unfolding putTables
   house-sized =
@@ -187,6 +190,7 @@ module _ (h : ℕ) (own t : Tables) (l : h < houses) (o : Sized 1 own) (s : Size
         labels-long = still-long h l maxVertices (t .labels) (own .labels) (s .labels-long) (o .labels-long);
       }
 
+-- the tables of a house put there again change nothing
 pub house-same : (h : ℕ) (t : Tables) → putTables h (tablesIn h t) t ≡ t
 unfolding tablesIn putTables
 house-same h t =
@@ -200,6 +204,7 @@ house-same h t =
 
 -- ---- eight cleared houses
 
+-- they have the lengths of eight houses
 pub cleared-sized : Sized houses (noHouses .tables)
 unfolding noHouses
 cleared-sized =
@@ -212,6 +217,7 @@ cleared-sized =
       labels-long = length-replicate {A = ℕ} (houses * maxVertices) 0;
     }
 
+-- each of them has cleared tables
 pub house-cleared : (h : ℕ) → h < houses → tablesIn h (noHouses .tables) ≡ cleared
 unfolding tablesIn noHouses cleared
 house-cleared h l =
@@ -228,12 +234,14 @@ house-cleared h l =
 abbrev rightAll : List ℕ
 rightAll = map (λ (k : ℕ). houses * k) rightSizes
 
+-- tables of eight houses and eight shares fit
 pub sized-fits : (n : Nursery) → Sized houses (n .tables) → length (n .shares) ≡ houses → nurseryFits n ≡ true
 unfolding nurseryFits sizes rightSizes
 sized-fits n s e =
     let fit : eqList (sizes (n .tables)) rightAll ≡ true = rw (s .degrees-long, s .sides-long, s .ends-long, s .lengths-long, s .volumes-long, s .labels-long) (eqList-refl rightAll) in
     and-intro fit (eq-eqb (length (n .shares)) houses e)
 
+-- and no others do
 pub fits-sized : (n : Nursery) → nurseryFits n ≡ true → Sized houses (n .tables) × (length (n .shares) ≡ houses)
 unfolding nurseryFits sizes rightSizes
 fits-sized n f =

@@ -303,6 +303,7 @@ numbers-three (c ∷ cs) = omega (arith, numbers-three cs)
 
 -- ---- what a removal that is not refused leaves and tells
 
+-- the remaining edges, landed and counted anew on the vertices that were there, and a report of every label that changed
 pub taken-out : (s : House) → Reachable (s .register) → (d room : ℕ) (r : Register) (cs : List Change) → remove s d room ≡ removed r cs → TakenOut (s .register) d r cs
 taken-out s c d room r cs q =
     let f = founded (s .register) c in

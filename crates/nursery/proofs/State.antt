@@ -112,9 +112,11 @@ unfolding upTo
 all-houses = in-range 0 houses houses (omega arith)
 
 module _ (n : Nursery) (s : Site) (o : Sound s) (k : Holds n s) where
+  -- each house holds the register that the calls settle
   pub held-is : (h : ℕ) → h < houses → held (storedIn h n) ≡ some (registerAt h s)
   held-is h l = ap held (stored-is n s k h l) ∙ kept-held (registerAt h s) (kept (registerAt h s) (o .reachable h l))
 
+  -- so it has the limit and the count that they settle
   pub house-is : (h : ℕ) → h < houses → houseIn h n ≡ houseAt h s
   unfolding houseIn houseAt
   house-is h l = house-parts (held-register h n (registerAt h s) (held-is h l)) (limit-is n s k h) (removals-is n s k h)
@@ -157,6 +159,7 @@ module _ (n : Nursery) (s : Site) (o : Sound s) (k : Holds n s) where
 
 -- ---- at the start of a series
 
+-- every house has the empty register
 pub empty-register : (h : ℕ) → h < houses → registerAt h emptySite ≡ empty
 unfolding registerAt emptySite
 empty-register h l = getD-replicate houses h empty empty l
@@ -165,6 +168,7 @@ no-reserves : sum (reserves (emptySite .shares) (edgesAt emptySite)) ≡ 0
 unfolding emptySite edgesAt reserves sum empty
 no-reserves = refl
 
+-- eight empty registers are sound
 pub sound-empty : Sound emptySite
 unfolding emptySite
 sound-empty =
@@ -188,6 +192,7 @@ cleared-is : cleared ≡ tablesOf empty
 unfolding computing
 cleared-is = refl
 
+-- and cleared houses hold them
 pub holds-empty : Holds noHouses emptySite
 holds-empty =
     record {

@@ -58,6 +58,7 @@ module _ (h d : ℕ) (slice : List ℕ) (l : Lent) where
   unfolding effect
   removes-as e x q = step-effect h (removes d slice) l (removeEffect s slice x) e (ap (removeEffect s slice) q)
 
+  -- a removal that is reported took the edge out, was counted, and told what it changed
   pub reported-as : length (l .nursery .heads) ≡ houses → length (l .nursery .removals) ≡ houses → (k : ℕ)
       → (step (inHouse h (removes d slice)) l) .reply ≡ reported k → RemovedAs h d slice (l .nursery) (step (inHouse h (removes d slice)) l) k
   unfolding removeEffect ownOf grownBy isOwn houseIn

@@ -60,6 +60,7 @@ vertex-22 r x h = go (leb maxVertices (r .vertices)) h
     go true g = cc
     go false g = absurd (not-refused x (withVertex r) (sym g))
 
+-- what an edge is refused with is a refusal that holds of it
 pub edge-refused : (limit : ℕ) (r : Register) (e : Edge) (x : ℕ) → landEdgeWithin limit r e ≡ refused x → edgeRefusal limit r e ≡ some x
 edge-refused limit r e x h = go (edgeRefusal limit r e) refl (sym (land-edge-by limit r e) ∙ h)
   where
@@ -264,6 +265,7 @@ records-room limit version (suc n) k r (kind ∷ bs) l = go (firstRecord version
     go (edge c rest) e ih = on-edge c rest e (landEdgeWithin maxEdges r c) refl ih
     go (bad x) e ih = rw (e, landRecords)
 
+-- such a list is read as without a limit
 pub list-room : (limit : ℕ) (r : Register) (bs : List ℕ) → length ((landList maxEdges r bs) .register .edges) ≤ limit → landList limit r bs ≡ landList maxEdges r bs
 unfolding landList
 list-room limit r bs = go (headerRefusal bs) refl
@@ -289,6 +291,7 @@ never =
       on-edge = λ r e r′ d q w. w;
     }
 
+-- whatever the list, it does not stop with 36
 pub never-36 : (bs : List ℕ) (k : ℕ) → (growList bs) .stop ≢ stopped k 36
 unfolding growList
 never-36 bs k h = subst Not36 h (list-keeps maxEdges (λ r d. Not36 (d .stop)) never empty bs) refl

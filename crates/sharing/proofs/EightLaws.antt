@@ -21,6 +21,7 @@ use Rattle.sharing.specs.Meaning.{verticesOf}
 
 -- ---- sums
 
+-- the number of one house more in the sum so far
 pub sum-on : (xs : List ℕ) (h n m : ℕ) → length xs ≡ houses → h < 8 → m ≡ getD xs h 0 → n + sum (drop h xs) ≡ sum xs → (n + m) + sum (drop (h + 1) xs) ≡ sum xs
 unfolding sum
 sum-on xs h n m eight l e q =
@@ -28,6 +29,7 @@ sum-on xs h n m eight l e q =
     let j : sum (drop (h + 1) xs) ≡ sum (drop (suc h) xs) = ap (λ (i : ℕ). sum (drop i xs)) (add-one h) in
     omega (arith, d, j, e, q)
 
+-- behind the last it is the sum of all
 pub sum-all : (xs : List ℕ) (h n : ℕ) → length xs ≡ houses → 8 ≤ h → n + sum (drop h xs) ≡ sum xs → n ≡ sum xs
 unfolding sum
 sum-all xs h n eight a q =
@@ -51,14 +53,17 @@ module _ (heads : Heads) (h : ℕ) (own : Counts) (w : own ≡ getD (asHeads hea
       ∙ ap (λ (x : ℕ). x ∷ drop (suc h) (verticesOf heads)) (vertices-at heads h ∙ ap (λ (c : Counts). c .vertices) (sym w))
       ∙ ap (λ (i : ℕ). own .vertices ∷ drop i (verticesOf heads)) (sym (add-one h))
 
+  -- a house with a vertex: one is not empty
   pub some-here : own .vertices ≢ 0 → anySome (drop h (verticesOf heads)) ≡ anySome (verticesOf heads) → true ≡ anySome (verticesOf heads)
   unfolding anySome
   some-here d q = sym (rw (here, anySome, ne-eqb (own .vertices) 0 d)) ∙ q
 
+  -- a house without: the houses behind it tell
   pub none-here : own .vertices ≡ 0 → anySome (drop h (verticesOf heads)) ≡ anySome (verticesOf heads) → anySome (drop (h + 1) (verticesOf heads)) ≡ anySome (verticesOf heads)
   unfolding anySome
   none-here e q = sym (rw (here, anySome, eq-eqb (own .vertices) 0 e)) ∙ q
 
+-- behind the last: all are empty
 pub none-left : (heads : Heads) (h : ℕ) → 8 ≤ h → anySome (drop h (verticesOf heads)) ≡ anySome (verticesOf heads) → false ≡ anySome (verticesOf heads)
 unfolding anySome
 none-left heads h l q = sym (ap anySome (drop-of-length-le (verticesOf heads) {i = h} (omega (arith, l, eight-vertices heads)))) ∙ q

@@ -29,6 +29,7 @@ use Rattle.sharing.specs.Meaning.{Answered, allotIn, answered, verticesO
 -- ---- 37, or the shares that are asked for
 
 module _ (asked vertices shares : List ℕ) where
+  -- more than the licence: 37, and the shares stay
   pub too-much : licence < sum asked → answered shares (refuses 37) ≡ allotIn asked vertices shares
   unfolding allotIn
   too-much l = rw (lt-ltb licence (sum asked) l)
@@ -37,10 +38,12 @@ module _ (asked vertices shares : List ℕ) where
   or-true true = refl
   or-true false = refl
 
+  -- a house that is not empty: 37 too
   pub not-empty : true ≡ anySome vertices → answered shares (refuses 37) ≡ allotIn asked vertices shares
   unfolding allotIn
   not-empty h = rw (← h) (rw (or-true (ltb licence (sum asked))))
 
+  -- neither: the shares are those that are asked for
   pub all-set : (us : List ℕ) → sum asked ≤ licence → anySome vertices ≡ false → us ≡ asked → answered us allotted ≡ allotIn asked vertices shares
   unfolding allotIn
   all-set us l h e = rw (le-ltb licence (sum asked) l, h) (ap (λ (x : List ℕ). answered x allotted) e)
@@ -122,6 +125,7 @@ module _ (t : Tables) (heads : Heads) (ss : List ℕ) (s : Tables) (asked : List
         go true p false q true r = absurd (other 21 (bars-same 37 21 (rw (p, q, r) at e)) (omega arith))
         go true p false q false r = record { fit = p; grown = grown-is ∙ rw (q, r) }
 
+    -- so the shares that stand are eight
     pub eight-shares : barsWith 37 ≡ passOthers houses false l → length ss ≡ houses
     eight-shares e = (fits-sized (nursery t heads ss) ((and-true (nurseryFits (nursery t heads ss)) (fits s) ((passed e) .fit)) .0)) .1
 

@@ -81,6 +81,7 @@ not-39 r s =
 
 -- another count of removals ends a sheet, and nothing else does
 module _ (removals : ℕ) (r : Register) (s : OpenSheet) where
+  -- a sheet of another count is refused with 39
   pub fetch-ended : s .removals ≢ removals → fetch removals r s ≡ refuses 39
   unfolding fetch isEnded
   fetch-ended d = rw (ne-eqb (s .removals) removals d)
@@ -89,15 +90,18 @@ module _ (removals : ℕ) (r : Register) (s : OpenSheet) where
   unfolding isEnded
   not-ended e = rw (eq-eqb (s .removals) removals e)
 
+  -- and 39 tells that its count is another
   pub only-ended : fetch removals r s ≡ refuses 39 → s .removals ≢ removals
   unfolding fetch
   only-ended e d = not-39 r s (rw (not-ended d) at e)
 
 module _ (removals : ℕ) (r : Register) (s : OpenSheet) (c : s .removals ≡ removals) where
+  -- a sheet that is beyond the register is refused with 33
   pub fetch-beyond : isBeyond r s ≡ true → fetch removals r s ≡ refuses 33
   unfolding fetch
   fetch-beyond h = rw (not-ended removals r s c, h)
 
+  -- any other is answered by the line at its place
   pub fetch-within : isBeyond r s ≡ false → fetch removals r s ≡ fetchLine s (lineAt (s .place) (openedLines r s))
   unfolding fetch
   fetch-within h = rw (not-ended removals r s c, h)
@@ -132,6 +136,7 @@ module _ (removals : ℕ) (r : Register) (s : OpenSheet) (c : s .removals ≡ re
 -- ---- what an answer tells
 
 module _ (removals : ℕ) (r : Register) (s : OpenSheet) where
+  -- 33 tells that the count is the same and the sheet beyond the register
   pub only-beyond : fetch removals r s ≡ refuses 33 → (s .removals ≡ removals) × (isBeyond r s ≡ true)
   only-beyond e = go (ℕ-discrete (s .removals) removals)
     where
@@ -139,6 +144,7 @@ module _ (removals : ℕ) (r : Register) (s : OpenSheet) where
       go (yes c) = (c, within-beyond removals r s c e)
       go (no d) = absurd (omega (arith, refusal-same 39 33 (sym (fetch-ended removals r s d) ∙ e)))
 
+  -- a sheet is told to be finished only where its count is the same and its place past its lines, and it stays as it was
   pub only-done : (s′ : OpenSheet) → fetch removals r s ≡ finished s′ → (s .removals ≡ removals) × (s′ ≡ s) × (length (openedLines r s) ≤ s .place)
   only-done s′ e = go (ℕ-discrete (s .removals) removals)
     where

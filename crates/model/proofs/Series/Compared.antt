@@ -84,6 +84,7 @@ module _ (s : House) (k : Reachable (s .register)) (asked : Ask → Answer) (ask
         any-stops = loose-distance (r .edges) proper v w l e;
       }
 
+  -- its sheets, finds and distances are those that demand 3 asks for, where its edges are those that count
   pub compared : (ls : List Landing) → Told (s .register) ls → Compared asked (s .register) ls
   compared ls t =
       record {

@@ -16,9 +16,11 @@ use Rattle.model.proofs.Registers.Quotes.{commit-lands}
 
 -- ---- one record
 
+-- since a register itself nothing has landed
 pub since-none : (r : Register) → LandedSince r r
 since-none r = record { vertices-stay = omega arith; later = []; edges-are = sym (append-nil (r .edges)) }
 
+-- what landed since, and then more, landed since the first
 pub since-both : {q r s : Register} → LandedSince q r → LandedSince r s → LandedSince q s
 since-both {q} {r} {s} a b =
     record {
@@ -68,6 +70,7 @@ since-records limit version (suc n) k r (kind ∷ bs) = go (firstRecord version 
     go (edge c rest) e ih = on-edge c rest e (landEdgeWithin limit r c) refl ih
     go (bad x) e ih = rw (e, landRecords) (since-none r)
 
+-- stopped or not, it leaves what was there, with more behind it
 pub since-list : (limit : ℕ) (r : Register) (bs : List ℕ) → LandedSince r ((landList limit r bs) .register)
 unfolding landList
 since-list limit r bs = go (headerRefusal bs) refl
@@ -78,5 +81,6 @@ since-list limit r bs = go (headerRefusal bs) refl
 
 -- ---- a commit that lands
 
+-- so does a commit
 pub since-commit : (limit : ℕ) (q : Quote) (r r′ : Register) → commit limit r q ≡ landed r′ → LandedSince r r′
 since-commit limit q r r′ h = edge-since limit r (q .asked) r′ ((commit-lands limit r q r′ h) .1)
