@@ -1,5 +1,5 @@
 -- A call that lands, from the gate of the other houses and what is left of its own to what the call is defined to leave and answer.
-use mathlib.Core.Path.{_≡_, refl, sym, ap, _∙_}
+use mathlib.Core.Path.{_≡_, sym, ap, _∙_}
 use Prim.Native.Nat.{ℕ}
 use mathlib.Core.Bool.{Bool, true, false}
 use mathlib.Core.List.{List, []}
@@ -7,8 +7,8 @@ use lib.ListN.{getD, set}
 use lib.Seq.{set-getD}
 use Rattle.model.specs.Register.{Quote}
 use Rattle.model.specs.Queries.{Reply}
-use Rattle.model.specs.Tables.{Counts, Tables, cleared, noCounts}
-use Rattle.nursery.specs.Nursery.{Nursery, removalsIn, storedIn, tablesIn}
+use Rattle.model.specs.Tables.{Tables, noCounts}
+use Rattle.nursery.specs.Nursery.{removalsIn, storedIn, tablesIn}
 use Rattle.nursery.specs.Calls.{HouseCall, commits, grows, inHouse, lands, step}
 use Rattle.admission.specs.Own as own
 use Rattle.admission.specs.Own.{ownStep}
@@ -18,7 +18,7 @@ use Rattle.licence.specs.Meaning.{asHeads, asRemovals, lent, nursery, outcome}
 use Rattle.licence.specs.Gate.{opensWith, passOthers, scratchPassed}
 use Rattle.licence.proofs.PassLaws.{open-known}
 use Rattle.licence.proofs.StepLaws.{committed-step, grown-step, joined, landed-step, ownLent}
-use Rattle.parts.specs.Left.{Left, left, putOwn}
+use Rattle.parts.specs.Left.{left, putOwn}
 
 module _ (t t′ s s′ s″ : Tables) (heads heads′ : Heads) (ss : List ℕ) (house limit : ℕ) (a : Reply) where
   -- the four parts of what is lent

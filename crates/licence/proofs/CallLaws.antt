@@ -1,12 +1,12 @@
 -- A call for a house, from the gate of the others to what its part of the tables comes to.
-use mathlib.Core.Path.{_≡_, refl, sym, ap, _∙_, subst}
+use mathlib.Core.Path.{_≡_, sym, ap, _∙_, subst}
 use Prim.Native.Nat.{ℕ, _+_, _*_, _-_, _<_}
 use native.Mathlib.Omega.{arith}
-use mathlib.Core.Bool.{Bool, true, false}
+use mathlib.Core.Bool.{Bool, false}
 use mathlib.Core.List.{List}
 use lib.ListN.{drop, getD, take}
 use Rattle.model.specs.Queries.{Reply, refuses}
-use Rattle.model.specs.Tables.{Counts, Tables, cleared, noCounts}
+use Rattle.model.specs.Tables.{Counts, Tables, noCounts}
 use Rattle.model.specs.Calls.{Ask}
 use Rattle.tables.specs.Meaning.{tables}
 use Rattle.nursery.specs.Licence.{houses}

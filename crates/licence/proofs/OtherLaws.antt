@@ -1,15 +1,13 @@
 -- One house after the other: from the replay of its part of the tables to whether it holds a register.
-use mathlib.Core.Path.{_≡_, refl, sym, ap, _∙_, subst}
+use mathlib.Core.Path.{_≡_, refl, ap, _∙_, subst}
 use mathlib.Core.Logic.{_≢_}
-use Prim.Native.Nat.{ℕ, zero, suc, _+_, _*_, _-_, _≤_, _<_}
+use Prim.Native.Nat.{ℕ, suc, _+_, _*_, _-_, _≤_, _<_}
 use native.Mathlib.Omega.{arith}
 use mathlib.Core.Bool.{Bool, true, false}
 use mathlib.Core.List.{List}
-use mathlib.Core.Option.{Option, none, some}
 use lib.ListN.{drop, getD, length, length-replicate, take}
 use borrow.Author.Tests.{eq-eqb, ne-eqb}
-use Rattle.model.specs.Register.{Register}
-use Rattle.model.specs.Tables.{Counts, Stored, Tables, cleared, fits, held, noCounts}
+use Rattle.model.specs.Tables.{Counts, Tables, cleared, fits, noCounts}
 use Rattle.model.proofs.Registers.Kept.{cleared-fits}
 use Rattle.model.proofs.Basics.Booleans.{not-both}
 use Rattle.tables.specs.Meaning.{stored, tables}

@@ -6,15 +6,15 @@ use native.Mathlib.Omega.{arith}
 use native.Mathlib.Decide.{decLt}
 use native.Mathlib.Numerals.{add-one}
 use mathlib.Core.Bool.{Bool, true, false, not, _&&_}
-use mathlib.Core.List.{List, [], _∷_, map}
+use mathlib.Core.List.{List, map}
 use mathlib.Core.Option.{Option, none, some}
 use lib.ListN.{length, getD, set}
 use lib.Seq.{set-out}
 use lib.Dec.{eqb, ltb}
-use borrow.Author.Tests.{eq-eqb, eqb-true, le-ltb, lt-ltb, ltb-true, ne-eqb}
-use Rattle.model.specs.Basics.{countFrom, if_then_else_, maxEdges, maxVertices, sum, upTo}
+use borrow.Author.Tests.{eqb-true, le-ltb, lt-ltb, ltb-true}
+use Rattle.model.specs.Basics.{countFrom, sum, upTo}
 use Rattle.model.specs.Register.{Register}
-use Rattle.model.specs.Tables.{Counts, Tables, cleared, eqList, fits, held, noCounts, rightSizes, sizes}
+use Rattle.model.specs.Tables.{Counts, Tables, cleared, fits, held, noCounts, rightSizes, sizes}
 use Rattle.model.proofs.Basics.Booleans.{and-true}
 use Rattle.model.proofs.Registers.Equality.{eqList-true}
 use Rattle.tables.specs.Steps.{zeroed}

@@ -1,26 +1,24 @@
 -- The call of a house joined from the gate of the other houses and what is done on its own part of the tables.
-use mathlib.Core.Path.{_≡_, refl, sym, ap, ap₂, _∙_, subst}
+use mathlib.Core.Path.{_≡_, refl, sym, ap, _∙_}
 use mathlib.Core.Logic.{_≢_}
-use Prim.Native.Nat.{ℕ, zero, suc, _+_, _*_, _-_, _≤_, _<_}
+use Prim.Native.Nat.{ℕ, zero, suc, _+_, _*_, _≤_, _<_}
 use native.Mathlib.Omega.{arith}
-use native.Mathlib.Decide.{decLt}
 use native.Mathlib.Nat.{mul-le-mul-left}
-use mathlib.Core.Bool.{Bool, true, false, not, _&&_, _||_}
-use mathlib.Core.List.{List, [], _∷_, map}
+use mathlib.Core.Bool.{Bool, true, false, _&&_, _||_}
+use mathlib.Core.List.{List, [], _∷_}
 use mathlib.Core.Option.{Option, none, some, Option·none-ne-some}
-use lib.ListN.{length, getD, set, take, drop, length-drop}
+use lib.ListN.{length, set, drop, length-drop}
 use lib.Seq.{length-take-le, set-getD}
 use lib.Dec.{eqb, ltb}
-use borrow.Author.Tests.{eq-eqb, eqb-true, le-ltb, lt-ltb, ltb-false, ltb-true, ne-eqb, not-false}
-use Rattle.model.specs.Basics.{countFrom, if_then_else_, maxEdges, maxVertices, upTo}
+use borrow.Author.Tests.{eqb-true, lt-ltb, ltb-false, ltb-true, ne-eqb}
+use Rattle.model.specs.Basics.{countFrom, maxEdges, maxVertices, upTo}
 use Rattle.model.specs.Register.{Landed, Quote, Register, commit, empty, landed, refused}
 use Rattle.model.specs.Format.{landList}
-use Rattle.model.specs.Queries.{Reply, refuses}
-use Rattle.model.specs.Tables.{Counts, Stored, Tables, cleared, countsOf, eqList, fits, held, noCounts, rightSizes, sizes, storedOf, tablesOf}
-use Rattle.model.specs.Calls.{Ask, House, answer}
+use Rattle.model.specs.Queries.{refuses}
+use Rattle.model.specs.Tables.{Counts, Tables, cleared, fits, held, noCounts, rightSizes, sizes, storedOf}
+use Rattle.model.specs.Calls.{Ask, House}
 use Rattle.model.proofs.Registers.Equality.{eqList-refl}
 use Rattle.model.proofs.Registers.Kept.{cleared-fits}
-use Rattle.model.proofs.Registers.OnlyHeld.{only-held}
 use Rattle.nursery.specs.Licence.{houses, limitOf, overfull}
 use Rattle.nursery.specs.Nursery.{Nursery, edgesIn, houseIn, limitIn, part, putIn, putTables, registerIn, removalsIn, storedIn, tablesIn, verticesIn}
 use Rattle.nursery.specs.Calls as call
@@ -30,7 +28,7 @@ use Rattle.nursery.proofs.Gate.{damaged-21, question-quiet, step-barred, step-e
 use Rattle.admission.specs.Own as own
 use Rattle.admission.specs.Own.{houseOf, ownStep}
 use Rattle.admission.proofs.OwnLaws.{outcomeOf, step-admits}
-use Rattle.licence.specs.Gate.{PassedAs, barsWith, emptied, licenceIn, opensWith, passOthers, scratchPassed}
+use Rattle.licence.specs.Gate.{barsWith, emptied, licenceIn, opensWith, passOthers, scratchPassed}
 
 -- whether a call grows its house
 unfoldable pub isGrow : HouseCall → Bool

@@ -1,5 +1,5 @@
 -- What a call on the part of one house leaves of the tables and heads of all eight.
-use mathlib.Core.Path.{_≡_, refl, sym, ap, _∙_}
+use mathlib.Core.Path.{_≡_, ap, _∙_}
 use Prim.Native.Nat.{ℕ, _+_, _*_, _-_}
 use native.Mathlib.Omega.{arith}
 use mathlib.Core.List.{List, []}
@@ -10,7 +10,7 @@ use Rattle.model.specs.Tables.{Counts, Tables, noCounts}
 use Rattle.tables.specs.Meaning.{tables}
 use Rattle.nursery.specs.Nursery.{putPart, putTables, tablesIn}
 use Rattle.nursery.specs.Calls.{HouseCall}
-use Rattle.admission.specs.Own.{Outcome, ownStep}
+use Rattle.admission.specs.Own.{ownStep}
 use Rattle.admission.specs.Lent as own
 use Rattle.licence.proofs.CallLaws.{parts-are}
 use Rattle.parts.specs.Left.{left, putOwn}

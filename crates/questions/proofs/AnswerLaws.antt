@@ -18,7 +18,7 @@ use Rattle.model.proofs.Registers.Answers.{find-not-landed}
 use Rattle.model.proofs.Registers.Labelled.{label-facts}
 use Rattle.model.proofs.Registers.OnlyHeld.{held-counts, held-tables}
 use Rattle.model.proofs.Registers.Reachable.{founded}
-use Rattle.tables.specs.Meaning.{stored, tables}
+use Rattle.tables.specs.Meaning.{stored}
 use Rattle.text.proofs.PageLaws.{write-front}
 use Rattle.chains.specs.Chains.{namesIn, sheetIn}
 use Rattle.chains.specs.Finding.{findAtIn, findIn}

@@ -3,13 +3,13 @@ use mathlib.Core.Path.{_≡_, refl, sym, ap, ap₂, _∙_}
 use mathlib.Core.Logic.{_≢_}
 use Prim.Native.Nat.{ℕ, _≤_, _<_}
 use native.Mathlib.Omega.{arith}
-use mathlib.Core.Bool.{Bool, true, false, not, _&&_, _||_}
+use mathlib.Core.Bool.{Bool, true, false, _&&_, _||_}
 use mathlib.Core.List.{List, []}
-use mathlib.Core.Option.{Option, none, some}
+use mathlib.Core.Option.{some}
 use lib.ListN.{length}
 use lib.Dec.{eqb, ltb}
 use borrow.Author.Tests.{eq-eqb, lt-ltb, le-ltb, ne-eqb}
-use Rattle.model.specs.Basics.{if_then_else_, sum, upTo}
+use Rattle.model.specs.Basics.{sum, upTo}
 use Rattle.model.specs.Queries.{Reply, allotted, refuses}
 use Rattle.model.specs.Tables.{Tables, cleared, fits}
 use Rattle.nursery.specs.Licence.{houses, licence, overfull}

@@ -1,7 +1,7 @@
 use mathlib.Core.Path.{refl, sym, ap, _∙_}
-use Rattle.model.specs.Calls.{measuring, lentTo}
+use Rattle.model.specs.Calls.{lentTo}
 use Rattle.nursery.specs.Calls.{measures, sliceOf}
-use Rattle.admission.specs.Own.{houseOf, registerFor}
+use Rattle.admission.specs.Own.{registerFor}
 use Rattle.admission.specs.Gate.{gateRefusal}
 use Rattle.admission.proofs.GateLaws.{query-refused}
 use Rattle.asking.proofs.MeasureLaws.{open-measurable, open-answers}

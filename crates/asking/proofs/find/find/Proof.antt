@@ -4,7 +4,7 @@ use Rattle.questions.proofs.AnswerLaws.{find-answers}
 use Rattle.admission.specs.Gate.{gateRefusal}
 use Rattle.model.specs.Calls.{finding, lentTo}
 use Rattle.nursery.specs.Calls.{finds, sliceOf}
-use Rattle.admission.specs.Own.{houseOf, registerFor}
+use Rattle.admission.specs.Own.{registerFor}
 use mathlib.Core.Path.{refl, sym, ap, _∙_}
 use borrow.Author.Needs.{needs}
 use Rattle.asking.proofs.find.find.Statement.{statement}

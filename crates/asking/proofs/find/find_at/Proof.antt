@@ -1,7 +1,7 @@
 use mathlib.Core.Path.{refl, sym, ap, _∙_}
 use Rattle.model.specs.Calls.{findingAt, lentTo}
 use Rattle.nursery.specs.Calls.{findsAt, sliceOf}
-use Rattle.admission.specs.Own.{houseOf, registerFor}
+use Rattle.admission.specs.Own.{registerFor}
 use Rattle.admission.specs.Gate.{gateRefusal}
 use Rattle.questions.proofs.AnswerLaws.{find-at-answers}
 use Rattle.admission.proofs.GateLaws.{query-refused}

@@ -1,7 +1,7 @@
 use mathlib.Core.Path.{refl, sym, ap, _∙_}
 use Rattle.model.specs.Calls.{quoting, lentTo}
 use Rattle.nursery.specs.Calls.{quotes, sliceOf}
-use Rattle.admission.specs.Own.{houseOf, registerFor}
+use Rattle.admission.specs.Own.{registerFor}
 use Rattle.admission.specs.Gate.{gateRefusal}
 use Rattle.admission.proofs.GateLaws.{query-refused}
 use Rattle.asking.proofs.QuoteLaws.{quote-answers}

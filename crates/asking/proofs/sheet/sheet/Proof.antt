@@ -1,7 +1,7 @@
 use mathlib.Core.Path.{refl, sym, ap, _∙_}
-use Rattle.model.specs.Calls.{sheeting, lentTo}
+use Rattle.model.specs.Calls.{lentTo}
 use Rattle.nursery.specs.Calls.{sheets, sliceOf}
-use Rattle.admission.specs.Own.{houseOf, registerFor}
+use Rattle.admission.specs.Own.{registerFor}
 use Rattle.admission.specs.Gate.{gateRefusal}
 use Rattle.asking.proofs.ScratchLaws.{sheet-answered}
 use Rattle.admission.proofs.GateLaws.{query-refused}

@@ -1,6 +1,5 @@
 use lib.ListN.{replicate}
 use Prim.Native.Nat.{ℕ}
-use mathlib.Core.List.{List}
 use mathlib.Core.Path.{ap, _∙_}
 use borrow.Author.Needs.{needs}
 use Rattle.questions.proofs.sheet.sheet_cleared.Statement.{statement}
