@@ -1,4 +1,4 @@
--- The heads of eight houses as a list.
+-- The heads of eight houses, and their counts of removals, as lists.
 use mathlib.Core.Path.{_≡_, refl, sym, ap, _∙_}
 use mathlib.Core.Logic.{_≢_}
 use Prim.Native.Nat.{ℕ, zero, suc, _<_}

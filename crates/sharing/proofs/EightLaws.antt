@@ -1,4 +1,4 @@
--- Eight numbers one after the other.
+-- Eight numbers one after the other: their sum, whether a house is not empty, and a copy of them.
 use mathlib.Core.Path.{_≡_, refl, sym, ap, _∙_}
 use mathlib.Core.Logic.{_≢_}
 use Prim.Native.Nat.{ℕ, zero, suc, _+_, _≤_, _<_}
