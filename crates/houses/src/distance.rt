@@ -1,6 +1,7 @@
 // Distance in a house: the least length of a way between two vertices (document 01: fittings): 25, 21, 37, then 5.
 use asking::distance::distance as distance_own;
 use counters::counts::Counts;
+use counters::numbers::Vertex;
 use counters::sizes::EDGES;
 use counters::sizes::ENDS;
 use counters::sizes::SIDES;
@@ -9,7 +10,6 @@ use licence::gate::Passed;
 use licence::gate::pass_others;
 use licence::heads::Heads;
 use licence::heads::head_of;
-use counters::numbers::Vertex;
 use questions::measure::Measured;
 ghost use mathlib.Core.Path.{_≡_};
 ghost use Prim.Native.Nat.{ℕ, _<_};

@@ -2,6 +2,8 @@
 use asking::find::find as find_own;
 use asking::find::find_at as find_at_own;
 use counters::counts::Counts;
+use counters::numbers::Label;
+use counters::numbers::Vertex;
 use counters::sizes::EDGES;
 use counters::sizes::ENDS;
 use counters::sizes::SIDES;
@@ -10,8 +12,6 @@ use licence::gate::Passed;
 use licence::gate::pass_others;
 use licence::heads::Heads;
 use licence::heads::head_of;
-use counters::numbers::Label;
-use counters::numbers::Vertex;
 use questions::find::FoundChain;
 ghost use mathlib.Core.Path.{_≡_};
 ghost use Prim.Native.Nat.{ℕ, _<_};

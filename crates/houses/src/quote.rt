@@ -1,6 +1,7 @@
 // Quote in a house (document 02, S-5, S-10): what landing a pipe would do, within the limit of the house: 25, 21, then 37.
 use asking::quote::quote as quote_own;
 use counters::counts::Counts;
+use counters::quotes::QuoteAnswer;
 use counters::sizes::EDGES;
 use counters::sizes::ENDS;
 use counters::sizes::SIDES;
@@ -9,7 +10,6 @@ use licence::gate::Passed;
 use licence::gate::pass_others;
 use licence::heads::Heads;
 use licence::heads::head_of;
-use counters::quotes::QuoteAnswer;
 ghost use mathlib.Core.Path.{_≡_};
 ghost use Prim.Native.Nat.{ℕ, _<_};
 ghost use mathlib.Core.List.{[]};

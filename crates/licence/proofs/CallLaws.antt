@@ -23,13 +23,9 @@ use Rattle.licence.proofs.StepLaws.{asked-step, isGrow, ownLent, refuse
 
 -- the parts that the code cuts out are those of house h
 module _ (h : ℕ) (degrees sides ends lengths volumes labels : List ℕ) where
-  one : 4096 * h + 4096 - 4096 * h ≡ 4096
-  one = omega arith
-
-  two : 8192 * h + 8192 - 8192 * h ≡ 8192
-  two = omega arith
-
-  pub parts-are :
+  -- the parts, as the code cuts them out
+  abbrev cut : Tables
+  cut =
       tables
       (take (4096 * h + 4096 - 4096 * h) (drop (4096 * h) degrees))
       (take (8192 * h + 8192 - 8192 * h) (drop (8192 * h) sides))
@@ -37,21 +33,31 @@ module _ (h : ℕ) (degrees sides ends lengths volumes labels : List ℕ) where
       (take (4096 * h + 4096 - 4096 * h) (drop (4096 * h) lengths))
       (take (4096 * h + 4096 - 4096 * h) (drop (4096 * h) volumes))
       (take (4096 * h + 4096 - 4096 * h) (drop (4096 * h) labels))
-      ≡ tablesIn h (tables degrees sides ends lengths volumes labels)
+
+  one : 4096 * h + 4096 - 4096 * h ≡ 4096
+  one = omega arith
+
+  two : 8192 * h + 8192 - 8192 * h ≡ 8192
+  two = omega arith
+
+  pub parts-are : cut ≡ tablesIn h (tables degrees sides ends lengths volumes labels)
   unfolding tablesIn part
   parts-are = rw (one, two)
 
   -- so what holds of them holds of the house
   pub on-parts : (P : Tables → Type 0)
-      → P (tables
-      (take (4096 * h + 4096 - 4096 * h) (drop (4096 * h) degrees))
-      (take (8192 * h + 8192 - 8192 * h) (drop (8192 * h) sides))
-      (take (8192 * h + 8192 - 8192 * h) (drop (8192 * h) ends))
-      (take (4096 * h + 4096 - 4096 * h) (drop (4096 * h) lengths))
-      (take (4096 * h + 4096 - 4096 * h) (drop (4096 * h) volumes))
-      (take (4096 * h + 4096 - 4096 * h) (drop (4096 * h) labels)))
+      → P cut
       → P (tablesIn h (tables degrees sides ends lengths volumes labels))
   on-parts P p = subst P parts-are p
+
+  -- so is what is done on them
+  pub parts-step : (limit removals : ℕ) (k : HouseCall) (c : Counts) (s s′ : Tables) (xs : List ℕ) (a : Reply)
+      → own.outcome cut c s′ xs a ≡ ownStep limit removals k (own.lent cut c s)
+      → own.outcome (tablesIn h (tables degrees sides ends lengths volumes labels)) c s′ xs a
+      ≡ ownStep limit removals k (own.lent (tablesIn h (tables degrees sides ends lengths volumes labels)) c s)
+  parts-step limit removals k c s s′ xs a p = on-parts (λ (t : Tables). own.outcome t c s′ xs a ≡ ownStep limit removals k (own.lent t c s)) p
+
+-- ---- the call
 
 module _ (t : Tables) (heads : Heads) (ss : List ℕ) (s s′ : Tables) (house : ℕ) where
   -- barred before its house is looked at
@@ -78,3 +84,10 @@ module _ (t : Tables) (heads : Heads) (ss : List ℕ) (s s′ : Tables) (house :
     asked-call q s″ xs a p =
         asked-step house (lent t heads ss s) limit q (sym e) (own.outcome (tablesIn house t) c s″ xs a)
         (p ∙ ap (ownStep limit (removalsIn house (nursery t heads ss)) (asks q)) lent-is)
+
+    -- and one with the count of removals that the code has read
+    pub counted-call : (k : ℕ) → k ≡ getD (asRemovals heads) house 0 → (q : Ask) (s″ : Tables) (xs : List ℕ) (a : Reply)
+        → own.outcome (tablesIn house t) c s″ xs a ≡ ownStep limit k (asks q) (own.lent (tablesIn house t) c s′)
+        → outcome t heads ss s″ xs a ≡ step (inHouse house (asks q)) (lent t heads ss s)
+    unfolding removalsIn
+    counted-call k d q s″ xs a p = asked-call q s″ xs a (p ∙ ap (λ (x : ℕ). ownStep limit x (asks q) (own.lent (tablesIn house t) c s′)) d)

@@ -12,7 +12,11 @@ ghost use Rattle.licence.specs.Meaning.{edgesOf};
 pub fn larger(share: u16, edges: u16) -> u32
     ensures { λ r. ⌜ (r ≡ max share edges) × (r < 65536) ⌝ }
 {
-    if share < edges { edges as u32 } else { share as u32 }
+    if share < edges {
+        edges as u32
+    } else {
+        share as u32
+    }
 }
 
 // What house h keeps of the licence for the others' sake: nothing, if it is the one that is asked about.

@@ -1,8 +1,4 @@
 // A house's sheet that is opened and then fetched line by line (document 02, S-6, S-10, S-11): 25, 21, 37, then 39 and 33.
-use licence::heads::removals_of;
-use opening::sheets::Fetched;
-use opening::sheets::OpenSheet;
-use opening::sheets::Opened;
 use counters::counts::Counts;
 use counters::sizes::EDGES;
 use counters::sizes::ENDS;
@@ -12,6 +8,10 @@ use licence::gate::Passed;
 use licence::gate::pass_others;
 use licence::heads::Heads;
 use licence::heads::head_of;
+use licence::heads::removals_of;
+use opening::sheets::Fetched;
+use opening::sheets::OpenSheet;
+use opening::sheets::Opened;
 ghost use mathlib.Core.Path.{_≡_};
 ghost use Prim.Native.Nat.{ℕ, _<_};
 ghost use mathlib.Core.List.{[]};

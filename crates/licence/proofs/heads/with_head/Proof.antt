@@ -7,11 +7,10 @@ use Rattle.licence.proofs.heads.with_head.Tie as tie
 
 returns : tie.Need-returns
 unfolding asRemovals
-returns c =
-    (
-      heads-put _ _ _ _ _ _ _ _ _ _ _ _ (c .before .before .before .before .before .before .before .head-or .ensures) (c .before .before .before .before .before .before .head-or2 .ensures) (c .before .before .before .before .before .head-or3 .ensures) (c .before .before .before .before .head-or4 .ensures) (c .before .before .before .head-or5 .ensures) (c .before .before .head-or6 .ensures) (c .before .head-or7 .ensures) (c .head-or8 .ensures),
-      refl,
-    )
+returns c = (
+  heads-put _ _ _ _ _ _ _ _ _ _ _ _ (c .before .before .before .before .before .before .before .head-or .ensures) (c .before .before .before .before .before .before .head-or2 .ensures) (c .before .before .before .before .before .head-or3 .ensures) (c .before .before .before .before .head-or4 .ensures) (c .before .before .before .head-or5 .ensures) (c .before .before .head-or6 .ensures) (c .before .head-or7 .ensures) (c .head-or8 .ensures),
+  refl,
+)
 
 pub with-head-spec : {M : Type 1} → statement M
 with-head-spec =

@@ -1,5 +1,5 @@
 use native.Mathlib.Omega.{arith}
-use Rattle.sheets.proofs.HouseLaws.{parts-step}
+use Rattle.licence.proofs.CallLaws.{parts-step}
 use borrow.Author.Needs.{needs}
 use Rattle.sheets.proofs.opened.open_house.Statement.{statement}
 use Rattle.sheets.proofs.opened.open_house.Tie as tie
