@@ -84,3 +84,30 @@ pub heads-put : (heads : Heads) (h : ℕ) (own : T.Counts) (a b c e f g i j : Co
     → asHeads (record { counts = a ∷ b ∷ c ∷ e ∷ f ∷ g ∷ i ∷ j ∷ []; removals = ns }) ≡ set (asHeads heads) h own
 heads-put heads h own a b c e f g i j ns p0 p1 p2 p3 p4 p5 p6 p7 =
     this-list a b c e f g i j ns ∙ list-of T.noCounts (set (asHeads heads) h own) (length-set (asHeads heads) h own ∙ eight-heads heads) _ _ _ _ _ _ _ _ p0 p1 p2 p3 p4 p5 p6 p7
+
+-- ---- the counts of removals
+
+pub removals-put : (heads : Heads) (i h count : ℕ) → i < houses → i ≡ h → count ≡ getD (set (asRemovals heads) h count) i 0
+unfolding asRemovals
+removals-put heads i h count l e = sym (ap (λ (k : ℕ). getD (set (asRemovals heads) k count) i 0) (sym e) ∙ getD-set-same (asRemovals heads) i count 0 l)
+
+pub removals-other : (heads : Heads) (i h count x : ℕ) → i ≢ h → x ≡ getD (asRemovals heads) i 0 → x ≡ getD (set (asRemovals heads) h count) i 0
+removals-other heads i h count x d e = e ∙ sym (getD-set-other (asRemovals heads) h i count 0 d)
+
+eight-removals : (heads : Heads) → length (asRemovals heads) ≡ houses
+unfolding asRemovals
+eight-removals heads = refl
+
+these-removals : (cs : List Counts) (a b c e f g i j : ℕ)
+    → asRemovals (record { counts = cs; removals = a ∷ b ∷ c ∷ e ∷ f ∷ g ∷ i ∷ j ∷ [] }) ≡ a ∷ b ∷ c ∷ e ∷ f ∷ g ∷ i ∷ j ∷ []
+unfolding asRemovals
+these-removals cs a b c e f g i j = refl
+
+-- the counts of an array of eight that are those of a list with one put in; the heads are those of their array
+pub counts-put : (heads : Heads) (h count : ℕ) (a b c e f g i j : ℕ)
+    → a ≡ getD (set (asRemovals heads) h count) 0 0 → b ≡ getD (set (asRemovals heads) h count) 1 0 → c ≡ getD (set (asRemovals heads) h count) 2 0
+    → e ≡ getD (set (asRemovals heads) h count) 3 0 → f ≡ getD (set (asRemovals heads) h count) 4 0 → g ≡ getD (set (asRemovals heads) h count) 5 0
+    → i ≡ getD (set (asRemovals heads) h count) 6 0 → j ≡ getD (set (asRemovals heads) h count) 7 0
+    → asRemovals (record { counts = heads .counts; removals = a ∷ b ∷ c ∷ e ∷ f ∷ g ∷ i ∷ j ∷ [] }) ≡ set (asRemovals heads) h count
+counts-put heads h count a b c e f g i j p0 p1 p2 p3 p4 p5 p6 p7 =
+    these-removals (heads .counts) a b c e f g i j ∙ list-of 0 (set (asRemovals heads) h count) (length-set (asRemovals heads) h count ∙ eight-removals heads) _ _ _ _ _ _ _ _ p0 p1 p2 p3 p4 p5 p6 p7

@@ -70,3 +70,31 @@ pub fn with_head(heads: Heads, h: usize, own: Counts) -> Heads
         removals,
     }
 }
+
+// The count of removals of house i, or another one if i is h.
+fn removals_or(heads: Heads, i: usize, h: usize, count: u32) -> u32
+    requires { ⌜ i < houses ⌝ }
+    ensures { λ r. ⌜ r ≡ getD (set (asRemovals heads) h count) i 0 ⌝ }
+{
+    if i == h { count } else { removals_of(heads, i) }
+}
+
+// The heads with another count of removals for this house.
+pub fn with_removals(heads: Heads, h: usize, count: u32) -> Heads
+    ensures { λ r. ⌜ (asHeads r ≡ asHeads heads) × (asRemovals r ≡ set (asRemovals heads) h count) ⌝ }
+{
+    let counts = heads.counts;
+    Heads {
+        counts,
+        removals: [
+            removals_or(heads, 0, h, count),
+            removals_or(heads, 1, h, count),
+            removals_or(heads, 2, h, count),
+            removals_or(heads, 3, h, count),
+            removals_or(heads, 4, h, count),
+            removals_or(heads, 5, h, count),
+            removals_or(heads, 6, h, count),
+            removals_or(heads, 7, h, count),
+        ],
+    }
+}
