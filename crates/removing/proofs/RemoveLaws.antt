@@ -138,10 +138,14 @@ settled-as limit removals r g d xs l k x = go (ltb (length xs) (3 * length cs)) 
 
 -- ---- behind an open gate
 
-module _ (limit removals : ℕ) (t : Tables) (c : Counts) (s s′ : Tables) (d : ℕ) (xs : List ℕ) (no : Bool) (h : none ≡ barred (lent t c s)) (e : s′ ≡ scratchAfter (lent t c s))
-    (n : no ≡ (leb (c .edges) d || leb maxRemovals removals)) where
+-- an edge that is there
+pub edge-there : (edges removals d : ℕ) (b : Bool) → b ≡ (leb edges d || leb maxRemovals removals) → b ≡ false → d < edges
+edge-there edges removals d b n q = leb-false edges d ((or-false (leb edges d) (leb maxRemovals removals) (sym n ∙ q)) .0)
+
+module _ (limit removals : ℕ) (t : Tables) (c : Counts) (s s′ : Tables) (d : ℕ) (xs : List ℕ) (b : Bool) (h : none ≡ barred (lent t c s)) (e : s′ ≡ scratchAfter (lent t c s))
+    (n : b ≡ (leb (c .edges) d || leb maxRemovals removals)) where
   -- 38
-  pub remove-refused : no ≡ true → outcome t c s′ xs (refuses 38) ≡ ownStep limit removals (removes d xs) (lent t c s)
+  pub remove-refused : b ≡ true → outcome t c s′ xs (refuses 38) ≡ ownStep limit removals (removes d xs) (lent t c s)
   unfolding outcomeOf effect removeEffect
   remove-refused q =
       let o = opened (lent t c s) h in
@@ -150,7 +154,7 @@ module _ (limit removals : ℕ) (t : Tables) (c : Counts) (s s′ : Tables) (d :
       rw (step-fits limit removals (removes d xs) (lent t c s) r (o .fit) (o .holds), outcomeOf, remove-not limit removals r d (length xs) m, removeEffect, ← o .is .stored-is, open-cleared (lent t c s) s′ h e)
 
   -- the edge is there, and there is room to count: the others stand landed in scratch
-  pub remove-done : no ≡ false → (o : Outcome) → (sizes s′ ≡ sizes t → o ≡ removedIn t c s′ d xs) → o ≡ ownStep limit removals (removes d xs) (lent t c s)
+  pub remove-done : b ≡ false → (o : Outcome) → (sizes s′ ≡ sizes t → o ≡ removedIn t c s′ d xs) → o ≡ ownStep limit removals (removes d xs) (lent t c s)
   unfolding removedIn
   remove-done q o f =
       let w = opened (lent t c s) h in

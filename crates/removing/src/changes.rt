@@ -38,7 +38,7 @@ pub fn count_changes(olds: &[u32], news: &[u32], n: u16) -> u16
 fn put_change(out: &mut [u32], at: usize, v: u16, old: u32, new: u32) -> usize
     ensures { λ r. ⌜ page (now (out .exit)) r ≡ write (changeNumbers (changeAt v old new)) (page (now (out .entry)) at) ⌝ }
 {
-    if old == new {
+    if new == old {
         return at;
     }
     let second = put_u32(out, at, v as u32);

@@ -1,3 +1,4 @@
+use mathlib.Core.Path.{sym}
 use mathlib.Core.List.{[], _∷_}
 use Rattle.removing.proofs.ChangeLaws.{put-none, put-one}
 use Rattle.text.proofs.PageLaws.{write-two}
@@ -10,7 +11,7 @@ use Rattle.text.proofs.writing.put_u32.Reads as put-u32-reads
 
 -- src/changes.rt:42:9
 returns : tie.Need-returns
-returns c = put-none _ _ _ _ _ (c .if1 .taken)
+returns c = put-none _ _ _ _ _ (sym (c .if1 .taken))
 
 -- src/changes.rt:44:9
 put-u32-requires : tie.Need-put-u32-requires
@@ -34,7 +35,7 @@ returns-2 c =
     let at-put-u322 = c .before .before .before .before .before .before in
     let at-put-u32 = at-put-u322 .before .before .before .before in
     let at-if1 = at-put-u32 .before .before in
-    put-one _ _ _ _ _ (at-if1 .if1 .left) (write-two (_ ∷ []) _ _ _ _ (at-put-u32 .put-u32 .ensures) (write-two (_ ∷ []) _ _ _ _ (at-put-u322 .put-u322 .ensures) (c .before .before .put-u323 .ensures)))
+    put-one _ _ _ _ _ (λ e. at-if1 .if1 .left (sym e)) (write-two (_ ∷ []) _ _ _ _ (at-put-u32 .put-u32 .ensures) (write-two (_ ∷ []) _ _ _ _ (at-put-u322 .put-u322 .ensures) (c .before .before .put-u323 .ensures)))
 
 pub put-change-spec : {M : Type 1} → statement M
 put-change-spec =
