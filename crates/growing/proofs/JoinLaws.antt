@@ -18,7 +18,7 @@ use Rattle.licence.specs.Meaning.{asHeads, asRemovals, lent, nursery, outcome}
 use Rattle.licence.specs.Gate.{opensWith, passOthers, scratchPassed}
 use Rattle.licence.proofs.PassLaws.{open-known}
 use Rattle.licence.proofs.StepLaws.{committed-step, grown-step, joined, landed-step, ownLent}
-use Rattle.growing.specs.Left.{Left, left, putOwn}
+use Rattle.parts.specs.Left.{Left, left, putOwn}
 
 module _ (t t′ s s′ s″ : Tables) (heads heads′ : Heads) (ss : List ℕ) (house limit : ℕ) (a : Reply) where
   -- the four parts of what is lent

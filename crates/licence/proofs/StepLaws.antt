@@ -78,7 +78,7 @@ module _ (n : Nursery) (h : ℕ) where
       go false e (some q) f ih = rw (anyDamaged, f) (ih (rw (e, anyDamaged, f) at d))
 
   -- none is left out by a number that is no house's
-  damaged-out : (at k : ℕ) → at + k ≤ h → anyDamaged none n (countFrom at k) ≡ anyDamaged (some h) n (countFrom at k)
+  pub damaged-out : (at k : ℕ) → at + k ≤ h → anyDamaged none n (countFrom at k) ≡ anyDamaged (some h) n (countFrom at k)
   unfolding anyDamaged isOwn countFrom
   damaged-out at zero l = refl
   damaged-out at (suc k) l = go (held (storedIn at n)) refl (damaged-out (suc at) k (omega arith))

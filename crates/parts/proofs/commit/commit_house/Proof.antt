@@ -1,8 +1,83 @@
 use native.Mathlib.Omega.{arith}
-use Rattle.growing.proofs.PartLaws.{part-left}
+use Rattle.parts.proofs.PartLaws.{part-left}
 use borrow.Author.Needs.{needs}
-use Rattle.growing.proofs.commit.commit_house.Statement.{statement}
-use Rattle.growing.proofs.commit.commit_house.Tie as tie
+use Rattle.parts.proofs.commit.commit_house.Statement.{statement}
+use Rattle.parts.proofs.commit.commit_house.Tie as tie
+
+add-commit-own : tie.Need-add-commit-own
+add-commit-own c =
+    let at-pre = c .before .before .before .before .before .before .before .before .before .before .before .before .before in
+    omega (arith, at-pre .pre .0)
+
+mul-commit-own : tie.Need-mul-commit-own
+mul-commit-own c =
+    let at-pre = c .before .before .before .before .before .before .before .before .before .before .before .before .before in
+    omega (arith, at-pre .pre .0)
+
+part-commit-own-end : tie.Need-part-commit-own-end
+part-commit-own-end c =
+    let at-pre = c .before .before .before .before .before .before .before .before .before .before .before .before .before in
+    omega (arith, at-pre .pre .0, at-pre .pre .1 .0)
+
+add-commit-own-2 : tie.Need-add-commit-own-2
+add-commit-own-2 c =
+    let at-pre = c .before .before .before .before .before .before .before .before .before .before .before .before .before .before in
+    omega (arith, at-pre .pre .0)
+
+mul-commit-own-2 : tie.Need-mul-commit-own-2
+mul-commit-own-2 c =
+    let at-pre = c .before .before .before .before .before .before .before .before .before .before .before .before .before .before in
+    omega (arith, at-pre .pre .0)
+
+part-commit-own-end-2 : tie.Need-part-commit-own-end-2
+part-commit-own-end-2 c =
+    let at-pre = c .before .before .before .before .before .before .before .before .before .before .before .before .before .before in
+    omega (arith, at-pre .pre .0, at-pre .pre .1 .1)
+
+add-commit-own-3 : tie.Need-add-commit-own-3
+add-commit-own-3 c =
+    let at-pre = c .before .before .before .before .before .before .before .before .before .before .before .before .before .before .before in
+    omega (arith, at-pre .pre .0)
+
+mul-commit-own-3 : tie.Need-mul-commit-own-3
+mul-commit-own-3 c =
+    let at-pre = c .before .before .before .before .before .before .before .before .before .before .before .before .before .before .before in
+    omega (arith, at-pre .pre .0)
+
+part-commit-own-end-3 : tie.Need-part-commit-own-end-3
+part-commit-own-end-3 c =
+    let at-pre = c .before .before .before .before .before .before .before .before .before .before .before .before .before .before .before in
+    omega (arith, at-pre .pre .0, at-pre .pre .1 .2)
+
+add-commit-own-4 : tie.Need-add-commit-own-4
+add-commit-own-4 c =
+    let at-pre = c .before .before .before .before .before .before .before .before .before .before .before .before .before .before .before .before in
+    omega (arith, at-pre .pre .0)
+
+mul-commit-own-4 : tie.Need-mul-commit-own-4
+mul-commit-own-4 c =
+    let at-pre = c .before .before .before .before .before .before .before .before .before .before .before .before .before .before .before .before in
+    omega (arith, at-pre .pre .0)
+
+part-commit-own-end-4 : tie.Need-part-commit-own-end-4
+part-commit-own-end-4 c =
+    let at-pre = c .before .before .before .before .before .before .before .before .before .before .before .before .before .before .before .before in
+    omega (arith, at-pre .pre .0, at-pre .pre .1 .3)
+
+add-commit-own-5 : tie.Need-add-commit-own-5
+add-commit-own-5 c =
+    let at-pre = c .before .before .before .before .before .before .before .before .before .before .before .before .before .before .before .before .before in
+    omega (arith, at-pre .pre .0)
+
+mul-commit-own-5 : tie.Need-mul-commit-own-5
+mul-commit-own-5 c =
+    let at-pre = c .before .before .before .before .before .before .before .before .before .before .before .before .before .before .before .before .before in
+    omega (arith, at-pre .pre .0)
+
+part-commit-own-end-5 : tie.Need-part-commit-own-end-5
+part-commit-own-end-5 c =
+    let at-pre = c .before .before .before .before .before .before .before .before .before .before .before .before .before .before .before .before .before in
+    omega (arith, at-pre .pre .0, at-pre .pre .1 .4)
 
 add-commit-own-6 : tie.Need-add-commit-own-6
 add-commit-own-6 c =
@@ -95,31 +170,31 @@ commit-house-spec =
     (λ c. search needs)
     (λ c. search needs)
     (λ c κs. search needs)
+    add-commit-own
+    mul-commit-own
     (λ c. search needs)
     (λ c. search needs)
+    part-commit-own-end
+    add-commit-own-2
+    mul-commit-own-2
     (λ c. search needs)
     (λ c. search needs)
+    part-commit-own-end-2
+    add-commit-own-3
+    mul-commit-own-3
     (λ c. search needs)
     (λ c. search needs)
+    part-commit-own-end-3
+    add-commit-own-4
+    mul-commit-own-4
     (λ c. search needs)
     (λ c. search needs)
+    part-commit-own-end-4
+    add-commit-own-5
+    mul-commit-own-5
     (λ c. search needs)
     (λ c. search needs)
-    (λ c. search needs)
-    (λ c. search needs)
-    (λ c. search needs)
-    (λ c. search needs)
-    (λ c. search needs)
-    (λ c. search needs)
-    (λ c. search needs)
-    (λ c. search needs)
-    (λ c. search needs)
-    (λ c. search needs)
-    (λ c. search needs)
-    (λ c. search needs)
-    (λ c. search needs)
-    (λ c. search needs)
-    (λ c. search needs)
+    part-commit-own-end-5
     add-commit-own-6
     mul-commit-own-6
     (λ c. search needs)

@@ -3,10 +3,85 @@ use Prim.Native.Nat.{ℕ}
 use mathlib.Core.List.{List}
 use lib.ListN.{set}
 use native.Mathlib.Omega.{arith}
-use Rattle.growing.proofs.PartLaws.{part-left}
+use Rattle.parts.proofs.PartLaws.{part-left}
 use borrow.Author.Needs.{needs}
-use Rattle.growing.proofs.grow.grow_house.Statement.{statement}
-use Rattle.growing.proofs.grow.grow_house.Tie as tie
+use Rattle.parts.proofs.grow.grow_house.Statement.{statement}
+use Rattle.parts.proofs.grow.grow_house.Tie as tie
+
+add-grow-own : tie.Need-add-grow-own
+add-grow-own c =
+    let at-pre = c .before .before .before .before .before .before .before .before .before .before .before .before .before .before in
+    omega (arith, at-pre .pre .0)
+
+mul-grow-own : tie.Need-mul-grow-own
+mul-grow-own c =
+    let at-pre = c .before .before .before .before .before .before .before .before .before .before .before .before .before .before in
+    omega (arith, at-pre .pre .0)
+
+part-grow-own-end : tie.Need-part-grow-own-end
+part-grow-own-end c =
+    let at-pre = c .before .before .before .before .before .before .before .before .before .before .before .before .before .before in
+    omega (arith, at-pre .pre .0, at-pre .pre .1 .0)
+
+add-grow-own-2 : tie.Need-add-grow-own-2
+add-grow-own-2 c =
+    let at-pre = c .before .before .before .before .before .before .before .before .before .before .before .before .before .before .before in
+    omega (arith, at-pre .pre .0)
+
+mul-grow-own-2 : tie.Need-mul-grow-own-2
+mul-grow-own-2 c =
+    let at-pre = c .before .before .before .before .before .before .before .before .before .before .before .before .before .before .before in
+    omega (arith, at-pre .pre .0)
+
+part-grow-own-end-2 : tie.Need-part-grow-own-end-2
+part-grow-own-end-2 c =
+    let at-pre = c .before .before .before .before .before .before .before .before .before .before .before .before .before .before .before in
+    omega (arith, at-pre .pre .0, at-pre .pre .1 .1)
+
+add-grow-own-3 : tie.Need-add-grow-own-3
+add-grow-own-3 c =
+    let at-pre = c .before .before .before .before .before .before .before .before .before .before .before .before .before .before .before .before in
+    omega (arith, at-pre .pre .0)
+
+mul-grow-own-3 : tie.Need-mul-grow-own-3
+mul-grow-own-3 c =
+    let at-pre = c .before .before .before .before .before .before .before .before .before .before .before .before .before .before .before .before in
+    omega (arith, at-pre .pre .0)
+
+part-grow-own-end-3 : tie.Need-part-grow-own-end-3
+part-grow-own-end-3 c =
+    let at-pre = c .before .before .before .before .before .before .before .before .before .before .before .before .before .before .before .before in
+    omega (arith, at-pre .pre .0, at-pre .pre .1 .2)
+
+add-grow-own-4 : tie.Need-add-grow-own-4
+add-grow-own-4 c =
+    let at-pre = c .before .before .before .before .before .before .before .before .before .before .before .before .before .before .before .before .before in
+    omega (arith, at-pre .pre .0)
+
+mul-grow-own-4 : tie.Need-mul-grow-own-4
+mul-grow-own-4 c =
+    let at-pre = c .before .before .before .before .before .before .before .before .before .before .before .before .before .before .before .before .before in
+    omega (arith, at-pre .pre .0)
+
+part-grow-own-end-4 : tie.Need-part-grow-own-end-4
+part-grow-own-end-4 c =
+    let at-pre = c .before .before .before .before .before .before .before .before .before .before .before .before .before .before .before .before .before in
+    omega (arith, at-pre .pre .0, at-pre .pre .1 .3)
+
+add-grow-own-5 : tie.Need-add-grow-own-5
+add-grow-own-5 c =
+    let at-pre = c .before .before .before .before .before .before .before .before .before .before .before .before .before .before .before .before .before .before in
+    omega (arith, at-pre .pre .0)
+
+mul-grow-own-5 : tie.Need-mul-grow-own-5
+mul-grow-own-5 c =
+    let at-pre = c .before .before .before .before .before .before .before .before .before .before .before .before .before .before .before .before .before .before in
+    omega (arith, at-pre .pre .0)
+
+part-grow-own-end-5 : tie.Need-part-grow-own-end-5
+part-grow-own-end-5 c =
+    let at-pre = c .before .before .before .before .before .before .before .before .before .before .before .before .before .before .before .before .before .before in
+    omega (arith, at-pre .pre .0, at-pre .pre .1 .4)
 
 add-grow-own-6 : tie.Need-add-grow-own-6
 add-grow-own-6 c =
@@ -99,31 +174,31 @@ grow-house-spec =
     (λ c. search needs)
     (λ c. search needs)
     (λ c κs. search needs)
+    add-grow-own
+    mul-grow-own
     (λ c. search needs)
     (λ c. search needs)
+    part-grow-own-end
+    add-grow-own-2
+    mul-grow-own-2
     (λ c. search needs)
     (λ c. search needs)
+    part-grow-own-end-2
+    add-grow-own-3
+    mul-grow-own-3
     (λ c. search needs)
     (λ c. search needs)
+    part-grow-own-end-3
+    add-grow-own-4
+    mul-grow-own-4
     (λ c. search needs)
     (λ c. search needs)
+    part-grow-own-end-4
+    add-grow-own-5
+    mul-grow-own-5
     (λ c. search needs)
     (λ c. search needs)
-    (λ c. search needs)
-    (λ c. search needs)
-    (λ c. search needs)
-    (λ c. search needs)
-    (λ c. search needs)
-    (λ c. search needs)
-    (λ c. search needs)
-    (λ c. search needs)
-    (λ c. search needs)
-    (λ c. search needs)
-    (λ c. search needs)
-    (λ c. search needs)
-    (λ c. search needs)
-    (λ c. search needs)
-    (λ c. search needs)
+    part-grow-own-end-5
     add-grow-own-6
     mul-grow-own-6
     (λ c. search needs)

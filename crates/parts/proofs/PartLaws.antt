@@ -13,7 +13,7 @@ use Rattle.nursery.specs.Calls.{HouseCall}
 use Rattle.admission.specs.Own.{Outcome, ownStep}
 use Rattle.admission.specs.Lent as own
 use Rattle.licence.proofs.CallLaws.{parts-are}
-use Rattle.growing.specs.Left.{left, putOwn}
+use Rattle.parts.specs.Left.{left, putOwn}
 
 module _ (h : ℕ) (degrees sides ends lengths volumes labels : List ℕ) (heads : List Counts) where
   one : 4096 * h + 4096 - 4096 * h ≡ 4096

@@ -1,8 +1,83 @@
 use native.Mathlib.Omega.{arith}
-use Rattle.growing.proofs.PartLaws.{part-left}
+use Rattle.parts.proofs.PartLaws.{part-left}
 use borrow.Author.Needs.{needs}
-use Rattle.growing.proofs.land.land_house.Statement.{statement}
-use Rattle.growing.proofs.land.land_house.Tie as tie
+use Rattle.parts.proofs.land.land_house.Statement.{statement}
+use Rattle.parts.proofs.land.land_house.Tie as tie
+
+add-land-own : tie.Need-add-land-own
+add-land-own c =
+    let at-pre = c .before .before .before .before .before .before .before .before .before .before .before .before .before .before in
+    omega (arith, at-pre .pre .0)
+
+mul-land-own : tie.Need-mul-land-own
+mul-land-own c =
+    let at-pre = c .before .before .before .before .before .before .before .before .before .before .before .before .before .before in
+    omega (arith, at-pre .pre .0)
+
+part-land-own-end : tie.Need-part-land-own-end
+part-land-own-end c =
+    let at-pre = c .before .before .before .before .before .before .before .before .before .before .before .before .before .before in
+    omega (arith, at-pre .pre .0, at-pre .pre .1 .0)
+
+add-land-own-2 : tie.Need-add-land-own-2
+add-land-own-2 c =
+    let at-pre = c .before .before .before .before .before .before .before .before .before .before .before .before .before .before .before in
+    omega (arith, at-pre .pre .0)
+
+mul-land-own-2 : tie.Need-mul-land-own-2
+mul-land-own-2 c =
+    let at-pre = c .before .before .before .before .before .before .before .before .before .before .before .before .before .before .before in
+    omega (arith, at-pre .pre .0)
+
+part-land-own-end-2 : tie.Need-part-land-own-end-2
+part-land-own-end-2 c =
+    let at-pre = c .before .before .before .before .before .before .before .before .before .before .before .before .before .before .before in
+    omega (arith, at-pre .pre .0, at-pre .pre .1 .1)
+
+add-land-own-3 : tie.Need-add-land-own-3
+add-land-own-3 c =
+    let at-pre = c .before .before .before .before .before .before .before .before .before .before .before .before .before .before .before .before in
+    omega (arith, at-pre .pre .0)
+
+mul-land-own-3 : tie.Need-mul-land-own-3
+mul-land-own-3 c =
+    let at-pre = c .before .before .before .before .before .before .before .before .before .before .before .before .before .before .before .before in
+    omega (arith, at-pre .pre .0)
+
+part-land-own-end-3 : tie.Need-part-land-own-end-3
+part-land-own-end-3 c =
+    let at-pre = c .before .before .before .before .before .before .before .before .before .before .before .before .before .before .before .before in
+    omega (arith, at-pre .pre .0, at-pre .pre .1 .2)
+
+add-land-own-4 : tie.Need-add-land-own-4
+add-land-own-4 c =
+    let at-pre = c .before .before .before .before .before .before .before .before .before .before .before .before .before .before .before .before .before in
+    omega (arith, at-pre .pre .0)
+
+mul-land-own-4 : tie.Need-mul-land-own-4
+mul-land-own-4 c =
+    let at-pre = c .before .before .before .before .before .before .before .before .before .before .before .before .before .before .before .before .before in
+    omega (arith, at-pre .pre .0)
+
+part-land-own-end-4 : tie.Need-part-land-own-end-4
+part-land-own-end-4 c =
+    let at-pre = c .before .before .before .before .before .before .before .before .before .before .before .before .before .before .before .before .before in
+    omega (arith, at-pre .pre .0, at-pre .pre .1 .3)
+
+add-land-own-5 : tie.Need-add-land-own-5
+add-land-own-5 c =
+    let at-pre = c .before .before .before .before .before .before .before .before .before .before .before .before .before .before .before .before .before .before in
+    omega (arith, at-pre .pre .0)
+
+mul-land-own-5 : tie.Need-mul-land-own-5
+mul-land-own-5 c =
+    let at-pre = c .before .before .before .before .before .before .before .before .before .before .before .before .before .before .before .before .before .before in
+    omega (arith, at-pre .pre .0)
+
+part-land-own-end-5 : tie.Need-part-land-own-end-5
+part-land-own-end-5 c =
+    let at-pre = c .before .before .before .before .before .before .before .before .before .before .before .before .before .before .before .before .before .before in
+    omega (arith, at-pre .pre .0, at-pre .pre .1 .4)
 
 add-land-own-6 : tie.Need-add-land-own-6
 add-land-own-6 c =
@@ -95,31 +170,31 @@ land-house-spec =
     (λ c. search needs)
     (λ c. search needs)
     (λ c κs. search needs)
+    add-land-own
+    mul-land-own
     (λ c. search needs)
     (λ c. search needs)
+    part-land-own-end
+    add-land-own-2
+    mul-land-own-2
     (λ c. search needs)
     (λ c. search needs)
+    part-land-own-end-2
+    add-land-own-3
+    mul-land-own-3
     (λ c. search needs)
     (λ c. search needs)
+    part-land-own-end-3
+    add-land-own-4
+    mul-land-own-4
     (λ c. search needs)
     (λ c. search needs)
+    part-land-own-end-4
+    add-land-own-5
+    mul-land-own-5
     (λ c. search needs)
     (λ c. search needs)
-    (λ c. search needs)
-    (λ c. search needs)
-    (λ c. search needs)
-    (λ c. search needs)
-    (λ c. search needs)
-    (λ c. search needs)
-    (λ c. search needs)
-    (λ c. search needs)
-    (λ c. search needs)
-    (λ c. search needs)
-    (λ c. search needs)
-    (λ c. search needs)
-    (λ c. search needs)
-    (λ c. search needs)
-    (λ c. search needs)
+    part-land-own-end-5
     add-land-own-6
     mul-land-own-6
     (λ c. search needs)
