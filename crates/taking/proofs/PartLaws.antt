@@ -42,8 +42,8 @@ module _ (h : ℕ) (degrees sides ends lengths volumes labels : List ℕ) (heads
   put-left d s n l v b c z ys a heads′ e = rw (one, two, e)
 
   -- what the call leaves that has had the parts and the head of house h
-  pub part-left : (d s n l v b : List ℕ) (c c′ : Counts) (z z′ : Tables) (ys : List ℕ) (a : Reply) (heads′ : List Counts) (limit removals : ℕ) (call : HouseCall)
-      → c ≡ getD heads h noCounts → heads′ ≡ set heads h c′
+  pub part-left : (d s n l v b : List ℕ) (c c′ : Counts) (z z′ : Tables) (ys : List ℕ) (a : Reply) (heads′ : List Counts) (limit removals removals′ : ℕ) (call : HouseCall)
+      → removals ≡ removals′ → c ≡ getD heads h noCounts → heads′ ≡ set heads h c′
       → own.outcome (tables d s n l v b) c′ z′ ys a
       ≡ ownStep limit removals call
       (own.lent
@@ -69,14 +69,19 @@ module _ (h : ℕ) (degrees sides ends lengths volumes labels : List ℕ) (heads
       ys
       a
       ≡ putOwn h (tables degrees sides ends lengths volumes labels) heads
-      (ownStep limit removals call (own.lent (tablesIn h (tables degrees sides ends lengths volumes labels)) (getD heads h noCounts) z))
-  part-left d s n l v b c c′ z z′ ys a heads′ limit removals call w e q =
+      (ownStep limit removals′ call (own.lent (tablesIn h (tables degrees sides ends lengths volumes labels)) (getD heads h noCounts) z))
+  part-left d s n l v b c c′ z z′ ys a heads′ limit removals removals′ call k w e q =
       put-left d s n l v b c′ z′ ys a heads′ e
       ∙ ap (putOwn h (tables degrees sides ends lengths volumes labels) heads)
       (q
       ∙ ap (λ (t : Tables). ownStep limit removals call (own.lent t c z)) (parts-are h degrees sides ends lengths volumes labels)
-      ∙ ap (λ (k : Counts). ownStep limit removals call (own.lent (tablesIn h (tables degrees sides ends lengths volumes labels)) k z)) w)
+      ∙ ap (λ (k : Counts). ownStep limit removals call (own.lent (tablesIn h (tables degrees sides ends lengths volumes labels)) k z)) w
+      ∙ ap (λ (i : ℕ). ownStep limit i call (own.lent (tablesIn h (tables degrees sides ends lengths volumes labels)) (getD heads h noCounts) z)) k)
 
 -- the count of removals, raised
 pub count-on : (ks ks′ : List ℕ) (h k one : ℕ) → k ≡ getD ks h 0 → one ≡ more32 k → ks′ ≡ set ks h one → ks′ ≡ set ks h (more32 (getD ks h 0))
 count-on ks ks′ h k one a b c = rw (← a, ← b) c
+
+-- a head put among heads that are the same
+pub heads-on : (heads heads₁ heads₂ : List Counts) (h : ℕ) (c : Counts) → heads₁ ≡ heads → heads₂ ≡ set heads₁ h c → heads₂ ≡ set heads h c
+heads-on heads heads₁ heads₂ h c a b = b ∙ ap (λ (x : List Counts). set x h c) a
