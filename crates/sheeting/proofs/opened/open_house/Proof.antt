@@ -1,8 +1,8 @@
 use native.Mathlib.Omega.{arith}
 use Rattle.licence.proofs.CallLaws.{parts-step}
 use borrow.Author.Needs.{needs}
-use Rattle.sheets.proofs.opened.open_house.Statement.{statement}
-use Rattle.sheets.proofs.opened.open_house.Tie as tie
+use Rattle.sheeting.proofs.opened.open_house.Statement.{statement}
+use Rattle.sheeting.proofs.opened.open_house.Tie as tie
 
 mul-v : tie.Need-mul-v
 mul-v c = search needs
