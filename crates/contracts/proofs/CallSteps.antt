@@ -33,10 +33,10 @@ use Rattle.houses.proofs.find.find as find
 use Rattle.houses.proofs.find.find_at as find-at
 use Rattle.houses.proofs.distance.distance as distance
 use Rattle.houses.proofs.quote.quote as quote
-use Rattle.sheets.proofs.sheet.sheet as sheet
-use Rattle.sheets.proofs.write.write as write
-use Rattle.sheets.proofs.opened.open as open-sheet
-use Rattle.sheets.proofs.opened.fetch as fetch-line
+use Rattle.sheeting.proofs.sheet.sheet as sheet
+use Rattle.sheeting.proofs.write.write as write
+use Rattle.sheeting.proofs.opened.open as open-sheet
+use Rattle.sheeting.proofs.opened.fetch as fetch-line
 use Rattle.sharing.proofs.shares.set_shares as set-shares
 
 -- ---- the parameters of a call

@@ -1,34 +1,38 @@
 -- The call of a house joined from the gate of the other houses and what is done on its own part of the tables.
-use mathlib.Core.Path.{_≡_, refl, sym, ap, _∙_}
+use mathlib.Core.Path.{_≡_, refl, sym, ap, ap₂, _∙_, subst}
 use mathlib.Core.Logic.{_≢_}
-use Prim.Native.Nat.{ℕ, zero, suc, _+_, _*_, _≤_, _<_}
+use Prim.Native.Nat.{ℕ, zero, suc, _+_, _*_, _-_, _≤_, _<_}
 use native.Mathlib.Omega.{arith}
+use native.Mathlib.Decide.{decLt}
 use native.Mathlib.Nat.{mul-le-mul-left}
-use mathlib.Core.Bool.{Bool, true, false, _&&_, _||_}
-use mathlib.Core.List.{List, [], _∷_}
+use mathlib.Core.Bool.{Bool, true, false, not, _&&_, _||_}
+use mathlib.Core.List.{List, [], _∷_, map}
 use mathlib.Core.Option.{Option, none, some, Option·none-ne-some}
-use lib.ListN.{length, set, drop, length-drop}
+use lib.ListN.{length, getD, set, take, drop, length-drop}
 use lib.Seq.{length-take-le, set-getD}
-use lib.Dec.{eqb, ltb}
-use borrow.Author.Tests.{eqb-true, lt-ltb, ltb-false, ltb-true, ne-eqb}
-use Rattle.model.specs.Basics.{countFrom, maxEdges, maxVertices, upTo}
+use lib.Dec.{eqb, leb, ltb}
+use borrow.Author.Tests.{eq-eqb, eqb-true, leb-false, le-ltb, lt-ltb, ltb-false, ltb-true, ne-eqb, not-false}
+use Rattle.model.specs.Basics.{countFrom, if_then_else_, maxEdges, maxVertices, upTo}
 use Rattle.model.specs.Register.{Landed, Quote, Register, commit, empty, landed, refused}
 use Rattle.model.specs.Format.{landList}
-use Rattle.model.specs.Queries.{refuses}
-use Rattle.model.specs.Tables.{Counts, Tables, cleared, fits, held, noCounts, rightSizes, sizes, storedOf}
-use Rattle.model.specs.Calls.{Ask, House}
+use Rattle.model.specs.Queries.{Reply, refuses, reported}
+use Rattle.model.specs.Tables.{Counts, Stored, Tables, cleared, countsOf, eqList, fits, held, noCounts, rightSizes, sizes, storedOf, tablesOf}
+use Rattle.model.specs.Calls.{Ask, House, answer}
+use Rattle.model.proofs.Basics.Booleans.{or-false}
 use Rattle.model.proofs.Registers.Equality.{eqList-refl}
 use Rattle.model.proofs.Registers.Kept.{cleared-fits}
+use Rattle.model.proofs.Registers.OnlyHeld.{only-held}
 use Rattle.nursery.specs.Licence.{houses, limitOf, overfull}
 use Rattle.nursery.specs.Nursery.{Nursery, edgesIn, houseIn, limitIn, part, putIn, putTables, registerIn, removalsIn, storedIn, tablesIn, verticesIn}
 use Rattle.nursery.specs.Calls as call
-use Rattle.nursery.specs.Calls.{HouseCall, anyDamaged, asks, barred, commitEffect, commits, edgesBut, effect, grownBy, grows, inHouse, isOwn, lands, notGrown, nurseryFits, outOfPlace, ownOf, readEffect, removes, scratchAfter, sliceOf, step}
+use Rattle.nursery.specs.Calls.{HouseCall, anyDamaged, asks, barred, commitEffect, commits, edgesBut, effect, grownBy, grows, inHouse, isOwn, lands, notGrown, nurseryFits, outOfPlace, ownOf, readEffect, removeEffect, removes, scratchAfter, sliceOf, step}
+use Rattle.nursery.specs.Removal.{Removed, keptWith, maxRemovals, remove, removed}
 use Rattle.nursery.proofs.Parts.{Sized, fits-sized, house-same}
 use Rattle.nursery.proofs.Gate.{damaged-21, question-quiet, step-barred, step-effect}
 use Rattle.admission.specs.Own as own
 use Rattle.admission.specs.Own.{houseOf, ownStep}
 use Rattle.admission.proofs.OwnLaws.{outcomeOf, step-admits}
-use Rattle.licence.specs.Gate.{barsWith, emptied, licenceIn, opensWith, passOthers, scratchPassed}
+use Rattle.licence.specs.Gate.{PassedAs, barsWith, emptied, licenceIn, opensWith, passOthers, scratchPassed}
 
 -- whether a call grows its house
 unfoldable pub isGrow : HouseCall → Bool
@@ -369,3 +373,75 @@ module _ (h : ℕ) (l : call.Lent) (limit : ℕ) where
       rw (step-admits limit k (grows bs) (ownLent h n) empty (own-fits h l limit true o) refl, outcomeOf)
       (sym (step-effect h (grows bs) l (effect (grows bs) (houseOf limit k empty)) (free h l limit true o (grows bs) (rw (o .others, o .not-over)))
       (ap (λ (x : ℕ). readEffect 0 (landList x empty bs)) (sym (o .limit-is)))))
+
+-- ---- a removal: the count of removals after it is raised where it is reported
+
+not-reported : (x n : ℕ) → refuses x ≢ reported n
+not-reported x n e = let z : _≡_ {A = ℕ} 0 1 = cc in omega arith
+
+removed-count : (s : House) (slice : List ℕ) (x : Removed) (n : ℕ) → (removeEffect s slice x) .reply ≡ reported n → (removeEffect s slice x) .removals ≡ s .removals + 1
+unfolding removeEffect
+removed-count s slice (removed r cs) n e = refl
+removed-count s slice (keptWith x) n e = absurd (not-reported x n e)
+
+unremoved-count : (s : House) (slice : List ℕ) (x : Removed) (y : ℕ) → (removeEffect s slice x) .reply ≡ refuses y → (removeEffect s slice x) .removals ≡ s .removals
+unfolding removeEffect
+unremoved-count s slice (removed r cs) y e = absurd (not-reported y (length cs) (sym e))
+unremoved-count s slice (keptWith x) y e = refl
+
+-- what is reported had room to be counted
+remove-38 : (s : House) (d room : ℕ) → (leb (length (s .register .edges)) d || leb maxRemovals (s .removals)) ≡ true → remove s d room ≡ keptWith 38
+unfolding remove
+remove-38 s d room e = rw e
+
+remove-room : (s : House) (d n : ℕ) (slice : List ℕ) → (removeEffect s slice (remove s d (length slice))) .reply ≡ reported n → s .removals < maxRemovals
+unfolding removeEffect
+remove-room s d n slice q = go (leb (length (s .register .edges)) d || leb maxRemovals (s .removals)) refl
+  where
+    go : (b : Bool) → (leb (length (s .register .edges)) d || leb maxRemovals (s .removals)) ≡ b → s .removals < maxRemovals
+    go true e = absurd (not-reported 38 n (sym (ap (λ (x : Removed). (removeEffect s slice x) .reply) (remove-38 s d (length slice) e)) ∙ q))
+    go false e = leb-false maxRemovals (s .removals) ((or-false (leb (length (s .register .edges)) d) (leb maxRemovals (s .removals)) e) .1)
+
+module _ (h : ℕ) (l : call.Lent) (limit d : ℕ) (slice : List ℕ) (e : passOthers h false l ≡ opensWith limit) where
+  abbrev ownRemoved : own.Outcome
+  ownRemoved = ownStep limit (removalsIn h (l .nursery)) (removes d slice) (ownLent h (l .nursery))
+
+  removed-held : (r : Register) → held (storedIn h (l .nursery)) ≡ some r → ownRemoved ≡ outcomeOf limit (removalsIn h (l .nursery)) (removes d slice) r
+  unfolding isGrow emptied own.registerFor
+  removed-held r k = own-held h l limit false (opened h false l limit e) (removes d slice) refl refl refl r k
+
+  removed-joined : (r : Register) → held (storedIn h (l .nursery)) ≡ some r
+      → joined h (l .nursery) ownRemoved ((effect (removes d slice) (houseOf limit (removalsIn h (l .nursery)) r)) .removals) ≡ step (inHouse h (removes d slice)) l
+  unfolding isGrow emptied own.registerFor
+  removed-joined r k = joined-held h l limit false (opened h false l limit e) (removes d slice) refl refl refl r k
+
+  pub removed-step : (n : ℕ) → ownRemoved .reply ≡ reported n → joined h (l .nursery) ownRemoved (removalsIn h (l .nursery) + 1) ≡ step (inHouse h (removes d slice)) l
+  unfolding effect outcomeOf isGrow emptied own.registerFor
+  removed-step n q = go (held (storedIn h (l .nursery))) refl
+    where
+      go : (x : Option Register) → held (storedIn h (l .nursery)) ≡ x → joined h (l .nursery) ownRemoved (removalsIn h (l .nursery) + 1) ≡ step (inHouse h (removes d slice)) l
+      go none k =
+          absurd (not-reported 21 n (sym (ap (λ (o : own.Outcome). o .reply) (own-barred h l limit false (opened h false l limit e) (removes d slice) refl refl refl k)) ∙ q))
+      go (some r) k =
+          let s = houseOf limit (removalsIn h (l .nursery)) r in
+          ap (joined h (l .nursery) ownRemoved) (sym (removed-count s slice (remove s d (length slice)) n (sym (ap (λ (o : own.Outcome). o .reply) (removed-held r k)) ∙ q))) ∙ removed-joined r k
+
+  pub removed-room : (n : ℕ) → ownRemoved .reply ≡ reported n → removalsIn h (l .nursery) < maxRemovals
+  unfolding effect outcomeOf isGrow emptied own.registerFor
+  removed-room n q = go (held (storedIn h (l .nursery))) refl
+    where
+      go : (x : Option Register) → held (storedIn h (l .nursery)) ≡ x → removalsIn h (l .nursery) < maxRemovals
+      go none k =
+          absurd (not-reported 21 n (sym (ap (λ (o : own.Outcome). o .reply) (own-barred h l limit false (opened h false l limit e) (removes d slice) refl refl refl k)) ∙ q))
+      go (some r) k =
+          remove-room (houseOf limit (removalsIn h (l .nursery)) r) d n slice (sym (ap (λ (o : own.Outcome). o .reply) (removed-held r k)) ∙ q)
+
+  pub unremoved-step : (y : ℕ) → ownRemoved .reply ≡ refuses y → joined h (l .nursery) ownRemoved (removalsIn h (l .nursery)) ≡ step (inHouse h (removes d slice)) l
+  unfolding effect outcomeOf isGrow emptied own.registerFor
+  unremoved-step y q = go (held (storedIn h (l .nursery))) refl
+    where
+      go : (x : Option Register) → held (storedIn h (l .nursery)) ≡ x → joined h (l .nursery) ownRemoved (removalsIn h (l .nursery)) ≡ step (inHouse h (removes d slice)) l
+      go none k = joined-none h l limit false (opened h false l limit e) (removes d slice) refl refl refl k
+      go (some r) k =
+          let s = houseOf limit (removalsIn h (l .nursery)) r in
+          ap (joined h (l .nursery) ownRemoved) (sym (unremoved-count s slice (remove s d (length slice)) y (sym (ap (λ (o : own.Outcome). o .reply) (removed-held r k)) ∙ q))) ∙ removed-joined r k

@@ -14,10 +14,10 @@ use reference::lent::{self, Answer, Call, Command, Lent};
 use reference::licence::HOUSES;
 use reference::tally::{verdict, Cases, Quotes};
 
-const DEFAULT_COUNT: usize = 6;
+const DEFAULT_COUNT: usize = 9;
 /// How often a series is led on, by some commands each time. Its calls have to be answered within the
 /// time that a program has for one run.
-const TURNS: usize = 180;
+const TURNS: usize = 120;
 
 /// Calls by their kind and refusal, those that leave a ring of two or of more pipes standing in their house,
 /// the cases of the pipes landed, and the quotes that were committed while they held.
