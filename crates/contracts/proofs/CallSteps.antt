@@ -16,7 +16,7 @@ use denote.Triple.Entry.{Args, Res}
 use denote.Triple.Clauses.{AtExit, ClausesAt, Ended}
 use Rattle.model.specs.Queries.{Reply}
 use Rattle.model.specs.Tables.{Tables}
-use Rattle.nursery.specs.Calls.{Call, HouseCall, commits, fetches, finds, findsAt, grows, inHouse, lands, measures, opens, quotes, setsShares, sheets, step, writes}
+use Rattle.nursery.specs.Calls.{Call, HouseCall, commits, fetches, finds, findsAt, grows, inHouse, lands, measures, opens, quotes, removes, setsShares, sheets, step, writes}
 use Rattle.counters.specs.Answers.{listReply}
 use Rattle.counters.specs.Quotes.{asQuote, commitReply, quoteReply}
 use Rattle.tables.specs.Meaning.{tables}
@@ -25,6 +25,7 @@ use Rattle.licence.specs.Meaning.{lent, outcome}
 use Rattle.questions.specs.Meaning.{foundReply, listedReply, measuredReply, writtenReply}
 use Rattle.opening.specs.declared.sheets.OpenSheet.{OpenSheet}
 use Rattle.opening.specs.Meaning.{asSheet, fetchedReply, openedReply}
+use Rattle.removing.specs.Meaning.{removedReply}
 use Rattle.sharing.specs.Meaning.{sharesReply}
 use Rattle.growing.proofs.grow.grow as grow
 use Rattle.growing.proofs.land.land as land
@@ -38,6 +39,7 @@ use Rattle.sheeting.proofs.write.write as write
 use Rattle.sheeting.proofs.opened.open as open-sheet
 use Rattle.sheeting.proofs.opened.fetch as fetch-line
 use Rattle.sharing.proofs.shares.set_shares as set-shares
+use Rattle.taking.proofs.remove.remove as remove
 
 -- ---- the parameters of a call
 
@@ -142,6 +144,14 @@ module _ {M : Type 1} (𝓤 : URA M) (H : Heap 𝓤) (A : Atoms 𝓤) (mem : Mem
   pub commit-steps : (κs : Lfts 14) (a : Args commit.signature κs)
       → commit.clauses 𝓤 H A mem run κs a ≡ Ensures commit.ended κs (λ r z. LandSteps a z (commitReply r) (commits (asQuote (lands-own a .0))))
   commit-steps κs a = refl
+
+  -- a removal has a slice, and the pipe's number before it
+  pub remove-steps : (κs : Lfts 15) (a : Args remove.signature κs)
+      → remove.clauses 𝓤 H A mem run κs a ≡ Ensures remove.ended κs (λ r z.
+      let shares = now (past (a .1) .0) in
+      fact 𝓤 (outcome (tablesIn (z .1)) (now (z .0)) shares (tablesIn (past (z .1) .1)) (now (lands-own z .1 .0)) (removedReply r)
+      ≡ step (inHouse (past (past (a .1) .1) .0) (removes (lands-own a .0) (now (lands-own a .1 .0)))) (lent (tablesIn (a .1)) (now (a .0)) shares (tablesIn (past (a .1) .1)))))
+  remove-steps κs a = refl
 
   -- the shares
   pub shares-steps : (κs : Lfts 14) (a : Args set-shares.signature κs)
