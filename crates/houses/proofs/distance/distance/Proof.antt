@@ -9,27 +9,12 @@ use mathlib.Core.Path.{refl, sym, ap, _∙_}
 use borrow.Author.Needs.{needs}
 use Rattle.houses.proofs.distance.distance.Statement.{statement}
 use Rattle.houses.proofs.distance.distance.Tie as tie
-use Rattle.houses.proofs.distance.distance.Reads as reads
-use Rattle.houses.proofs.distance.distance.Lts as lts
-use Rattle.houses.proofs.distance.distance_house.Reads as distance-house-reads
-use Rattle.licence.proofs.gate.pass_others.Reads as pass-others-reads
-use Rattle.licence.proofs.heads.head_of.Reads as head-of-reads
 
--- src/distance.rt:97:9
-pass-others-requires : tie.Need-pass-others-requires
-pass-others-requires c κs = search needs
-
--- src/distance.rt:116:22
-enum-known-passed : tie.Need-enum-known-passed
-enum-known-passed c = search needs
-
--- src/distance.rt:118:17
 head-of-requires : tie.Need-head-of-requires
 head-of-requires c κs =
     let at-pass-others = c .before .before .before .before .before .before .before .before .before .before .before .before .before .before .before in
     (open-known _ _ _ _ _ false _ (ap asPassed (sym (c .before .passed .given .1)) ∙ at-pass-others .pass-others .ensures .0)) .0
 
--- src/distance.rt:119:13
 distance-house-requires : tie.Need-distance-house-requires
 distance-house-requires c κs =
     let at-passed = c .before .before .before .before .before .before .before .before in
@@ -37,44 +22,24 @@ distance-house-requires c κs =
     let k = open-known _ _ _ _ _ false _ (ap asPassed (sym (at-passed .passed .given .1)) ∙ at-pass-others .pass-others .ensures .0) in
     (k .0, k .1)
 
--- src/distance.rt:138:25
-enum-known-passed-2 : tie.Need-enum-known-passed-2
-enum-known-passed-2 c = search needs
-
--- src/distance.rt:75:1
 same-length : tie.Need-same-length
 same-length c =
     let at-distance-house = c .before .before .before .before .before .before .before .before .before .before .before .before in
     let at-pass-others = at-distance-house .before .before .before .before .before .before .before .before .before .before .before .before .before .before .before .before .before .before .before .before .before .before .before in
     at-distance-house .distance-house .kept .1 .1 .1 .1 .1 .1 .1 .0 ∙ at-pass-others .pass-others .kept .1 .1 .1 .1 .1 .1 .1 .1 .0
 
--- src/distance.rt:75:1
 same-length-2 : tie.Need-same-length-2
 same-length-2 c =
     let at-distance-house = c .before .before .before .before .before .before .before .before .before .before .before .before in
     let at-pass-others = at-distance-house .before .before .before .before .before .before .before .before .before .before .before .before .before .before .before .before .before .before .before .before .before .before .before in
     at-distance-house .distance-house .kept .1 .1 .1 .1 .1 .1 .1 .1 .0 ∙ at-pass-others .pass-others .kept .1 .1 .1 .1 .1 .1 .1 .1 .1 .0
 
--- src/distance.rt:75:1
 same-length-3 : tie.Need-same-length-3
 same-length-3 c =
     let at-distance-house = c .before .before .before .before .before .before .before .before .before .before .before .before in
     let at-pass-others = at-distance-house .before .before .before .before .before .before .before .before .before .before .before .before .before .before .before .before .before .before .before .before .before .before .before in
     at-distance-house .distance-house .kept .1 .1 .1 .1 .1 .1 .1 .1 .1 .0 ∙ at-pass-others .pass-others .kept .1 .1 .1 .1 .1 .1 .1 .1 .1 .1 .0
 
--- src/distance.rt:75:1
-same-length-4 : tie.Need-same-length-4
-same-length-4 c = search needs
-
--- src/distance.rt:75:1
-same-length-5 : tie.Need-same-length-5
-same-length-5 c = search needs
-
--- src/distance.rt:75:1
-same-length-6 : tie.Need-same-length-6
-same-length-6 c = search needs
-
--- src/distance.rt:75:1
 returns : tie.Need-returns
 returns c =
     let at-distance-house = c .before .before .before .before .before .before .before .before .before .before .before .before in
@@ -83,57 +48,33 @@ returns c =
     let at-pass-others = at-passed .before .before .before .before .before .before .before .before .before .before .before .before .before .before in
     asked-call _ _ _ _ _ _ _ (ap asPassed (sym (at-passed .passed .given .1)) ∙ at-pass-others .pass-others .ensures .0) (at-pass-others .pass-others .ensures .1) _ (at-head-of .head-of .ensures) _ _ _ _ (at-distance-house .distance-house .ensures _ _)
 
--- src/distance.rt:75:1
-same-length-7 : tie.Need-same-length-7
-same-length-7 c = search needs
-
--- src/distance.rt:75:1
-same-length-8 : tie.Need-same-length-8
-same-length-8 c = search needs
-
--- src/distance.rt:75:1
-same-length-9 : tie.Need-same-length-9
-same-length-9 c = search needs
-
--- src/distance.rt:75:1
-same-length-10 : tie.Need-same-length-10
-same-length-10 c = search needs
-
--- src/distance.rt:75:1
-same-length-11 : tie.Need-same-length-11
-same-length-11 c = search needs
-
--- src/distance.rt:75:1
-same-length-12 : tie.Need-same-length-12
-same-length-12 c = search needs
-
--- src/distance.rt:75:1
 returns-2 : tie.Need-returns-2
 unfolding isGrow sliceOf lentTo
 returns-2 c =
     let at-pass-others = c .before .before .before .before .before .before .before .before .before .before .before .before .before .before .before in
     barred-call _ _ _ _ _ _ false (measures _ _) _ refl (ap asPassed (sym (c .before .passed2 .given .1)) ∙ at-pass-others .pass-others .ensures .0) (at-pass-others .pass-others .ensures .1)
 
+-- the needs in the order of the code
 pub distance-spec : {M : Type 1} → statement M
 distance-spec =
     tie.close
     (tie.spec
-    pass-others-requires
-    enum-known-passed
+    (λ c κs. search needs)
+    (λ c. search needs)
     head-of-requires
     distance-house-requires
-    enum-known-passed-2
+    (λ c. search needs)
     same-length
     same-length-2
     same-length-3
-    same-length-4
-    same-length-5
-    same-length-6
+    (λ c. search needs)
+    (λ c. search needs)
+    (λ c. search needs)
     returns
-    same-length-7
-    same-length-8
-    same-length-9
-    same-length-10
-    same-length-11
-    same-length-12
+    (λ c. search needs)
+    (λ c. search needs)
+    (λ c. search needs)
+    (λ c. search needs)
+    (λ c. search needs)
+    (λ c. search needs)
     returns-2)

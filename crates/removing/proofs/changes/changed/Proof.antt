@@ -1,14 +1,10 @@
 use borrow.Author.Tests.{eq-eqb, ne-eqb}
 use Rattle.removing.proofs.changes.changed.Statement.{statement}
 use Rattle.removing.proofs.changes.changed.Tie as tie
-use Rattle.removing.proofs.changes.changed.Reads as reads
-use Rattle.removing.proofs.changes.changed.Lts as lts
 
--- src/changes.rt:17:9
 returns : tie.Need-returns
 returns c = rw (eq-eqb _ _ (c .if1 .taken))
 
--- src/changes.rt:13:1
 returns-2 : tie.Need-returns-2
 returns-2 c = rw (ne-eqb _ _ (c .if1 .left))
 

@@ -7,9 +7,6 @@ use Rattle.sharing.specs.Meaning.{verticesOf}
 use Rattle.sharing.proofs.EightLaws.{none-here, none-left, some-here}
 use Rattle.sharing.proofs.eight.any_landed.Statement.{statement}
 use Rattle.sharing.proofs.eight.any_landed.Tie as tie
-use Rattle.sharing.proofs.eight.any_landed.Reads as reads
-use Rattle.sharing.proofs.eight.any_landed.Lts as lts
-use Rattle.licence.proofs.heads.head_of.Reads as head-of-reads
 
 abbrev Inv-loop : tie.InvT-loop
 Inv-loop heads h₀ h = (h ≤ 8) × (anySome (drop h (verticesOf heads)) ≡ anySome (verticesOf heads))
@@ -17,35 +14,28 @@ Inv-loop heads h₀ h = (h ≤ 8) × (anySome (drop h (verticesOf heads)) ≡ an
 abbrev μ-loop : tie.MeasureT-loop
 μ-loop heads h₀ h = 8 - h
 
--- src/eight.rt:32:5
 loop-holds : tie.Need-loop-holds Inv-loop μ-loop
 loop-holds c = (omega arith, refl)
 
--- src/eight.rt:33:13
 head-of-requires : tie.Need-head-of-requires Inv-loop μ-loop
 head-of-requires c κs = c .loop-test .taken
 
--- src/eight.rt:35:13
 returns : tie.Need-returns Inv-loop μ-loop
 returns c =
     let at-loop = c .before .before .before .before in
     some-here _ _ _ (c .before .before .head-of .ensures) (c .before .before .before .loop-test .taken) (c .if1 .taken) (at-loop .loop .inv .1)
 
--- src/eight.rt:37:9
 add-h : tie.Need-add-h Inv-loop μ-loop
 add-h c = omega (arith, c .before .before .before .loop-test .taken)
 
--- src/eight.rt:32:5
 loop-less : tie.Need-loop-less Inv-loop μ-loop
 loop-less c = omega (arith, c .before .before .before .loop-test .taken)
 
--- src/eight.rt:32:5
 loop-again : tie.Need-loop-again Inv-loop μ-loop
 loop-again c =
     let at-loop = c .before .before .before .before in
     (omega (arith, c .before .before .before .loop-test .taken), none-here _ _ _ (c .before .before .head-of .ensures) (c .before .before .before .loop-test .taken) (c .if1 .left) (at-loop .loop .inv .1))
 
--- src/eight.rt:28:1
 returns-2 : tie.Need-returns-2 Inv-loop μ-loop
 returns-2 c = none-left _ _ (c .loop-test .left) (c .before .loop .inv .1)
 

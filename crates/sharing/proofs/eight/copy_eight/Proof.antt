@@ -1,15 +1,11 @@
 use Prim.Native.Nat.{_-_, _≤_}
-use mathlib.Core.Path.{_≡_, refl, _∙_, ap}
+use mathlib.Core.Path.{_≡_, refl}
 use mathlib.Core.List.{_++_}
 use native.Mathlib.Omega.{arith}
-use lib.ListN.{drop, length, take}
+use lib.ListN.{drop, take}
 use Rattle.sharing.proofs.EightLaws.{copied-all, copied-long, copied-on}
 use Rattle.sharing.proofs.eight.copy_eight.Statement.{statement}
 use Rattle.sharing.proofs.eight.copy_eight.Tie as tie
-use Rattle.sharing.proofs.eight.copy_eight.Reads as reads
-use Rattle.sharing.proofs.eight.copy_eight.Lts as lts
-use Rattle.tables.proofs.access.at16.Reads as at16-reads
-use Rattle.tables.proofs.access.put16.Reads as put16-reads
 
 abbrev Inv-loop : tie.InvT-loop
 Inv-loop shares₀ asked h₀ shares h = (h ≤ 8) × (shares ≡ take h asked ++ drop h shares₀)
@@ -17,31 +13,25 @@ Inv-loop shares₀ asked h₀ shares h = (h ≤ 8) × (shares ≡ take h asked +
 abbrev μ-loop : tie.MeasureT-loop
 μ-loop shares₀ asked h₀ shares h = 8 - h
 
--- src/eight.rt:47:5
 loop-holds : tie.Need-loop-holds Inv-loop μ-loop
 loop-holds c = (omega arith, refl)
 
--- src/eight.rt:48:26
 at16-requires : tie.Need-at16-requires Inv-loop μ-loop
 at16-requires c κs = tt
 
--- src/eight.rt:48:9
 put16-requires : tie.Need-put16-requires Inv-loop μ-loop
 put16-requires c κs = tt
 
--- src/eight.rt:49:9
 add-h : tie.Need-add-h Inv-loop μ-loop
 add-h c =
     let at-loop-test = c .before .before .before .before .before in
     omega (arith, at-loop-test .loop-test .taken)
 
--- src/eight.rt:47:5
 loop-less : tie.Need-loop-less Inv-loop μ-loop
 loop-less c =
     let at-loop-test = c .before .before .before .before .before in
     omega (arith, at-loop-test .loop-test .taken)
 
--- src/eight.rt:47:5
 loop-again : tie.Need-loop-again Inv-loop μ-loop
 loop-again c =
     let at-loop-test = c .before .before .before .before .before in
@@ -49,13 +39,11 @@ loop-again c =
     let at-pre = at-loop .before .before .before in
     (omega (arith, at-loop-test .loop-test .taken), copied-on _ _ _ _ _ _ (at-pre .pre .0) (at-pre .pre .1) (at-loop-test .loop-test .taken) (at-loop .loop .inv .1) (c .before .before .before .at16 .ensures) (c .before .before .put16 .ensures))
 
--- src/eight.rt:42:1
 same-length : tie.Need-same-length Inv-loop μ-loop
 same-length c =
     let at-pre = c .before .before .before .before in
     copied-long _ _ _ _ (at-pre .pre .0) (at-pre .pre .1) (c .before .loop .inv .0) (c .before .loop .inv .1)
 
--- src/eight.rt:42:1
 returns : tie.Need-returns Inv-loop μ-loop
 returns c =
     let at-pre = c .before .before .before .before in

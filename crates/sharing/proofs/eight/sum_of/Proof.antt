@@ -7,9 +7,6 @@ use Rattle.model.specs.Basics.{sum}
 use Rattle.sharing.proofs.EightLaws.{sum-all, sum-on}
 use Rattle.sharing.proofs.eight.sum_of.Statement.{statement}
 use Rattle.sharing.proofs.eight.sum_of.Tie as tie
-use Rattle.sharing.proofs.eight.sum_of.Reads as reads
-use Rattle.sharing.proofs.eight.sum_of.Lts as lts
-use Rattle.tables.proofs.access.at16.Reads as at16-reads
 
 abbrev Inv-loop : tie.InvT-loop
 Inv-loop shares total₀ h₀ total h = (h ≤ 8) × (total ≤ 65535 * h) × (total + sum (drop h shares) ≡ sum shares)
@@ -17,40 +14,30 @@ Inv-loop shares total₀ h₀ total h = (h ≤ 8) × (total ≤ 65535 * h) × (t
 abbrev μ-loop : tie.MeasureT-loop
 μ-loop shares total₀ h₀ total h = 8 - h
 
--- src/eight.rt:20:5
 loop-holds : tie.Need-loop-holds Inv-loop μ-loop
 loop-holds c = (omega arith, omega arith, omega arith)
 
--- src/eight.rt:21:18
 at16-requires : tie.Need-at16-requires Inv-loop μ-loop
 at16-requires c κs = tt
 
--- src/eight.rt:21:18
-cast-total : tie.Need-cast-total Inv-loop μ-loop
-cast-total c = search needs
-
--- src/eight.rt:21:9
 add-total : tie.Need-add-total Inv-loop μ-loop
 add-total c = omega (arith, c .before .before .loop .inv .1, c .before .loop-test .taken)
 
--- src/eight.rt:22:9
 add-h : tie.Need-add-h Inv-loop μ-loop
 add-h c = omega (arith, c .before .loop-test .taken)
 
--- src/eight.rt:20:5
 loop-less : tie.Need-loop-less Inv-loop μ-loop
 loop-less c = omega (arith, c .before .loop-test .taken)
 
--- src/eight.rt:20:5
 loop-again : tie.Need-loop-again Inv-loop μ-loop
 loop-again c =
     let at-pre = c .before .before .before .before in
     (omega (arith, c .before .loop-test .taken), omega (arith, c .before .before .loop .inv .1), sum-on _ _ _ _ (at-pre .pre) (c .before .loop-test .taken) (c .at16 .ensures) (c .before .before .loop .inv .2))
 
--- src/eight.rt:14:1
 returns : tie.Need-returns Inv-loop μ-loop
 returns c = sum-all _ _ _ (c .before .before .before .pre) (c .loop-test .left) (c .before .loop .inv .2)
 
+-- the needs in the order of the code
 pub sum-of-spec : {M : Type 1} → statement M
 sum-of-spec =
     tie.close
@@ -59,7 +46,7 @@ sum-of-spec =
     μ-loop
     loop-holds
     at16-requires
-    cast-total
+    (λ c. search needs)
     add-total
     add-h
     loop-less
