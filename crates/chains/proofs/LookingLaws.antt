@@ -1,7 +1,7 @@
 -- A chain looked through: the ways out of the functions, and a turn of the loop.
 use mathlib.Core.Path.{_≡_, refl, sym}
 use mathlib.Core.Logic.{_≢_}
-use mathlib.Core.Bool.{Bool, true, false}
+use mathlib.Core.Bool.{Bool, true, false, not}
 use mathlib.Core.List.{List}
 use mathlib.Core.Option.{Option, none, some}
 use Prim.Native.Nat.{ℕ, zero, suc, _+_, _-_, _*_, _≤_, _<_, min}
@@ -9,10 +9,11 @@ use native.Mathlib.Nat.{not-suc-le-zero}
 use native.Mathlib.Numerals.{sub-one}
 use lib.ListN.{getD}
 use borrow.Author.Tests.{eq-eqb, ne-eqb}
+use Rattle.model.specs.Basics.{if_then_else_}
 use Rattle.model.specs.Queries.{Reply, found}
 use Rattle.tables.specs.Steps.{farIn, more16, turnIn, sum32}
 use Rattle.chains.specs.Chains.{goesOnIn}
-use Rattle.chains.specs.Looking.{Look, Seen, look, lookAlongIn, lookIn, lookThroughIn, seen, toldIn, wearerIn, withEdge}
+use Rattle.chains.specs.Looking.{Look, Seen, edgeTowards, look, lookAlongIn, lookIn, lookThroughIn, seen, toldIn, wearerIn, withEdge}
 
 module _ (ls : List ℕ) (label w v : ℕ) where
   -- somebody before wears the label; v does; v does not
@@ -79,7 +80,7 @@ module _ (ds lens : List ℕ) (up : Bool) (back at w b h x : ℕ) where
   told-nothing z = rw z
 
   module _ (f : w ≢ 0) (k : ℕ) (o : k ≡ getD ds at 0) where
-    -- the walk came home; it went up; it went down
+    -- the walk came home, or to the chain's end
     pub told-ring : (l : ℕ) → k ≡ 2 → l ≡ sum32 b h → some (found x (w - 1) 0 l) ≡ toldIn ds lens up back (look at (seen w b h x))
     unfolding toldIn
     told-ring l two e = go w refl
@@ -89,28 +90,27 @@ module _ (ds lens : List ℕ) (up : Bool) (back at w b h x : ℕ) where
         go (suc y) q = rw (q, ← o, eq-eqb k 2 two, sub-one, e)
 
     module _ (m : k ≢ 2) (own near : ℕ) (p : own ≡ getD lens back 0) (e : near ≡ sum32 own b) where
-      pub told-up : up ≡ true → some (found x (w - 1) near h) ≡ toldIn ds lens up back (look at (seen w b h x))
+      pub told-end : some (if up then found x (w - 1) near h else found x (w - 1) h near) ≡ toldIn ds lens up back (look at (seen w b h x))
       unfolding toldIn
-      told-up u = go w refl
+      told-end = go w refl
         where
-          go : (y : ℕ) → w ≡ y → some (found x (w - 1) near h) ≡ toldIn ds lens up back (look at (seen w b h x))
+          go : (y : ℕ) → w ≡ y → some (if up then found x (w - 1) near h else found x (w - 1) h near) ≡ toldIn ds lens up back (look at (seen w b h x))
           go zero q = absurd (f q)
-          go (suc y) q = rw (q, ← o, ne-eqb k 2 m, sub-one, u, ← p, e)
+          go (suc y) q = rw (q, ← o, ne-eqb k 2 m, sub-one, ← p, e)
 
-      pub told-down : up ≡ false → some (found x (w - 1) h near) ≡ toldIn ds lens up back (look at (seen w b h x))
-      unfolding toldIn
-      told-down u = go w refl
-        where
-          go : (y : ℕ) → w ≡ y → some (found x (w - 1) h near) ≡ toldIn ds lens up back (look at (seen w b h x))
-          go zero q = absurd (f q)
-          go (suc y) q = rw (q, ← o, ne-eqb k 2 m, sub-one, u, ← p, e)
+module _ (ss : List ℕ) (up : Bool) (v d : ℕ) where
+  -- the edge towards the high end, and towards the low end
+  pub towards-up : up ≡ true → d ≡ getD ss (2 * v + 1) 0 → d ≡ edgeTowards ss up v
+  unfolding edgeTowards
+  towards-up u e = rw u e
 
-module _ (ds ss es lens ls : List ℕ) (n label v low high : ℕ) (up : Bool) (a : low ≡ getD ss (2 * v) 0) (b : high ≡ getD ss (2 * v + 1) 0) (l : Look) (r : Option Reply) where
-  -- a chain is looked through upwards, or downwards
-  pub through-up : up ≡ true → l ≡ lookAlongIn ds ss es lens ls label n v high low → r ≡ toldIn ds lens true low l → r ≡ lookThroughIn ds ss es lens ls n label up v
-  unfolding lookThroughIn
-  through-up u e q = rw (u, ← a, ← b, ← e) q
+  pub towards-down : up ≡ false → d ≡ getD ss (2 * v) 0 → d ≡ edgeTowards ss up v
+  unfolding edgeTowards
+  towards-down u e = rw u e
 
-  pub through-down : up ≡ false → l ≡ lookAlongIn ds ss es lens ls label n v low high → r ≡ toldIn ds lens false high l → r ≡ lookThroughIn ds ss es lens ls n label up v
-  unfolding lookThroughIn
-  through-down u e q = rw (u, ← a, ← b, ← e) q
+-- a chain is looked through from v, up or down
+pub through : (ds ss es lens ls : List ℕ) (n label v on back : ℕ) (up : Bool) (l : Look) (r : Option Reply) → on ≡ edgeTowards ss up v
+    → back ≡ edgeTowards ss (not up) v → l ≡ lookAlongIn ds ss es lens ls label n v on back → r ≡ toldIn ds lens up back l
+    → r ≡ lookThroughIn ds ss es lens ls n label up v
+unfolding lookThroughIn
+through ds ss es lens ls n label v on back up l r a b e q = rw (← a, ← b, ← e) q

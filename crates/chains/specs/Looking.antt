@@ -1,7 +1,7 @@
 -- A chain looked through for a label in one walk, as functions of lists that mirror the code. A walker stands at vertex v, which it reached
 -- by edge d; n bounds its steps. A vertex v stands for "v or nobody" as v + 1, and 0 is nobody.
 use Prim.Native.Nat.{ℕ, zero, suc, _+_, _*_, min}
-use mathlib.Core.Bool.{Bool, true, false}
+use mathlib.Core.Bool.{Bool, not}
 use mathlib.Core.List.{List}
 use mathlib.Core.Option.{Option, none, some}
 use lib.ListN.{getD}
@@ -67,10 +67,12 @@ toldIn degrees lengths up back l =
           else (if up then found (s .lowest) w near (s .behind) else found (s .lowest) w (s .behind) near))
     ]
 
+-- of the two edges of v on its chain the one towards the high end, or the one towards the low end
+unfoldable pub edgeTowards : List ℕ → Bool → ℕ → ℕ
+edgeTowards sides up v = if up then getD sides (2 * v + 1) 0 else getD sides (2 * v) 0
+
 -- the chain or ring of which v has the lowest label is looked through upwards, or that of which v has the highest downwards
 unfoldable pub lookThroughIn : List ℕ → List ℕ → List ℕ → List ℕ → List ℕ → ℕ → ℕ → Bool → ℕ → Option Reply
 lookThroughIn degrees sides ends lengths labels n label up v =
-    let low = getD sides (2 * v) 0 in
-    let high = getD sides (2 * v + 1) 0 in
-    if up then toldIn degrees lengths true low (lookAlongIn degrees sides ends lengths labels label n v high low)
-    else toldIn degrees lengths false high (lookAlongIn degrees sides ends lengths labels label n v low high)
+    let back = edgeTowards sides (not up) v in
+    toldIn degrees lengths up back (lookAlongIn degrees sides ends lengths labels label n v (edgeTowards sides up v) back)

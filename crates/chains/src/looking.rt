@@ -16,7 +16,7 @@ use tables::steps::far_end;
 use tables::walks::Walker;
 use tables::walks::step_over;
 ghost use mathlib.Core.Path.{_≡_};
-ghost use Rattle.chains.specs.Looking.{lookAlongIn, lookIn, lookThroughIn, toldIn, wearerIn, withEdge};
+ghost use Rattle.chains.specs.Looking.{edgeTowards, lookAlongIn, lookIn, lookThroughIn, toldIn, wearerIn, withEdge};
 ghost use Rattle.chains.specs.Answers.{asFound, asLook, asSeen};
 
 // What is known of the edges that a walk has gone along: the vertex that wears the label, as v + 1, or 0; the lengths before it and behind
@@ -176,6 +176,13 @@ fn told(degrees: &[u16], lengths: &[u32], walked: Look, back: Edge, up: bool) ->
     Found::Chain(name, wearer, behind, near)
 }
 
+// Of the two edges of v on its chain the one towards the high end, or the one towards the low end.
+fn edge_towards(sides: &[u16], v: Vertex, up: bool) -> Edge
+    ensures { λ r. ⌜ r .0 ≡ edgeTowards (now (sides .entry)) up (v .0) ⌝ }
+{
+    if up { high_edge(sides, v) } else { low_edge(sides, v) }
+}
+
 // The chain or ring of which v has the lowest label is looked through upwards, or that of which v has the highest downwards.
 pub fn look_through(
     degrees: &[u16],
@@ -191,23 +198,8 @@ pub fn look_through(
     ensures { λ r. ⌜ asFound r
         ≡ lookThroughIn (now (degrees .entry)) (now (sides .entry)) (now (ends .entry)) (now (lengths .entry)) (now (labels .entry)) fuel (label .0) up (v .0) ⌝ }
 {
-    let low = low_edge(sides, v);
-    let high = high_edge(sides, v);
-    if up {
-        let walked = look_along(
-            degrees,
-            sides,
-            ends,
-            lengths,
-            labels,
-            label,
-            v,
-            high,
-            low,
-            fuel,
-        );
-        return told(degrees, lengths, walked, low, true);
-    }
+    let on = edge_towards(sides, v, up);
+    let back = edge_towards(sides, v, !up);
     let walked = look_along(
         degrees,
         sides,
@@ -216,9 +208,9 @@ pub fn look_through(
         labels,
         label,
         v,
-        low,
-        high,
+        on,
+        back,
         fuel,
     );
-    told(degrees, lengths, walked, high, false)
+    told(degrees, lengths, walked, back, up)
 }

@@ -1,4 +1,4 @@
-use Rattle.chains.proofs.LookingLaws.{told-down, told-nothing, told-ring, told-up}
+use Rattle.chains.proofs.LookingLaws.{told-end, told-nothing, told-ring}
 use borrow.Author.Needs.{needs}
 use Rattle.chains.proofs.looking.told.Statement.{statement}
 use Rattle.chains.proofs.looking.told.Tie as tie
@@ -15,13 +15,13 @@ returns-3 : tie.Need-returns-3
 returns-3 c =
     let at-degree-of = c .before .before .before .before in
     let at-if1 = at-degree-of .before .before in
-    told-up _ _ _ _ _ _ _ _ _ (at-if1 .if1 .left) _ (at-degree-of .degree-of .ensures) (c .before .before .before .if2 .left) _ _ (c .before .before .length-of .ensures) (c .before .add-lengths2 .ensures) (c .if3 .taken)
+    rw (c .if3 .taken) (told-end _ _ _ _ _ _ _ _ _ (at-if1 .if1 .left) _ (at-degree-of .degree-of .ensures) (c .before .before .before .if2 .left) _ _ (c .before .before .length-of .ensures) (c .before .add-lengths2 .ensures))
 
 returns-4 : tie.Need-returns-4
 returns-4 c =
     let at-degree-of = c .before .before .before .before in
     let at-if1 = at-degree-of .before .before in
-    told-down _ _ _ _ _ _ _ _ _ (at-if1 .if1 .left) _ (at-degree-of .degree-of .ensures) (c .before .before .before .if2 .left) _ _ (c .before .before .length-of .ensures) (c .before .add-lengths2 .ensures) (c .if3 .left)
+    rw (c .if3 .left) (told-end _ _ _ _ _ _ _ _ _ (at-if1 .if1 .left) _ (at-degree-of .degree-of .ensures) (c .before .before .before .if2 .left) _ _ (c .before .before .length-of .ensures) (c .before .add-lengths2 .ensures))
 
 -- the needs in the order of the code
 pub told-spec : {M : Type 1} → statement M
