@@ -16,7 +16,7 @@ use Rattle.model.specs.Notions.{HeldOf}
 use Rattle.theory.proofs.Registers.OnlyHeld.{held-counts, held-tables}
 use Rattle.theory.proofs.Series.Landings.{reachable-grown}
 use Rattle.tables.specs.Meaning.{stored, tables}
-use Rattle.chains.specs.Finding.{findIn}
+use Rattle.holders.specs.Finding.{findIn}
 use Rattle.agreement.proofs.Sheeting.{sheet-agrees, sheetOver}
 use Rattle.landing.specs.Records.{ReadingIn, readingIn, landListIn}
 use Rattle.landing.proofs.ListAgrees.{shownRead}

@@ -21,7 +21,7 @@ use Rattle.theory.proofs.Registers.Reachable.{founded}
 use Rattle.tables.specs.Meaning.{stored}
 use Rattle.text.proofs.PageLaws.{write-front}
 use Rattle.chains.specs.Chains.{namesIn, sheetIn}
-use Rattle.chains.specs.Finding.{findAtIn, findIn}
+use Rattle.holders.specs.Finding.{findAtIn, findIn}
 use Rattle.agreement.proofs.Finding.{find-agrees, find-at-agrees}
 use Rattle.agreement.proofs.Sheeting.{names-counted, sheet-agrees}
 use Rattle.questions.specs.Answering.{answered, sheetedIn}

@@ -1,7 +1,7 @@
 // Find (document 02, S-7): a label (document 01: tag) gives the name of its chain (run), the regular vertex (coupling) that wears it, and
 // the lengths from there to the low and the high end of the chain, in a ring 0 and its length; or 8. A vertex is asked for through its label.
-use chains::looking::Found;
-use chains::newest::search_label;
+use holders::looking::Found;
+use holders::newest::search_label;
 use counters::counts::Counts;
 use counters::numbers::Edge;
 use counters::numbers::Label;
@@ -16,7 +16,7 @@ ghost use Prim.Native.Nat.{ℕ};
 ghost use lib.ListN.{length, replicate};
 ghost use Rattle.counters.specs.Answers.{asCounts};
 ghost use Rattle.tables.specs.Meaning.{tables};
-ghost use Rattle.chains.specs.Finding.{findAtIn, findIn};
+ghost use Rattle.holders.specs.Finding.{findAtIn, findIn};
 ghost use Rattle.questions.specs.Meaning.{foundReply};
 
 // The name of a chain, which is the lowest number of an edge there; the vertex; the lengths, to the low end first.
