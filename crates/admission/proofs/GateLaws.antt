@@ -11,9 +11,9 @@ use Rattle.model.specs.Tables.{Tables, Counts, fits, cleared, held}
 use Rattle.model.specs.Calls.{Ask, answer}
 use Rattle.nursery.specs.Calls.{HouseCall, asks, effect, sliceOf}
 use Rattle.admission.specs.Own.{Lent, allFit, bars, gate, houseOf, ownStep, registerFor, scratchAfter}
-use Rattle.theory.proofs.Basics.Booleans.{not-both}
+use Rattle.model.proofs.Basics.Booleans.{not-both}
 use Rattle.model.specs.Notions.{HeldOf}
-use Rattle.theory.proofs.Registers.OnlyHeld.{only-held}
+use Rattle.model.proofs.Registers.OnlyHeld.{only-held}
 use Rattle.admission.proofs.OwnLaws.{outcomeOf, scratch-cleared, step-fits}
 use Rattle.tables.specs.Meaning.{stored}
 use Rattle.tables.specs.Steps.{zeroed}

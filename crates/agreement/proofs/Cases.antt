@@ -12,7 +12,7 @@ use Rattle.counters.specs.Numbers.{vertexOf}
 use Rattle.labels.specs.declared.splitting.Splits.the-variants.{Both, Neither, One}
 use Rattle.insertion.specs.Placing.{Placed, mergedIn, openIn, placeIn}
 use Rattle.insertion.specs.declared.placing.Extension.the-variants.{Leaf, Nothing}
-use Rattle.theory.proofs.Labels.Cases.{class-leaf, isLeafClass}
+use Rattle.model.proofs.Labels.Cases.{class-leaf, isLeafClass}
 
 unfoldable isRegularClass : Class → Bool
 isRegularClass isolated = false

@@ -20,15 +20,15 @@ use Rattle.tables.proofs.Sums.{sum32-is}
 use Rattle.chains.specs.Chains.{WalkEnd, goesOnIn, plusVolume32, walkEnd, walkAhead, walkIn, walkVolumeIn}
 use Rattle.chains.proofs.WalkLaws.{walkIn-on, walkIn-stop}
 use Rattle.chains.proofs.VolumeLaws.{volume-none, volume-on, volume-stop}
-use Rattle.theory.proofs.Walks.Degree.{end-first, end-second}
-use Rattle.theory.proofs.Walks.Turn.{At}
-use Rattle.theory.proofs.Walks.Joins.{proper-at}
-use Rattle.theory.proofs.Basics.Booleans.{true-or-false}
-use Rattle.theory.proofs.Basics.Volumes.{plusVolume, volumeOnto}
-use Rattle.theory.proofs.Chains.Volumes.{passed}
-use Rattle.theory.proofs.Walks.Round.{length-until, until-no, until-yes}
-use Rattle.theory.proofs.Walks.Trail.{walk-on, walk-stop, Next, next-edge}
-use Rattle.theory.proofs.Registers.ReadBack.{length-read, volume-read}
+use Rattle.model.proofs.Walks.Degree.{end-first, end-second}
+use Rattle.model.proofs.Walks.Turn.{At}
+use Rattle.model.proofs.Walks.Joins.{proper-at}
+use Rattle.model.proofs.Basics.Booleans.{true-or-false}
+use Rattle.model.proofs.Basics.Volumes.{plusVolume, volumeOnto}
+use Rattle.model.proofs.Chains.Volumes.{passed}
+use Rattle.model.proofs.Walks.Round.{length-until, until-no, until-yes}
+use Rattle.model.proofs.Walks.Trail.{walk-on, walk-stop, Next, next-edge}
+use Rattle.model.proofs.Registers.ReadBack.{length-read, volume-read}
 use Rattle.agreement.proofs.Lockstep.{Shows, shows-regular, shows-singular, shows-turn}
 use Rattle.agreement.proofs.Tables.{far-is, shows}
 use Rattle.agreement.proofs.Registers.{lawful, proper, room}

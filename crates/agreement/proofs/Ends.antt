@@ -10,8 +10,8 @@ use Rattle.model.specs.Graph.{Edge, Pass, edgeAt, endOf, endOnwards, far, isReg
 use Rattle.model.specs.Register.{Register}
 use Rattle.model.specs.Tables.{tablesOf}
 use Rattle.model.specs.Notions.{Reachable}
-use Rattle.theory.proofs.Walks.Degree.{Proper}
-use Rattle.theory.proofs.Walks.Turn.{At}
+use Rattle.model.proofs.Walks.Degree.{Proper}
+use Rattle.model.proofs.Walks.Turn.{At}
 use Rattle.agreement.proofs.Registers.{proper}
 use Rattle.agreement.proofs.Chaining.{at-first, at-second}
 use Rattle.agreement.proofs.Rounds.{far-first, far-second, open-at, open-onto, open-singular, other-read, past-singular, round-end, round-open, two-read}

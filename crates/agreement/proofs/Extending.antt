@@ -14,14 +14,14 @@ use Rattle.tables.specs.Steps.{farIn, most16, most32}
 use Rattle.tables.proofs.Sums.{more16-is}
 use Rattle.labels.proofs.Labels.{beyond-law, extend-begun, extend-on, nextIn-is}
 use Rattle.labels.specs.Labelling.{countAhead, extendIn, labelVertexIn}
-use Rattle.theory.proofs.Walks.Degree.{Proper, is-two, not-two}
-use Rattle.theory.proofs.Walks.Turn.{At, Between, OneEdge, one-edge, onlyEdge-is}
-use Rattle.theory.proofs.Walks.Joins.{across, far-ne}
-use Rattle.theory.proofs.Walks.Trail.{walk-on, walk-stop}
-use Rattle.theory.proofs.Walks.Snoc.{far-old}
-use Rattle.theory.proofs.Walks.NewEdge.{at-new, length-new}
-use Rattle.theory.proofs.Walks.NewTurn.{new-turn}
-use Rattle.theory.proofs.Walks.Places.{here, Off}
+use Rattle.model.proofs.Walks.Degree.{Proper, is-two, not-two}
+use Rattle.model.proofs.Walks.Turn.{At, Between, OneEdge, one-edge, onlyEdge-is}
+use Rattle.model.proofs.Walks.Joins.{across, far-ne}
+use Rattle.model.proofs.Walks.Trail.{walk-on, walk-stop}
+use Rattle.model.proofs.Walks.Snoc.{far-old}
+use Rattle.model.proofs.Walks.NewEdge.{at-new, length-new}
+use Rattle.model.proofs.Walks.NewTurn.{new-turn}
+use Rattle.model.proofs.Walks.Places.{here, Off}
 use Rattle.agreement.proofs.Linked.{Linked}
 use Rattle.agreement.proofs.Laying.{Everywhere, HoldsMarks, kept-where, lay-kept, layIn}
 use Rattle.agreement.proofs.Opening.{OpenedBoth}

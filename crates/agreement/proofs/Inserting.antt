@@ -18,9 +18,9 @@ use Rattle.model.specs.Register.{Register, marksOf}
 use Rattle.model.specs.Tables.{countsOf, tablesOf}
 use Rattle.model.specs.Notions.{Reachable}
 use Rattle.insertion.specs.Placing.{Placed, placedBy}
-use Rattle.theory.proofs.Walks.Degree.{end-first, end-second}
-use Rattle.theory.proofs.Walks.Ring.{closes-of}
-use Rattle.theory.proofs.Labels.Cases.{bared, compact, edge-compact}
+use Rattle.model.proofs.Walks.Degree.{end-first, end-second}
+use Rattle.model.proofs.Walks.Ring.{closes-of}
+use Rattle.model.proofs.Labels.Cases.{bared, compact, edge-compact}
 use Rattle.agreement.proofs.Cases.{byEnds, place-ends}
 use Rattle.agreement.proofs.Standing.{Warns}
 use Rattle.agreement.proofs.Tables.{degrees-read}

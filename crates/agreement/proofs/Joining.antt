@@ -17,15 +17,15 @@ use Rattle.labels.specs.Merging.{Changed, beginIn, changed, joinIn}
 use Rattle.labels.proofs.Merges.{join-law}
 use Rattle.counting.specs.Counting.{joinCountIn}
 use Rattle.counting.proofs.Laws.{join-count}
-use Rattle.theory.proofs.Walks.Degree.{Proper, is-two}
-use Rattle.theory.proofs.Walks.Turn.{At, Between, between-back}
-use Rattle.theory.proofs.Walks.Joins.{across}
-use Rattle.theory.proofs.Walks.Trail.{trail-cons}
-use Rattle.theory.proofs.Walks.Ended.{trail-short}
-use Rattle.theory.proofs.Walks.Places.{here, later, Off, off-cons, Once, once-cons}
-use Rattle.theory.proofs.Labels.Relabellings.{moved, moved-old, relabelCount-bare, relabelCount-same}
-use Rattle.theory.proofs.Labels.Inwards.{Inward, inward, trail-regular}
-use Rattle.theory.proofs.Walks.Once.{at-once}
+use Rattle.model.proofs.Walks.Degree.{Proper, is-two}
+use Rattle.model.proofs.Walks.Turn.{At, Between, between-back}
+use Rattle.model.proofs.Walks.Joins.{across}
+use Rattle.model.proofs.Walks.Trail.{trail-cons}
+use Rattle.model.proofs.Walks.Ended.{trail-short}
+use Rattle.model.proofs.Walks.Places.{here, later, Off, off-cons, Once, once-cons}
+use Rattle.model.proofs.Labels.Relabellings.{moved, moved-old, relabelCount-bare, relabelCount-same}
+use Rattle.model.proofs.Labels.Inwards.{Inward, inward, trail-regular}
+use Rattle.model.proofs.Walks.Once.{at-once}
 use Rattle.agreement.proofs.Linked.{Linked, linked-old, off-ends, turn-agrees}
 use Rattle.agreement.proofs.Lockstep.{Shows}
 use Rattle.agreement.proofs.Passes.{AllBetween, all-old, between-ith, trail-between}

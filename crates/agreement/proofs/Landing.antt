@@ -20,14 +20,14 @@ use Rattle.model.specs.Tables.{Counts, Tables, countsOf, tablesOf}
 use Rattle.model.specs.Notions.{Reachable}
 use Rattle.tables.specs.Steps.{more16, setPair, sum32}
 use Rattle.tables.proofs.Sums.{more16-is, sum32-is}
-use Rattle.theory.proofs.Registers.Equality.{counts-parts, tables-parts}
+use Rattle.model.proofs.Registers.Equality.{counts-parts, tables-parts}
 use Rattle.counters.specs.Numbers.{isLanded}
 use Rattle.insertion.specs.Placing.{Placed, placedBy}
 use Rattle.insertion.specs.Insertion.{CheckIn, LandingIn, checkIn, done, failed, insertIn, landChecked, landIn, landingIn, passed, refusedIn}
-use Rattle.theory.proofs.Walks.NewEdge.{length-new}
-use Rattle.theory.proofs.Registers.Small.{total-small}
-use Rattle.theory.proofs.Registers.Accepted.{unrefused}
-use Rattle.theory.proofs.Registers.Quotes.{land-edge-by, unlessRefused}
+use Rattle.model.proofs.Walks.NewEdge.{length-new}
+use Rattle.model.proofs.Registers.Small.{total-small}
+use Rattle.model.proofs.Registers.Accepted.{unrefused}
+use Rattle.model.proofs.Registers.Quotes.{land-edge-by, unlessRefused}
 use Rattle.agreement.proofs.Lists.{ends-stored, lengths-stored, volumes-stored}
 use Rattle.agreement.proofs.Relabelled.{relabelled-most}
 use Rattle.agreement.proofs.Tables.{degrees-are, linked-sides}

@@ -15,16 +15,16 @@ use Rattle.model.specs.Labels.{Marks, labelPath, mark, next, relabelCount}
 use Rattle.tables.specs.Steps.{most32, setPair, turnIn}
 use Rattle.labels.proofs.Labels.{nextIn-is, relabel-end, relabel-none, relabel-on}
 use Rattle.labels.specs.Labelling.{MarksIn, countAhead, labelVertexIn, marksIn, nextIn, orientIn, relabelIn}
-use Rattle.theory.proofs.Walks.Degree.{Proper, is-two}
-use Rattle.theory.proofs.Walks.Turn.{At, Between}
-use Rattle.theory.proofs.Walks.Trail.{Trail, done, pass, Next, next-edge}
-use Rattle.theory.proofs.Walks.Places.{Ith, here, later, no-ith, Off, Once, off-cons, once-head, once-tail}
+use Rattle.model.proofs.Walks.Degree.{Proper, is-two}
+use Rattle.model.proofs.Walks.Turn.{At, Between}
+use Rattle.model.proofs.Walks.Trail.{Trail, done, pass, Next, next-edge}
+use Rattle.model.proofs.Walks.Places.{Ith, here, later, no-ith, Off, Once, off-cons, once-head, once-tail}
 use Rattle.agreement.proofs.Lists.{PairAt, length-pair, pair-other}
 use Rattle.agreement.proofs.Relabelled.{relabelled-set}
 use Rattle.agreement.proofs.Linked.{Linked, linked-here, linked-other}
 use Rattle.agreement.proofs.Passes.{AllBetween}
 use Rattle.agreement.proofs.Lockstep.{Shows, shows-regular, shows-singular}
-use Rattle.theory.proofs.Labels.Relabellings.{moved}
+use Rattle.model.proofs.Labels.Relabellings.{moved}
 
 -- ---- tables that hold what the marks say, where X holds
 

@@ -12,10 +12,10 @@ use borrow.Author.Tests.{eq-eqb, ne-eqb}
 use Rattle.model.specs.Basics.{if_then_else_}
 use Rattle.model.specs.Graph.{Edge, degree, edgeAt, endsAt, far, incident, onlyEdge, turn}
 use Rattle.tables.specs.Steps.{farIn, setPair, turnIn}
-use Rattle.theory.proofs.Walks.Degree.{Proper, degree-snoc, endsAt-le, two-ends, zero-or-one}
-use Rattle.theory.proofs.Walks.Turn.{At, two-edges, turn-between}
-use Rattle.theory.proofs.Walks.Snoc.{turn-old, incidentFrom-old}
-use Rattle.theory.proofs.Walks.NewEdge.{at-new}
+use Rattle.model.proofs.Walks.Degree.{Proper, degree-snoc, endsAt-le, two-ends, zero-or-one}
+use Rattle.model.proofs.Walks.Turn.{At, two-edges, turn-between}
+use Rattle.model.proofs.Walks.Snoc.{turn-old, incidentFrom-old}
+use Rattle.model.proofs.Walks.NewEdge.{at-new}
 use Rattle.agreement.proofs.Lists.{PairAt, pair-here, pair-other}
 
 -- at v the sides are the low edge and the other one; a leaf has its one edge, any other vertex none

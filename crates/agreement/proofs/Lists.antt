@@ -12,8 +12,8 @@ use Rattle.model.specs.Graph.{Edge}
 use Rattle.model.specs.Register.{Register}
 use Rattle.model.specs.Tables.{edgeLengths, edgeVolumes, endsOf, highSide, lowSide, padded, sidesOf}
 use Rattle.tables.specs.Steps.{setPair}
-use Rattle.theory.proofs.Basics.Lists.{length-upTo, getD-counted}
-use Rattle.theory.proofs.Registers.ReadBack.{length-ends, length-lengths, length-volumes}
+use Rattle.model.proofs.Basics.Lists.{length-upTo, getD-counted}
+use Rattle.model.proofs.Registers.ReadBack.{length-ends, length-lengths, length-volumes}
 
 -- ---- a map of 0, 1, ..
 

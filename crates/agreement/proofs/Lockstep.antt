@@ -11,9 +11,9 @@ use Rattle.model.specs.Graph.{Edge, Pass, degree, far, isRegular, turn}
 use Rattle.tables.specs.Steps.{farIn, turnIn}
 use Rattle.tables.specs.Walks.{Met, lockstepIn, stepsAhead}
 use Rattle.tables.proofs.Lockstep.{lockstep-first, lockstep-on, lockstep-second}
-use Rattle.theory.proofs.Walks.Degree.{Proper, is-two, not-two}
-use Rattle.theory.proofs.Walks.Turn.{At}
-use Rattle.theory.proofs.Walks.Trail.{Trail, done, pass, Next, next-edge}
+use Rattle.model.proofs.Walks.Degree.{Proper, is-two, not-two}
+use Rattle.model.proofs.Walks.Turn.{At}
+use Rattle.model.proofs.Walks.Trail.{Trail, done, pass, Next, next-edge}
 use Rattle.agreement.proofs.Linked.{Linked, turn-agrees}
 
 -- the tables that a walk reads say what the edges say

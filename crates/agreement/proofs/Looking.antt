@@ -23,30 +23,30 @@ use Rattle.tables.proofs.Sums.{sum32-is}
 use Rattle.chains.specs.Chains.{goesOnIn}
 use Rattle.holders.specs.Looking.{Look, Seen, edgeTowards, look, lookAlongIn, lookIn, lookThroughIn, seen, toldIn, withEdge}
 use Rattle.holders.proofs.LookingLaws.{edge-before, edge-behind, look-on, look-stop, wearer-before, wearer-here, wearer-not}
-use Rattle.theory.proofs.Basics.Booleans.{not-both, true-or-false}
-use Rattle.theory.proofs.Basics.Lists.{mem-reverse, sum-append, sum-reverse}
-use Rattle.theory.proofs.Walks.Degree.{Proper, is-two}
-use Rattle.theory.proofs.Walks.Turn.{At, Turned, turn-between, turned, two-edges}
-use Rattle.theory.proofs.Walks.Joins.{Across, across, far-ne}
-use Rattle.theory.proofs.Walks.Trail.{Behind, Next, Trail, afters, behind-first, done, next-edge, pass, trail-at, trail-endOf, trail-walk}
-use Rattle.theory.proofs.Walks.Loops.{trail-between}
-use Rattle.theory.proofs.Walks.Ended.{Ended, trail-short}
-use Rattle.theory.proofs.Walks.Places.{Off, off-mem}
-use Rattle.theory.proofs.Walks.Returns.{ended-ring, off-ring, singular-ends}
-use Rattle.theory.proofs.Walks.Round.{Meets, Round, meets, meets-or, misses, ring-round}
-use Rattle.theory.proofs.Walks.Whole.{Onwards, onwards-ends}
-use Rattle.theory.proofs.Chains.Same.{Line, chain-of-line, lineChain, same-back, same-mem}
-use Rattle.theory.proofs.Chains.Partition.{chain-back, chain-has, chain-name, least-le, least-mem, name-in-chain, name-least, ring-again}
-use Rattle.theory.proofs.Chains.Own.{chain-inner, inner-chain, lower-at, ring-neither}
-use Rattle.theory.proofs.Chains.ExactRing.{loop-is-ring, ring-only, ringFrom}
-use Rattle.theory.proofs.Chains.Reaches.{one-length, reaches-sum, ring-length}
-use Rattle.theory.proofs.Labels.Following.{lowAt}
-use Rattle.theory.proofs.Labels.Rise.{OneLow, first-low, second-low, step-low}
-use Rattle.theory.proofs.Registers.Founded.{regular-landed}
-use Rattle.theory.proofs.Registers.Labelled.{label-facts}
-use Rattle.theory.proofs.Registers.Newest.{inner-regular}
-use Rattle.theory.proofs.Registers.Sides.{sided}
-use Rattle.theory.proofs.Registers.Small.{chains-small}
+use Rattle.model.proofs.Basics.Booleans.{not-both, true-or-false}
+use Rattle.model.proofs.Basics.Lists.{mem-reverse, sum-append, sum-reverse}
+use Rattle.model.proofs.Walks.Degree.{Proper, is-two}
+use Rattle.model.proofs.Walks.Turn.{At, Turned, turn-between, turned, two-edges}
+use Rattle.model.proofs.Walks.Joins.{Across, across, far-ne}
+use Rattle.model.proofs.Walks.Trail.{Behind, Next, Trail, afters, behind-first, done, next-edge, pass, trail-at, trail-endOf, trail-walk}
+use Rattle.model.proofs.Walks.Loops.{trail-between}
+use Rattle.model.proofs.Walks.Ended.{Ended, trail-short}
+use Rattle.model.proofs.Walks.Places.{Off, off-mem}
+use Rattle.model.proofs.Walks.Returns.{ended-ring, off-ring, singular-ends}
+use Rattle.model.proofs.Walks.Round.{Meets, Round, meets, meets-or, misses, ring-round}
+use Rattle.model.proofs.Walks.Whole.{Onwards, onwards-ends}
+use Rattle.model.proofs.Chains.Same.{Line, chain-of-line, lineChain, same-back, same-mem}
+use Rattle.model.proofs.Chains.Partition.{chain-back, chain-has, chain-name, least-le, least-mem, name-in-chain, name-least, ring-again}
+use Rattle.model.proofs.Chains.Own.{chain-inner, inner-chain, lower-at, ring-neither}
+use Rattle.model.proofs.Chains.ExactRing.{loop-is-ring, ring-only, ringFrom}
+use Rattle.model.proofs.Chains.Reaches.{one-length, reaches-sum, ring-length}
+use Rattle.model.proofs.Labels.Following.{lowAt}
+use Rattle.model.proofs.Labels.Rise.{OneLow, first-low, second-low, step-low}
+use Rattle.model.proofs.Registers.Founded.{regular-landed}
+use Rattle.model.proofs.Registers.Labelled.{label-facts}
+use Rattle.model.proofs.Registers.Newest.{inner-regular}
+use Rattle.model.proofs.Registers.Sides.{sided}
+use Rattle.model.proofs.Registers.Small.{chains-small}
 use Rattle.agreement.proofs.Lists.{PairAt}
 use Rattle.agreement.proofs.Tables.{far-is, sides-linked}
 use Rattle.agreement.proofs.Registers.{few, founded, landed-below, low-at, proper}

@@ -8,10 +8,10 @@ use Rattle.model.specs.Basics.{least}
 use Rattle.model.specs.Graph.{Edge, chainOf, isRegular, nameOf}
 use Rattle.model.specs.Register.{Register}
 use Rattle.model.specs.Notions.{Reachable}
-use Rattle.theory.proofs.Walks.Degree.{Proper}
-use Rattle.theory.proofs.Walks.Turn.{At}
-use Rattle.theory.proofs.Chains.Partition.{chain-has, chain-name}
-use Rattle.theory.proofs.Chains.Own.{chain-inner, inner-chain}
+use Rattle.model.proofs.Walks.Degree.{Proper}
+use Rattle.model.proofs.Walks.Turn.{At}
+use Rattle.model.proofs.Chains.Partition.{chain-has, chain-name}
+use Rattle.model.proofs.Chains.Own.{chain-inner, inner-chain}
 use Rattle.agreement.proofs.Registers.{proper}
 use Rattle.agreement.proofs.Chaining.{lower}
 

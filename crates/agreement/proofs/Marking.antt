@@ -15,12 +15,12 @@ use Rattle.model.specs.Tables.{Tables, tablesOf}
 use Rattle.model.specs.Notions.{Reachable}
 use Rattle.chains.specs.Chains.{Marked, goesOnIn, marked, markIn, markChainIn}
 use Rattle.chains.proofs.NameLaws.{mark-on, mark-stop}
-use Rattle.theory.proofs.Basics.Booleans.{true-or-false}
-use Rattle.theory.proofs.Basics.Lists.{mem-reverse}
-use Rattle.theory.proofs.Walks.Turn.{At}
-use Rattle.theory.proofs.Chains.Same.{chain-open, chain-ring}
-use Rattle.theory.proofs.Chains.Partition.{chain-back, chain-name, name-in-chain, name-least, chain-has}
-use Rattle.theory.proofs.Registers.ReadBack.{first-read, second-read}
+use Rattle.model.proofs.Basics.Booleans.{true-or-false}
+use Rattle.model.proofs.Basics.Lists.{mem-reverse}
+use Rattle.model.proofs.Walks.Turn.{At}
+use Rattle.model.proofs.Chains.Same.{chain-open, chain-ring}
+use Rattle.model.proofs.Chains.Partition.{chain-back, chain-name, name-in-chain, name-least, chain-has}
+use Rattle.model.proofs.Registers.ReadBack.{first-read, second-read}
 use Rattle.agreement.proofs.Registers.{proper}
 use Rattle.agreement.proofs.Chaining.{First, at-end, at-home, onward, Step, at-first, at-second, before-home, before-none, before-on, first-step, goes-home, goes-not, goes-on, steps}
 use Rattle.agreement.proofs.Ends.{Ends, chain-ends}

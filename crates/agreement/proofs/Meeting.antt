@@ -8,14 +8,14 @@ use mathlib.Core.List.{List, [], _∷_}
 use borrow.Author.Tests.{eq-eqb, ne-eqb}
 use Rattle.model.specs.Graph.{Edge, Pass, degree, far, lowerNumbered, onceRound}
 use Rattle.model.specs.Labels.{passes, vertexOnRing}
-use Rattle.theory.proofs.Basics.Booleans.{not-both, true-or-false}
-use Rattle.theory.proofs.Walks.Degree.{Proper}
-use Rattle.theory.proofs.Walks.Turn.{At}
-use Rattle.theory.proofs.Walks.Joins.{across}
-use Rattle.theory.proofs.Walks.Places.{here, later, no-ith, InPath, Off, off-cons}
-use Rattle.theory.proofs.Walks.Tours.{Tour, OnTour, is-x, is-of, ring-tour, edge-on, tour-follow, tour-ring}
-use Rattle.theory.proofs.Walks.Trail.{Cut, cut, trail-at}
-use Rattle.theory.proofs.Walks.Once.{Pair, pair}
+use Rattle.model.proofs.Basics.Booleans.{not-both, true-or-false}
+use Rattle.model.proofs.Walks.Degree.{Proper}
+use Rattle.model.proofs.Walks.Turn.{At}
+use Rattle.model.proofs.Walks.Joins.{across}
+use Rattle.model.proofs.Walks.Places.{here, later, no-ith, InPath, Off, off-cons}
+use Rattle.model.proofs.Walks.Tours.{Tour, OnTour, is-x, is-of, ring-tour, edge-on, tour-follow, tour-ring}
+use Rattle.model.proofs.Walks.Trail.{Cut, cut, trail-at}
+use Rattle.model.proofs.Walks.Once.{Pair, pair}
 use Rattle.agreement.proofs.Ringing.{lower-at}
 
 -- ---- the test

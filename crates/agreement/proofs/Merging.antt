@@ -22,16 +22,16 @@ use Rattle.labels.specs.declared.merging.Keeper.{Keeper}
 use Rattle.labels.specs.declared.merging.Keeper.the-variants.{Chain, Neither}
 use Rattle.counting.specs.Counting.{estimated, keeperCountIn, mergeCountIn}
 use Rattle.labels.proofs.Merges.{first-keeps, merge-closes, merge-kept, neither-keeps, second-keeps, tie-keeps}
-use Rattle.theory.proofs.Walks.Degree.{Proper, leaf-singular}
-use Rattle.theory.proofs.Walks.Turn.{At, onlyEdge-is}
-use Rattle.theory.proofs.Walks.Trail.{Trail, backwards, length-backwards, trail-back, trail-at, trail-endOf}
-use Rattle.theory.proofs.Walks.Ended.{trail-short, trail-unique}
-use Rattle.theory.proofs.Labels.Inwards.{Inward, inward}
+use Rattle.model.proofs.Walks.Degree.{Proper, leaf-singular}
+use Rattle.model.proofs.Walks.Turn.{At, onlyEdge-is}
+use Rattle.model.proofs.Walks.Trail.{Trail, backwards, length-backwards, trail-back, trail-at, trail-endOf}
+use Rattle.model.proofs.Walks.Ended.{trail-short, trail-unique}
+use Rattle.model.proofs.Labels.Inwards.{Inward, inward}
 use Rattle.agreement.proofs.Reading.{count-closes, count-kept}
 use Rattle.agreement.proofs.Lockstep.{Meets, Shows, lockstep-meets, shows-singular}
 use Rattle.agreement.proofs.Extending.{leaf-at}
 use Rattle.agreement.proofs.Joining.{Ground, ChangedAs, begins, join-reads, joins}
-use Rattle.theory.proofs.Walks.Joins.{Across, across}
+use Rattle.model.proofs.Walks.Joins.{Across, across}
 
 -- ---- the ring
 

@@ -22,23 +22,23 @@ use Rattle.chains.specs.Chains.{goesOnIn}
 use Rattle.holders.specs.Newest.{Held, Sought, bestIn, held, heldAfter, holdsIn, isLowestIn, keyIn, lowestsIn, noBound, passesIn, restIn, searchIn, takeIn, toldOf, topIn}
 use Rattle.holders.proofs.NewestLaws.{lowest-bare, passes-here, passes-on, passes-stop, holds-above, holds-self, search-bare, search-first, search-rest, take-nobody, take-none, take-some, top-most}
 use Rattle.holders.proofs.OrderLaws.{Best, best-is, nobody, somebody, total-less}
-use Rattle.theory.proofs.Basics.Total.{total}
-use Rattle.theory.proofs.Basics.Booleans.{not-both, true-or-false}
-use Rattle.theory.proofs.Walks.Degree.{Proper, is-two}
-use Rattle.theory.proofs.Walks.Turn.{At, Turned, turned, two-edges}
-use Rattle.theory.proofs.Walks.Joins.{across, far-ne, other-end}
-use Rattle.theory.proofs.Chains.Partition.{chain-again, chain-back, ring-again}
-use Rattle.theory.proofs.Chains.Own.{chain-inner, inner-chain, lower-at, own-chain, ring-both}
-use Rattle.theory.proofs.Labels.Following.{labelAt, lowAt}
-use Rattle.theory.proofs.Labels.Lowest.{LowNeighbour, above, low-neighbour, lowest}
-use Rattle.theory.proofs.Labels.Rise.{Step, down-to, rises, seam, up-to}
-use Rattle.theory.proofs.Registers.Facts.{LabelFacts}
-use Rattle.theory.proofs.Registers.Founded.{regular-landed}
-use Rattle.theory.proofs.Registers.Labelled.{label-facts}
-use Rattle.theory.proofs.Registers.Sides.{sided}
-use Rattle.theory.proofs.Registers.ReadBack.{first-read, second-read}
-use Rattle.theory.proofs.Registers.Small.{labels-small}
-use Rattle.theory.proofs.Registers.Newest.{Falling, Taken, falling, has-mem, in-newest, inner-regular, lowest-most, mem-has, newest, own-is, own-newest}
+use Rattle.model.proofs.Basics.Total.{total}
+use Rattle.model.proofs.Basics.Booleans.{not-both, true-or-false}
+use Rattle.model.proofs.Walks.Degree.{Proper, is-two}
+use Rattle.model.proofs.Walks.Turn.{At, Turned, turned, two-edges}
+use Rattle.model.proofs.Walks.Joins.{across, far-ne, other-end}
+use Rattle.model.proofs.Chains.Partition.{chain-again, chain-back, ring-again}
+use Rattle.model.proofs.Chains.Own.{chain-inner, inner-chain, lower-at, own-chain, ring-both}
+use Rattle.model.proofs.Labels.Following.{labelAt, lowAt}
+use Rattle.model.proofs.Labels.Lowest.{LowNeighbour, above, low-neighbour, lowest}
+use Rattle.model.proofs.Labels.Rise.{Step, down-to, rises, seam, up-to}
+use Rattle.model.proofs.Registers.Facts.{LabelFacts}
+use Rattle.model.proofs.Registers.Founded.{regular-landed}
+use Rattle.model.proofs.Registers.Labelled.{label-facts}
+use Rattle.model.proofs.Registers.Sides.{sided}
+use Rattle.model.proofs.Registers.ReadBack.{first-read, second-read}
+use Rattle.model.proofs.Registers.Small.{labels-small}
+use Rattle.model.proofs.Registers.Newest.{Falling, Taken, falling, has-mem, in-newest, inner-regular, lowest-most, mem-has, newest, own-is, own-newest}
 use Rattle.agreement.proofs.Tables.{far-is, sides-linked}
 use Rattle.agreement.proofs.Registers.{few, founded, landed-below, low-at, proper}
 use Rattle.agreement.proofs.Chaining.{First, at-end, at-home, onward, at-first, before-home, before-none, before-on, first-step, goes-home, goes-not, goes-on, steps}

@@ -25,9 +25,9 @@ use Rattle.insertion.specs.declared.placing.Extension.{Extension}
 use Rattle.insertion.specs.declared.placing.Extension.the-variants.{Leaf, Nothing}
 use Rattle.insertion.specs.declared.placing.Work.{Work}
 use Rattle.insertion.specs.declared.placing.Work.the-variants.{Merge, Open}
-use Rattle.theory.proofs.Basics.Booleans.{true-or-false}
-use Rattle.theory.proofs.Walks.Degree.{end-first, end-second}
-use Rattle.theory.proofs.Walks.Ring.{closes-of}
+use Rattle.model.proofs.Basics.Booleans.{true-or-false}
+use Rattle.model.proofs.Walks.Degree.{end-first, end-second}
+use Rattle.model.proofs.Walks.Ring.{closes-of}
 use Rattle.agreement.proofs.Splitting.{rd-older}
 use Rattle.agreement.proofs.SplittingBoth.{both-reads, by-test, singular-off, splits-single}
 use Rattle.agreement.proofs.Merging.{merge-reads}

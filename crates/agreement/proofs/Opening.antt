@@ -11,9 +11,9 @@ use Rattle.model.specs.Graph.{Edge, degree, endsAt, onlyEdge}
 use Rattle.model.specs.Labels.{Marks}
 use Rattle.insertion.specs.Placing.{meetIn}
 use Rattle.insertion.proofs.Places.{meet-isolated, meet-left}
-use Rattle.theory.proofs.Walks.Degree.{Proper, degree-snoc, proper-snoc, two-ends}
-use Rattle.theory.proofs.Walks.NewEdge.{at-last}
-use Rattle.theory.proofs.Walks.Turn.{onlyEdge-is}
+use Rattle.model.proofs.Walks.Degree.{Proper, degree-snoc, proper-snoc, two-ends}
+use Rattle.model.proofs.Walks.NewEdge.{at-last}
+use Rattle.model.proofs.Walks.Turn.{onlyEdge-is}
 use Rattle.agreement.proofs.Lists.{PairAt, length-pair, pair-here, pair-other}
 use Rattle.agreement.proofs.Linked.{Linked, linked-old, linked-same, off-ends}
 use Rattle.agreement.proofs.Laying.{HoldsMarks}

@@ -3,12 +3,12 @@ use mathlib.Core.Path.{_≡_, _∙_}
 use Prim.Native.Nat.{ℕ, zero, suc}
 use mathlib.Core.List.{List, [], _∷_, _++_}
 use Rattle.model.specs.Graph.{Edge, Pass, degree, endsAt}
-use Rattle.theory.proofs.Walks.Degree.{Proper, is-two}
-use Rattle.theory.proofs.Walks.Turn.{At, Between}
-use Rattle.theory.proofs.Walks.Trail.{Trail, done, pass, Next, next-edge}
-use Rattle.theory.proofs.Walks.Snoc.{regular-old, turn-old}
-use Rattle.theory.proofs.Walks.NewEdge.{at-new}
-use Rattle.theory.proofs.Walks.Places.{Ith, here, later, no-ith}
+use Rattle.model.proofs.Walks.Degree.{Proper, is-two}
+use Rattle.model.proofs.Walks.Turn.{At, Between}
+use Rattle.model.proofs.Walks.Trail.{Trail, done, pass, Next, next-edge}
+use Rattle.model.proofs.Walks.Snoc.{regular-old, turn-old}
+use Rattle.model.proofs.Walks.NewEdge.{at-new}
+use Rattle.model.proofs.Walks.Places.{Ith, here, later, no-ith}
 
 -- every vertex of the path lies between the two edges of its pass
 abbrev pub AllBetween : List Edge → List Pass → Type 0

@@ -25,9 +25,9 @@ use Rattle.counters.specs.Numbers.{vertexOf}
 use Rattle.labels.specs.declared.splitting.Splits.the-variants.{Both, Neither, One}
 use Rattle.insertion.specs.Placing.{Placed, goesOnIn, meetIn, mergedIn, openIn, openedIn, placed}
 use Rattle.insertion.specs.declared.placing.Extension.the-variants.{Leaf, Nothing}
-use Rattle.theory.proofs.Walks.Degree.{end-first, end-second, two-ends}
-use Rattle.theory.proofs.Labels.Relabellings.{moved-old, relabelCount-same}
-use Rattle.theory.proofs.Registers.Small.{blocks-small, labels-small}
+use Rattle.model.proofs.Walks.Degree.{end-first, end-second, two-ends}
+use Rattle.model.proofs.Labels.Relabellings.{moved-old, relabelCount-same}
+use Rattle.model.proofs.Registers.Small.{blocks-small, labels-small}
 use Rattle.agreement.proofs.Relabelled.{relabelled-set}
 use Rattle.agreement.proofs.Lockstep.{Shows}
 use Rattle.agreement.proofs.Laying.{Everywhere, kept-where}

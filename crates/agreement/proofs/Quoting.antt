@@ -15,9 +15,9 @@ use Rattle.model.specs.Tables.{countsOf, tablesOf}
 use Rattle.model.specs.Notions.{Reachable}
 use Rattle.insertion.specs.Insertion.{landIn, landingIn, refusedIn}
 use Rattle.insertion.specs.Quoting.{quoteIn, termsIn}
-use Rattle.theory.proofs.Basics.Booleans.{and-true, not-both}
-use Rattle.theory.proofs.Registers.Accepted.{unrefused}
-use Rattle.theory.proofs.Registers.Quotes.{commit-differs, commit-same, termsFor, terms-by}
+use Rattle.model.proofs.Basics.Booleans.{and-true, not-both}
+use Rattle.model.proofs.Registers.Accepted.{unrefused}
+use Rattle.model.proofs.Registers.Quotes.{commit-differs, commit-same, termsFor, terms-by}
 use Rattle.agreement.proofs.Standing.{Warns}
 use Rattle.agreement.proofs.Registers.{few}
 use Rattle.agreement.proofs.Offering.{offers-agree}

@@ -18,10 +18,10 @@ use Rattle.labels.specs.declared.merging.Keeper.{Keeper}
 use Rattle.labels.proofs.Labels.{nextIn-is}
 use Rattle.counting.specs.Counting.{countIn, estimated, keeperCountIn, mergeCountAt, mergeCountIn, movedIn}
 use Rattle.counting.proofs.Laws.{count-end, count-on}
-use Rattle.theory.proofs.Walks.Degree.{Proper}
-use Rattle.theory.proofs.Walks.Turn.{At}
-use Rattle.theory.proofs.Walks.Trail.{Trail, done, pass, Next, next-edge}
-use Rattle.theory.proofs.Walks.Places.{Ith, here, later, Once, once-head, once-tail}
+use Rattle.model.proofs.Walks.Degree.{Proper}
+use Rattle.model.proofs.Walks.Turn.{At}
+use Rattle.model.proofs.Walks.Trail.{Trail, done, pass, Next, next-edge}
+use Rattle.model.proofs.Walks.Places.{Ith, here, later, Once, once-head, once-tail}
 use Rattle.agreement.proofs.Lockstep.{Shows, shows-regular, shows-singular, shows-turn}
 use Rattle.agreement.proofs.Laying.{layIn, next-most}
 

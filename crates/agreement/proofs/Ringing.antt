@@ -16,15 +16,15 @@ use Rattle.tables.specs.Rounds.{backIn, lowerIn, ringIn, roundIn}
 use Rattle.tables.specs.declared.rings.Round.{Round as Answer}
 use Rattle.tables.specs.declared.rings.Round.the-variants.{NoRing}
 use Rattle.tables.proofs.Rounds.{round-back, round-first, round-none, round-on, round-second}
-use Rattle.theory.proofs.Basics.Booleans.{not-both}
-use Rattle.theory.proofs.Walks.Degree.{Proper, two-is}
-use Rattle.theory.proofs.Walks.Turn.{At, TwoEdges, two-edges, turn-between}
-use Rattle.theory.proofs.Walks.Joins.{Across, across}
-use Rattle.theory.proofs.Walks.Trail.{Trail, done, pass, Next, backwards, length-backwards, next-edge, trail-back}
-use Rattle.theory.proofs.Walks.Places.{Off, here}
-use Rattle.theory.proofs.Walks.Ended.{Ended, first-short, off-tail}
-use Rattle.theory.proofs.Walks.Returns.{off-ring}
-use Rattle.theory.proofs.Walks.Round.{Meets, Round, arrives-ring, meets, meets-or, misses, ring-round}
+use Rattle.model.proofs.Basics.Booleans.{not-both}
+use Rattle.model.proofs.Walks.Degree.{Proper, two-is}
+use Rattle.model.proofs.Walks.Turn.{At, TwoEdges, two-edges, turn-between}
+use Rattle.model.proofs.Walks.Joins.{Across, across}
+use Rattle.model.proofs.Walks.Trail.{Trail, done, pass, Next, backwards, length-backwards, next-edge, trail-back}
+use Rattle.model.proofs.Walks.Places.{Off, here}
+use Rattle.model.proofs.Walks.Ended.{Ended, first-short, off-tail}
+use Rattle.model.proofs.Walks.Returns.{off-ring}
+use Rattle.model.proofs.Walks.Round.{Meets, Round, arrives-ring, meets, meets-or, misses, ring-round}
 use Rattle.agreement.proofs.Linked.{Linked}
 use Rattle.agreement.proofs.Lockstep.{Shows, shows-regular, shows-singular, shows-turn}
 

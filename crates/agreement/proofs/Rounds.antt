@@ -10,16 +10,16 @@ use Rattle.model.specs.Graph.{Edge, Pass, edgeAt, endOf, endOnwards, far, isReg
 use Rattle.model.specs.Register.{Register}
 use Rattle.model.specs.Tables.{tablesOf}
 use Rattle.model.specs.Notions.{Reachable}
-use Rattle.theory.proofs.Basics.Booleans.{not-both}
-use Rattle.theory.proofs.Walks.Degree.{Proper}
-use Rattle.theory.proofs.Walks.Turn.{At}
-use Rattle.theory.proofs.Walks.Joins.{Across, across, proper-at}
-use Rattle.theory.proofs.Walks.Ended.{singular-off}
-use Rattle.theory.proofs.Walks.Places.{Off}
-use Rattle.theory.proofs.Walks.Trail.{trail-at, trail-endOf}
-use Rattle.theory.proofs.Walks.Returns.{first-regular, off-ring}
-use Rattle.theory.proofs.Walks.Round.{Meets, misses, meets, meets-or, Round, arrives-ring, ring-round, until-append}
-use Rattle.theory.proofs.Walks.Whole.{Onwards, onwards-ends}
+use Rattle.model.proofs.Basics.Booleans.{not-both}
+use Rattle.model.proofs.Walks.Degree.{Proper}
+use Rattle.model.proofs.Walks.Turn.{At}
+use Rattle.model.proofs.Walks.Joins.{Across, across, proper-at}
+use Rattle.model.proofs.Walks.Ended.{singular-off}
+use Rattle.model.proofs.Walks.Places.{Off}
+use Rattle.model.proofs.Walks.Trail.{trail-at, trail-endOf}
+use Rattle.model.proofs.Walks.Returns.{first-regular, off-ring}
+use Rattle.model.proofs.Walks.Round.{Meets, misses, meets, meets-or, Round, arrives-ring, ring-round, until-append}
+use Rattle.model.proofs.Walks.Whole.{Onwards, onwards-ends}
 use Rattle.agreement.proofs.Chaining.{steps, stops}
 
 pub until-off : (v : ℕ) (ss : List Pass) → Off ss v → until v ss ≡ ss

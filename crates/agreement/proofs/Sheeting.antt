@@ -19,15 +19,15 @@ use Rattle.tables.specs.Steps.{most32}
 use Rattle.tables.proofs.Sums.{sum32-is}
 use Rattle.chains.specs.Chains.{namesIn, rowIn, rowsIn, sheetIn, sweepIn}
 use Rattle.chains.proofs.SheetLaws.{sheet-count}
-use Rattle.theory.proofs.Basics.Booleans.{true-or-false}
-use Rattle.theory.proofs.Walks.Turn.{At}
-use Rattle.theory.proofs.Basics.Lists.{weights-append, weights-reverse}
-use Rattle.theory.proofs.Basics.Volumes.{volume-fold, volume-most, volumeOnto}
-use Rattle.theory.proofs.Chains.Same.{chain-open, chain-ring}
-use Rattle.theory.proofs.Chains.Reaches.{along, chain-by-walks}
-use Rattle.theory.proofs.Chains.Volumes.{chain-volume, passed, ring-volume}
-use Rattle.theory.proofs.Registers.ReadBack.{first-read, second-read}
-use Rattle.theory.proofs.Registers.Small.{chains-small, volumes-small}
+use Rattle.model.proofs.Basics.Booleans.{true-or-false}
+use Rattle.model.proofs.Walks.Turn.{At}
+use Rattle.model.proofs.Basics.Lists.{weights-append, weights-reverse}
+use Rattle.model.proofs.Basics.Volumes.{volume-fold, volume-most, volumeOnto}
+use Rattle.model.proofs.Chains.Same.{chain-open, chain-ring}
+use Rattle.model.proofs.Chains.Reaches.{along, chain-by-walks}
+use Rattle.model.proofs.Chains.Volumes.{chain-volume, passed, ring-volume}
+use Rattle.model.proofs.Registers.ReadBack.{first-read, second-read}
+use Rattle.model.proofs.Registers.Small.{chains-small, volumes-small}
 use Rattle.agreement.proofs.Registers.{room}
 use Rattle.agreement.proofs.Chaining.{at-first, at-second, length-is, lower, volume-is, volumeOver, walk-volumes, walkOver, walkedBy, walks}
 use Rattle.agreement.proofs.Ends.{Ends, chain-ends}

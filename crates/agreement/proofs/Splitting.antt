@@ -19,14 +19,14 @@ use Rattle.labels.specs.Labelling.{MarksIn, countAhead, labelVertexIn, marksIn}
 use Rattle.labels.specs.Merging.{Changed}
 use Rattle.labels.specs.Splitting.{bareIn, splitBy, tapIn}
 use Rattle.counting.specs.Counting.{roundCount}
-use Rattle.theory.proofs.Labels.Relabellings.{moved-new}
-use Rattle.theory.proofs.Walks.Degree.{Proper, is-two}
-use Rattle.theory.proofs.Walks.Turn.{At, Between}
-use Rattle.theory.proofs.Walks.Joins.{Across, across}
-use Rattle.theory.proofs.Walks.Places.{Ith, Off, Once}
-use Rattle.theory.proofs.Walks.Once.{first-at-once}
-use Rattle.theory.proofs.Walks.Ended.{first-short}
-use Rattle.theory.proofs.Walks.Round.{Round, ring-round}
+use Rattle.model.proofs.Labels.Relabellings.{moved-new}
+use Rattle.model.proofs.Walks.Degree.{Proper, is-two}
+use Rattle.model.proofs.Walks.Turn.{At, Between}
+use Rattle.model.proofs.Walks.Joins.{Across, across}
+use Rattle.model.proofs.Walks.Places.{Ith, Off, Once}
+use Rattle.model.proofs.Walks.Once.{first-at-once}
+use Rattle.model.proofs.Walks.Ended.{first-short}
+use Rattle.model.proofs.Walks.Round.{Round, ring-round}
 use Rattle.agreement.proofs.Lists.{PairAt, length-pair, pair-here, pair-other}
 use Rattle.agreement.proofs.Relabelled.{relabelled-set}
 use Rattle.agreement.proofs.Linked.{Linked, linked-other, turn-agrees}

@@ -18,11 +18,11 @@ use Rattle.labels.specs.Merging.{Changed}
 use Rattle.labels.specs.Splitting.{bareIn, leftFor, splitBothIn, splitBy, splitIn, tapIn}
 use Rattle.labels.specs.declared.splitting.Splits.the-variants.{Both}
 use Rattle.counting.specs.Counting.{splitCountIn}
-use Rattle.theory.proofs.Basics.Booleans.{and-true, true-or-false}
-use Rattle.theory.proofs.Labels.Relabellings.{moved-new, relabelCount-same}
-use Rattle.theory.proofs.Walks.Degree.{Proper, is-two}
-use Rattle.theory.proofs.Walks.Turn.{Between}
-use Rattle.theory.proofs.Walks.Places.{Ith, InPath, Off}
+use Rattle.model.proofs.Basics.Booleans.{and-true, true-or-false}
+use Rattle.model.proofs.Labels.Relabellings.{moved-new, relabelCount-same}
+use Rattle.model.proofs.Walks.Degree.{Proper, is-two}
+use Rattle.model.proofs.Walks.Turn.{Between}
+use Rattle.model.proofs.Walks.Places.{Ith, InPath, Off}
 use Rattle.agreement.proofs.Relabelled.{relabelled-most, relabelled-set}
 use Rattle.agreement.proofs.Lockstep.{Shows}
 use Rattle.agreement.proofs.Passes.{between-ith}

@@ -18,11 +18,11 @@ use Rattle.tables.specs.Steps.{sum32}
 use Rattle.labels.specs.Splitting.{leftFor, splitBothIn, splitEndsIn, splitIn}
 use Rattle.counters.specs.Numbers.{vertexOf}
 use Rattle.labels.specs.declared.splitting.Splits.the-variants.{Both, One}
-use Rattle.theory.proofs.Basics.Booleans.{not-both, or-false, true-or-false}
-use Rattle.theory.proofs.Walks.Degree.{Proper}
-use Rattle.theory.proofs.Walks.NewEdge.{length-new}
-use Rattle.theory.proofs.Registers.Accepted.{accepted, added}
-use Rattle.theory.proofs.Theorems.{theorem-1}
+use Rattle.model.proofs.Basics.Booleans.{not-both, or-false, true-or-false}
+use Rattle.model.proofs.Walks.Degree.{Proper}
+use Rattle.model.proofs.Walks.NewEdge.{length-new}
+use Rattle.model.proofs.Registers.Accepted.{accepted, added}
+use Rattle.model.proofs.Theorems.{theorem-1}
 use Rattle.agreement.proofs.Lockstep.{Shows}
 use Rattle.agreement.proofs.Ringing.{lower-at, ring-no}
 

@@ -14,14 +14,14 @@ use Rattle.model.specs.Register.{Register, lowEdgeOf}
 use Rattle.model.specs.Tables.{highSide, lowSide, tablesOf}
 use Rattle.model.specs.Notions.{Reachable}
 use Rattle.tables.specs.Steps.{farIn, more16, most16, raiseBothIn, raiseIn}
-use Rattle.theory.proofs.Walks.Degree.{Proper, degree-snoc, endsAt-le}
+use Rattle.model.proofs.Walks.Degree.{Proper, degree-snoc, endsAt-le}
 use Rattle.agreement.proofs.Lists.{PairAt, by-pairs, getD-upTo, is-map, length-mapped, sidesOf-read}
 use Rattle.agreement.proofs.Linked.{Linked, far-agrees}
 use Rattle.agreement.proofs.Lockstep.{Shows}
 use Rattle.agreement.proofs.Registers.{landed-below, low-at}
-use Rattle.theory.proofs.Basics.Counting.{same-eq, same-most, same-ne}
-use Rattle.theory.proofs.Basics.Lists.{length-upTo}
-use Rattle.theory.proofs.Registers.ReadBack.{first-read, length-sides, second-read}
+use Rattle.model.proofs.Basics.Counting.{same-eq, same-most, same-ne}
+use Rattle.model.proofs.Basics.Lists.{length-upTo}
+use Rattle.model.proofs.Registers.ReadBack.{first-read, length-sides, second-read}
 
 -- ---- the two sides of a vertex, by its degree
 

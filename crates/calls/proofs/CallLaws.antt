@@ -9,8 +9,8 @@ use Rattle.model.specs.Register.{Landed, Quote, Register, commit, empty, landed
 use Rattle.model.specs.Format.{Read, landList}
 use Rattle.model.specs.Queries.{Reply, read, refuses}
 use Rattle.model.specs.Tables.{Tables, Counts, fits, cleared, noCounts, countsOf, tablesOf, storedOf}
-use Rattle.theory.proofs.Basics.Booleans.{and-true}
-use Rattle.theory.proofs.Registers.OnlyHeld.{held-counts, held-tables}
+use Rattle.model.proofs.Basics.Booleans.{and-true}
+use Rattle.model.proofs.Registers.OnlyHeld.{held-counts, held-tables}
 use Rattle.nursery.specs.Calls.{Effect, HouseCall, commitEffect, commits, effect, grows, lands, readEffect, sliceOf}
 use Rattle.insertion.specs.Insertion.{AnswerIn, LandingIn, done, landingIn, refusedIn}
 use Rattle.insertion.specs.Committing.{commitIn}

@@ -11,7 +11,7 @@ use lib.Dec.{eqb}
 use lib.ListN.{getD}
 use Rattle.model.specs.Basics.{if_then_else_}
 use Rattle.model.specs.Labels.{isRelabelled}
-use Rattle.theory.proofs.Basics.Booleans.{one-most}
+use Rattle.model.proofs.Basics.Booleans.{one-most}
 use Rattle.counters.specs.declared.numbers.Vertex.{Vertex}
 use Rattle.tables.specs.Steps.{farIn, turnIn}
 use Rattle.tables.specs.Walks.{Met}

@@ -11,7 +11,7 @@ use Rattle.model.specs.Basics.{maxEdges}
 use Rattle.model.specs.Queries.{OpenSheet, Reply, fetched, finished, refuses}
 use Rattle.model.specs.Opened.{fetchLine, lineAt, movedOn}
 use Rattle.model.specs.Tables.{Counts, Tables}
-use Rattle.theory.proofs.Registers.Fetched.{line-none}
+use Rattle.model.proofs.Registers.Fetched.{line-none}
 use Rattle.counters.specs.Answers.{counts}
 use Rattle.insertion.specs.Insertion.{AnswerIn, LandingIn, done, landingIn, refusedIn}
 use Rattle.chains.specs.Chains.{markChainIn, namesIn, rowIn, rowsIn, sheetIn, sweepIn}

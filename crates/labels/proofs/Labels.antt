@@ -11,7 +11,7 @@ use lib.Dec.{eqb}
 use lib.ListN.{getD, set}
 use Rattle.model.specs.Basics.{if_then_else_}
 use Rattle.model.specs.Labels.{base, isRelabelled, next}
-use Rattle.theory.proofs.Basics.Booleans.{one-most}
+use Rattle.model.proofs.Basics.Booleans.{one-most}
 use Rattle.tables.specs.Steps.{farIn, turnIn, more16, more32, most32}
 use Rattle.labels.specs.Labelling.{MarksIn, marksIn, countAhead, nextIn, risesIn, orientIn, labelVertexIn, relabelIn, beyondIn, extendAt, extendIn}
 

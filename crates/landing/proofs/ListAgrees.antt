@@ -21,7 +21,7 @@ use Rattle.agreement.proofs.Standing.{Warns, warns-edge, warns-first, warns-ver
 use Rattle.insertion.specs.Insertion.{landVertexIn}
 use Rattle.agreement.proofs.Landing.{edge-parts, shownIn}
 use Rattle.landing.specs.Records.{ReadingIn, landListIn, landRecordIn, landRecordsIn, readingIn}
-use Rattle.theory.proofs.Registers.Accepted.{added, within-lands}
+use Rattle.model.proofs.Registers.Accepted.{added, within-lands}
 
 -- what the definition leaves, as tables, counts and answer
 abbrev pub shownRead : Read → ReadingIn

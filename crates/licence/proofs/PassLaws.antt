@@ -15,8 +15,8 @@ use borrow.Author.Tests.{eqb-true, le-ltb, lt-ltb, ltb-true}
 use Rattle.model.specs.Basics.{countFrom, sum, upTo}
 use Rattle.model.specs.Register.{Register}
 use Rattle.model.specs.Tables.{Counts, Tables, cleared, fits, held, noCounts, rightSizes, sizes}
-use Rattle.theory.proofs.Basics.Booleans.{and-true}
-use Rattle.theory.proofs.Registers.Equality.{eqList-true}
+use Rattle.model.proofs.Basics.Booleans.{and-true}
+use Rattle.model.proofs.Registers.Equality.{eqList-true}
 use Rattle.tables.specs.Steps.{zeroed}
 use Rattle.admission.proofs.SizeLaws.{zeroed-cleared}
 use Rattle.nursery.specs.Licence.{houses, licence, limitOf, overfull, reserves}

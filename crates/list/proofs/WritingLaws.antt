@@ -8,9 +8,9 @@ use Rattle.model.specs.Basics.{upTo}
 use Rattle.model.specs.Register.{Register}
 use Rattle.model.specs.Format.{edgeBytes, edgeRecords, header, listOf, written}
 use Rattle.model.specs.Tables.{Tables, Counts, countsOf, storedEdge, storedEdges, tablesOf}
-use Rattle.theory.proofs.Basics.Lists.{length-upTo}
-use Rattle.theory.proofs.Registers.ReadBack.{edges-read}
-use Rattle.theory.proofs.Registers.Written.{list-long}
+use Rattle.model.proofs.Basics.Lists.{length-upTo}
+use Rattle.model.proofs.Registers.ReadBack.{edges-read}
+use Rattle.model.proofs.Registers.Written.{list-long}
 use Rattle.tables.specs.Meaning.{tables}
 use Rattle.text.specs.Pages.{Page, write}
 use Rattle.text.proofs.PageLaws.{write-two}

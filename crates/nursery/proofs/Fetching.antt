@@ -16,8 +16,8 @@ use Rattle.model.specs.Opened.{fetch, fetchLine, isBeyond, lineAt, movedOn, ope
 use Rattle.model.specs.Tables.{Tables, fits, held}
 use Rattle.model.specs.Calls.{Answer, Ask, answer, answers, fetching, opening}
 use Rattle.model.specs.Notions.{NamedIn, linesThenDone, nextSheet}
-use Rattle.theory.proofs.Registers.Named.{lines-stay, opened-sheet, opened-within, still-within}
-use Rattle.theory.proofs.Registers.Fetched.{fetch-ended, fetch-within, moved-on, only-ended}
+use Rattle.model.proofs.Registers.Named.{lines-stay, opened-sheet, opened-within, still-within}
+use Rattle.model.proofs.Registers.Fetched.{fetch-ended, fetch-within, moved-on, only-ended}
 use Rattle.nursery.specs.Licence.{houses}
 use Rattle.nursery.specs.Nursery.{Nursery, houseIn, registerIn, removalsIn, storedIn}
 use Rattle.nursery.specs.Calls.{Lent, Outcome, asks, barred, effect, fetches, grownBy, inHouse, opens, ownOf, step}

@@ -14,11 +14,11 @@ use Rattle.model.specs.Basics.{if_then_else_, maxEdges, maxLength, maxVertices,
 use Rattle.model.specs.Graph.{Edge}
 use Rattle.model.specs.Register.{Landed, Register, edgeRefusal, empty, landEdgeWithin, landVertex, landed, refused, withEdge, withVertex}
 use Rattle.model.specs.Format.{Read, Record, Stop, bad, edge, edgeBody, firstRecord, growList, hasMark, headerRefusal, landList, landRecords, stopped, versionOf, vertex, whole}
-use Rattle.theory.proofs.Basics.Booleans.{if-either}
-use Rattle.theory.proofs.Walks.NewEdge.{length-new}
-use Rattle.theory.proofs.Registers.Accepted.{accepted-within, added, lands-within}
-use Rattle.theory.proofs.Registers.Quotes.{land-edge-by, not-refused, unlessRefused}
-use Rattle.theory.proofs.Registers.Within.{no-licence}
+use Rattle.model.proofs.Basics.Booleans.{if-either}
+use Rattle.model.proofs.Walks.NewEdge.{length-new}
+use Rattle.model.proofs.Registers.Accepted.{accepted-within, added, lands-within}
+use Rattle.model.proofs.Registers.Quotes.{land-edge-by, not-refused, unlessRefused}
+use Rattle.model.proofs.Registers.Within.{no-licence}
 
 -- ---- a record's refusals
 

@@ -13,8 +13,8 @@ use Rattle.model.specs.Queries.{Reply, listed, find, measure, sheet, sheetNumbe
 use Rattle.model.specs.Calls.{Answer, alone, answer, answers}
 use Rattle.model.specs.Tables.{Tables, Counts, cleared, noCounts, storedOf}
 use Rattle.model.specs.Notions.{HeldOf}
-use Rattle.theory.proofs.Registers.OnlyHeld.{held-counts, held-tables}
-use Rattle.theory.proofs.Series.Landings.{reachable-grown}
+use Rattle.model.proofs.Registers.OnlyHeld.{held-counts, held-tables}
+use Rattle.model.proofs.Series.Landings.{reachable-grown}
 use Rattle.tables.specs.Meaning.{stored, tables}
 use Rattle.holders.specs.Finding.{findIn}
 use Rattle.agreement.proofs.Sheeting.{sheet-agrees, sheetOver}

@@ -13,12 +13,12 @@ use Rattle.model.specs.Register.{Landed, Register, empty, landEdge, landed, ref
 use Rattle.model.specs.Tables.{Counts, Tables, cleared, countsOf, storedEdge, storedEdges, growFrom, landEdges, landVertices, tablesOf}
 use Rattle.model.specs.Notions.{Reachable, with-edge}
 use Rattle.model.proofs.Computing.{computing}
-use Rattle.theory.proofs.Registers.Accepted.{landed-is}
-use Rattle.theory.proofs.Registers.Founded.{Founded}
-use Rattle.theory.proofs.Registers.Held.{edges-first, grown-from, onVertices, vertices-grow}
-use Rattle.theory.proofs.Registers.OnlyHeld.{vertices-reach}
-use Rattle.theory.proofs.Registers.ReadBack.{edges-read}
-use Rattle.theory.proofs.Registers.Reachable.{founded, reachable-empty}
+use Rattle.model.proofs.Registers.Accepted.{landed-is}
+use Rattle.model.proofs.Registers.Founded.{Founded}
+use Rattle.model.proofs.Registers.Held.{edges-first, grown-from, onVertices, vertices-grow}
+use Rattle.model.proofs.Registers.OnlyHeld.{vertices-reach}
+use Rattle.model.proofs.Registers.ReadBack.{edges-read}
+use Rattle.model.proofs.Registers.Reachable.{founded, reachable-empty}
 use Rattle.nursery.specs.Removal.{without}
 use Rattle.nursery.proofs.Removal.{Rest, rest-lands}
 use Rattle.counters.specs.Answers.{counts}

@@ -11,7 +11,7 @@ use borrow.Author.Count.{below-more}
 use Rattle.model.specs.Basics.{maxVertices}
 use Rattle.model.specs.Distance.{Way, IsDistance, joined, notJoined, distance}
 use Rattle.model.specs.Tables.{storedEdges}
-use Rattle.theory.proofs.Distances.Distance.{only-distance}
+use Rattle.model.proofs.Distances.Distance.{only-distance}
 use Rattle.tables.specs.Meaning.{tables}
 use Rattle.tables.specs.Steps.{edgesOf}
 use Rattle.search.specs.Meaning.{asDistance}

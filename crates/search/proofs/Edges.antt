@@ -8,7 +8,7 @@ use Rattle.model.specs.Basics.{upTo, maxVertices}
 use Rattle.model.specs.Graph.{edgeAt, noEdge}
 use Rattle.model.specs.Distance.{Joins, forth, back, distance}
 use Rattle.model.specs.Tables.{storedEdge, storedEdges}
-use Rattle.theory.proofs.Basics.Lists.{length-upTo, getD-counted}
+use Rattle.model.proofs.Basics.Lists.{length-upTo, getD-counted}
 use Rattle.tables.specs.Meaning.{tables}
 use Rattle.tables.specs.Steps.{edgeOf, edgesOf}
 use Rattle.search.specs.Search.{Searchable}

@@ -16,7 +16,7 @@ use Rattle.nursery.specs.Licence.{houses, licence, overfull}
 use Rattle.nursery.specs.Nursery.{edgesIn, verticesIn, withShares}
 use Rattle.nursery.specs.Calls as call
 use Rattle.nursery.specs.Calls.{anyDamaged, anySome, barred, edgesBut, notGrown, nurseryFits, outOfPlace, ownOf, setsShares, step}
-use Rattle.theory.proofs.Basics.Booleans.{and-true}
+use Rattle.model.proofs.Basics.Booleans.{and-true}
 use Rattle.nursery.proofs.Gate.{step-barred, step-open}
 use Rattle.nursery.proofs.Parts.{fits-sized}
 use Rattle.licence.specs.declared.heads.Heads.{Heads}

@@ -8,7 +8,7 @@ use lib.ListN.{length, getD, set, length-set}
 use lib.Dec.{eqb, ltb}
 use borrow.Author.Tests.{eqb-true, ltb-true, eq-eqb, ne-eqb, lt-ltb, le-leb}
 use Rattle.tables.proofs.Sums.{sum32-is}
-use Rattle.theory.proofs.Basics.Booleans.{and-true}
+use Rattle.model.proofs.Basics.Booleans.{and-true}
 use Rattle.valve.specs.Numbers.{slots, maxAmount}
 use Rattle.valve.specs.Window.{Record, total, Window, window, after, newest, recordsOf, sizesFit, allWithin, held}
 use Rattle.valve.specs.Calls.{summed, withRecord}

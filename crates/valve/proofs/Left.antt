@@ -12,7 +12,7 @@ use lib.ListN.{length, getD, set}
 use lib.Seq.{getD-set-same, getD-set-other, ext-getD}
 use lib.Dec.{leb}
 use borrow.Author.Tests.{leb-true}
-use Rattle.theory.proofs.Basics.Booleans.{and-true}
+use Rattle.model.proofs.Basics.Booleans.{and-true}
 use Rattle.valve.specs.Numbers.{slots, maxAmount, maxRecipe}
 use Rattle.valve.specs.Window.{Record, recordOf, total, Window, window, empty, before, after, newest, recordsOf, sizesFit, allWithin, held}
 use Rattle.valve.specs.Calls.{summed, withRecord, Outcome}

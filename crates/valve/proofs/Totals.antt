@@ -7,7 +7,7 @@ use mathlib.Core.List.{List, [], _∷_}
 use lib.ListN.{length, getD}
 use lib.Dec.{leb}
 use borrow.Author.Tests.{leb-true}
-use Rattle.theory.proofs.Basics.Booleans.{and-true}
+use Rattle.model.proofs.Basics.Booleans.{and-true}
 use Rattle.valve.specs.Numbers.{slots, maxAmount}
 use Rattle.valve.specs.Window.{Record, total, allWithin, before, newest}
 use Rattle.valve.proofs.Ring.{backBy, back-round}

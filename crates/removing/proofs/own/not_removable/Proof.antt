@@ -1,6 +1,6 @@
 use mathlib.Core.Path.{refl}
 use mathlib.Core.Bool.{true}
-use Rattle.theory.proofs.Basics.Booleans.{not-both}
+use Rattle.model.proofs.Basics.Booleans.{not-both}
 use native.Mathlib.Omega.{arith}
 use borrow.Author.Tests.{le-leb, lt-leb}
 use Rattle.removing.proofs.own.not_removable.Statement.{statement}

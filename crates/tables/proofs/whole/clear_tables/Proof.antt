@@ -1,4 +1,4 @@
-use Rattle.theory.proofs.Registers.Equality.{tables-parts}
+use Rattle.model.proofs.Registers.Equality.{tables-parts}
 use borrow.Author.Needs.{needs}
 use Rattle.tables.specs.Steps.{zeroed}
 use Rattle.tables.proofs.whole.clear_tables.Statement.{statement}

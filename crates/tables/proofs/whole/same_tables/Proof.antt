@@ -1,4 +1,4 @@
-use Rattle.theory.proofs.Registers.Equality.{tables-parts}
+use Rattle.model.proofs.Registers.Equality.{tables-parts}
 use mathlib.Core.Path.{ap, refl}
 use borrow.Author.Tests.{not-false}
 use borrow.Author.Needs.{needs}
