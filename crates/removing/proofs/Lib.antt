@@ -1,5 +1,1 @@
-pub mod CopyLaws
-pub mod ChangeLaws
-pub mod RestLaws
-pub mod RestLeft
 pub mod RemoveLaws

@@ -32,9 +32,9 @@ use Rattle.admission.specs.Gate.{barred}
 use Rattle.admission.proofs.SizeLaws.{zeroed-cleared}
 use Rattle.admission.proofs.GateLaws.{open-cleared, opened}
 use Rattle.admission.proofs.OwnLaws.{outcomeOf, step-fits}
-use Rattle.removing.specs.Removing.{changesIn, removedIn, restIn, settledIn}
-use Rattle.removing.proofs.ChangeLaws.{changes-are}
-use Rattle.removing.proofs.RestLeft.{Left, rest-left}
+use Rattle.rest.specs.Removing.{changesIn, removedIn, restIn, settledIn}
+use Rattle.rest.proofs.ChangeLaws.{changes-are}
+use Rattle.rest.proofs.RestLeft.{Left, rest-left}
 
 -- ---- the report, or 9
 

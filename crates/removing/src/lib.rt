@@ -1,6 +1,2 @@
-// Remove: a pipe taken out of the register of a house (document 02, S-11). copying: six tables over six others; changes: the labels that differ,
-// counted and reported; rest: the other pipes landed anew, in scratch; own: on the tables of one house.
-pub mod changes;
-pub mod copying;
+// Remove on the tables of one house (document 02, S-11): the rest landed anew in scratch, 9 decided, then written.
 pub mod own;
-pub mod rest;

@@ -1,8 +1,8 @@
 // Remove on the tables of one house: 25, 21, then 38, then 9.
-use crate::changes::count_changes;
-use crate::changes::put_changes;
-use crate::copying::copy_tables;
-use crate::rest::land_rest;
+use rest::changes::count_changes;
+use rest::changes::put_changes;
+use rest::copying::copy_tables;
+use rest::rest::land_rest;
 use admission::gate::Gate;
 use admission::gate::pass_gate;
 use counters::counts::Counts;
@@ -22,7 +22,7 @@ ghost use Rattle.tables.specs.Meaning.{tables};
 ghost use Rattle.admission.specs.Lent.{lent, outcome};
 ghost use Rattle.admission.specs.Own.{ownStep};
 ghost use Rattle.removing.specs.Meaning.{removedReply};
-ghost use Rattle.removing.specs.Removing.{removedIn, settledIn};
+ghost use Rattle.rest.specs.Removing.{removedIn, settledIn};
 
 // The largest count of removals.
 const MOST_REMOVALS: u32 = 4294967295;

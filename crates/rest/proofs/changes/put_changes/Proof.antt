@@ -1,5 +1,5 @@
-use Rattle.removing.proofs.ChangeLaws.{put-turn, put-end}
-use Rattle.removing.specs.Removing.{changesIn}
+use Rattle.rest.proofs.ChangeLaws.{put-turn, put-end}
+use Rattle.rest.specs.Removing.{changesIn}
 use Rattle.nursery.specs.Removal.{changeNumbers}
 use Rattle.text.specs.Pages.{page, write}
 use lib.ListN.{length}
@@ -7,8 +7,8 @@ use Prim.Native.Nat.{_+_}
 use mathlib.Core.Path.{_≡_, refl, _∙_}
 use native.Mathlib.Omega.{arith}
 use borrow.Author.Needs.{needs}
-use Rattle.removing.proofs.changes.put_changes.Statement.{statement}
-use Rattle.removing.proofs.changes.put_changes.Tie as tie
+use Rattle.rest.proofs.changes.put_changes.Statement.{statement}
+use Rattle.rest.proofs.changes.put_changes.Tie as tie
 
 abbrev Inv-loop : tie.InvT-loop
 Inv-loop olds news n out₀ next₀ v₀ left₀ out next v left = (v + left ≡ n) × ((length out ≡ length out₀) × (write (changeNumbers (changesIn olds news left v)) (page out next) ≡ write (changeNumbers (changesIn olds news n 0)) (page out₀ 0)))

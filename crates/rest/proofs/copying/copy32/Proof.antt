@@ -1,9 +1,9 @@
-use Rattle.removing.proofs.CopyLaws.{Copied, copied-none, copied-more, copied-all}
+use Rattle.rest.proofs.CopyLaws.{Copied, copied-none, copied-more, copied-all}
 use Rattle.tables.proofs.Lists.{left}
 use native.Mathlib.Omega.{arith}
 use borrow.Author.Needs.{needs}
-use Rattle.removing.proofs.copying.copy32.Statement.{statement}
-use Rattle.removing.proofs.copying.copy32.Tie as tie
+use Rattle.rest.proofs.copying.copy32.Statement.{statement}
+use Rattle.rest.proofs.copying.copy32.Tie as tie
 
 abbrev Inv-loop : tie.InvT-loop
 Inv-loop xs wide₀ i₀ wide i = Copied xs wide₀ i wide

@@ -1,12 +1,12 @@
-use Rattle.removing.proofs.ChangeLaws.{changed-small, count-turn, count-end}
-use Rattle.removing.specs.Removing.{changesIn}
+use Rattle.rest.proofs.ChangeLaws.{changed-small, count-turn, count-end}
+use Rattle.rest.specs.Removing.{changesIn}
 use lib.ListN.{length}
 use Prim.Native.Nat.{_+_, _≤_}
 use mathlib.Core.Path.{_≡_, _∙_}
 use native.Mathlib.Omega.{arith}
 use borrow.Author.Needs.{needs}
-use Rattle.removing.proofs.changes.count_changes.Statement.{statement}
-use Rattle.removing.proofs.changes.count_changes.Tie as tie
+use Rattle.rest.proofs.changes.count_changes.Statement.{statement}
+use Rattle.rest.proofs.changes.count_changes.Tie as tie
 
 abbrev Inv-loop : tie.InvT-loop
 Inv-loop olds news n count₀ v₀ left₀ count v left = (v + left ≡ n) × ((count ≤ v) × (count + length (changesIn olds news left v) ≡ length (changesIn olds news n 0)))

@@ -1,7 +1,7 @@
-use Rattle.removing.proofs.CopyLaws.{tables-copied}
+use Rattle.rest.proofs.CopyLaws.{tables-copied}
 use borrow.Author.Needs.{needs}
-use Rattle.removing.proofs.copying.copy_tables.Statement.{statement}
-use Rattle.removing.proofs.copying.copy_tables.Tie as tie
+use Rattle.rest.proofs.copying.copy_tables.Statement.{statement}
+use Rattle.rest.proofs.copying.copy_tables.Tie as tie
 
 copy16-requires : tie.Need-copy16-requires
 copy16-requires c κs = search needs

@@ -1,10 +1,10 @@
 use mathlib.Core.Path.{sym}
 use mathlib.Core.List.{[], _∷_}
-use Rattle.removing.proofs.ChangeLaws.{put-none, put-one}
+use Rattle.rest.proofs.ChangeLaws.{put-none, put-one}
 use Rattle.text.proofs.PageLaws.{write-two}
 use borrow.Author.Needs.{needs}
-use Rattle.removing.proofs.changes.put_change.Statement.{statement}
-use Rattle.removing.proofs.changes.put_change.Tie as tie
+use Rattle.rest.proofs.changes.put_change.Statement.{statement}
+use Rattle.rest.proofs.changes.put_change.Tie as tie
 
 returns : tie.Need-returns
 returns c = put-none _ _ _ _ _ (sym (c .if1 .taken))

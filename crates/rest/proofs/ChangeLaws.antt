@@ -13,7 +13,7 @@ use Rattle.model.specs.Basics.{if_then_else_}
 use Rattle.text.specs.Pages.{Page, page, write}
 use Rattle.text.proofs.PageLaws.{write-append}
 use Rattle.nursery.specs.Removal.{Change, changeNumbers, changesFrom}
-use Rattle.removing.specs.Removing.{changeAt, changesIn}
+use Rattle.rest.specs.Removing.{changeAt, changesIn}
 
 -- one label, the same or another
 pub change-none : (v old new : ℕ) → old ≡ new → changeAt v old new ≡ []

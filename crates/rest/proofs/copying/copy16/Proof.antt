@@ -1,9 +1,9 @@
-use Rattle.removing.proofs.CopyLaws.{Copied, copied-none, copied-more, copied-all}
+use Rattle.rest.proofs.CopyLaws.{Copied, copied-none, copied-more, copied-all}
 use Rattle.tables.proofs.Lists.{left}
 use native.Mathlib.Omega.{arith}
 use borrow.Author.Needs.{needs}
-use Rattle.removing.proofs.copying.copy16.Statement.{statement}
-use Rattle.removing.proofs.copying.copy16.Tie as tie
+use Rattle.rest.proofs.copying.copy16.Statement.{statement}
+use Rattle.rest.proofs.copying.copy16.Tie as tie
 
 abbrev Inv-loop : tie.InvT-loop
 Inv-loop xs narrow₀ i₀ narrow i = Copied xs narrow₀ i narrow

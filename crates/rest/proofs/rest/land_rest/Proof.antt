@@ -1,9 +1,9 @@
-use Rattle.removing.proofs.RestLaws.{rest-on, rest-refused}
+use Rattle.rest.proofs.RestLaws.{rest-on, rest-refused}
 use Rattle.insertion.specs.Meaning.{asAnswer}
 use mathlib.Core.Path.{ap}
 use borrow.Author.Needs.{needs}
-use Rattle.removing.proofs.rest.land_rest.Statement.{statement}
-use Rattle.removing.proofs.rest.land_rest.Tie as tie
+use Rattle.rest.proofs.rest.land_rest.Statement.{statement}
+use Rattle.rest.proofs.rest.land_rest.Tie as tie
 
 add-behind : tie.Need-add-behind
 add-behind c = search needs

@@ -1,6 +1,6 @@
 use borrow.Author.Tests.{eq-eqb, ne-eqb}
-use Rattle.removing.proofs.changes.changed.Statement.{statement}
-use Rattle.removing.proofs.changes.changed.Tie as tie
+use Rattle.rest.proofs.changes.changed.Statement.{statement}
+use Rattle.rest.proofs.changes.changed.Tie as tie
 
 returns : tie.Need-returns
 returns c = rw (eq-eqb _ _ (c .if1 .taken))

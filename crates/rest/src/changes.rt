@@ -7,7 +7,7 @@ ghost use lib.ListN.{length};
 ghost use Rattle.model.specs.Basics.{if_then_else_};
 ghost use Rattle.text.specs.Pages.{page, write};
 ghost use Rattle.nursery.specs.Removal.{changeNumbers};
-ghost use Rattle.removing.specs.Removing.{changeAt, changesIn};
+ghost use Rattle.rest.specs.Removing.{changeAt, changesIn};
 
 // 1 where a label differs.
 fn changed(old: u32, new: u32) -> u16

@@ -1,0 +1,4 @@
+pub mod CopyLaws
+pub mod ChangeLaws
+pub mod RestLaws
+pub mod RestLeft
