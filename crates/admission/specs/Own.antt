@@ -22,7 +22,7 @@ pub record Outcome : Type 0 where
   pub slice : List ℕ
   pub reply : Reply
 
--- the register that a call finds: "21 (never for grow, which clears first)"
+-- the register that a call finds in its own house: a grow clears it first
 unfoldable pub registerFor : HouseCall → Lent → Option Register
 registerFor (grows bs) l = some empty
 registerFor (lands bs) l = held (l .stored)

@@ -30,10 +30,10 @@ use Rattle.sharing.specs.Meaning.{sharesReply}
 use Rattle.growing.proofs.grow.grow as grow
 use Rattle.growing.proofs.land.land as land
 use Rattle.growing.proofs.commit.commit as commit
-use Rattle.houses.proofs.find.find as find
-use Rattle.houses.proofs.find.find_at as find-at
-use Rattle.houses.proofs.distance.distance as distance
-use Rattle.houses.proofs.quote.quote as quote
+use Rattle.finding.proofs.find.find as find
+use Rattle.finding.proofs.find.find_at as find-at
+use Rattle.measuring.proofs.distance.distance as distance
+use Rattle.measuring.proofs.quote.quote as quote
 use Rattle.sheeting.proofs.sheet.sheet as sheet
 use Rattle.sheeting.proofs.write.write as write
 use Rattle.sheeting.proofs.opened.open as open-sheet

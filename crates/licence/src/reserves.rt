@@ -19,7 +19,7 @@ pub fn larger(share: u16, edges: u16) -> u32
     }
 }
 
-// What house h keeps of the licence for the others' sake: nothing, if it is the one that is asked about.
+// What house h keeps of the licence: nothing, if it is the one that is asked about.
 fn kept_by(heads: Heads, shares: &[u16], h: usize, house: u32) -> u32
     requires { ⌜ (h < houses) × (length (now shares) ≡ houses) ⌝ }
     ensures { λ r. ⌜ (r ≡ getD (set (reserves (now (shares .entry)) (edgesOf heads)) house 0) h 0) × (r < 65536) ⌝ }

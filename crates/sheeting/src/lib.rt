@@ -1,4 +1,5 @@
-// The sheet and the list of one of eight houses. Each call looks at all eight first (licence), then at its own, on its part of the tables.
+// The sheet and the list of one of eight houses. A call looks at the other seven and at the sum first (licence), then at its own house, on its
+// part of the tables.
 pub mod opened;
 pub mod sheet;
 pub mod write;

@@ -1,32 +1,32 @@
 use Rattle.licence.proofs.CallLaws.{parts-step}
 use native.Mathlib.Omega.{arith}
 use borrow.Author.Needs.{needs}
-use Rattle.houses.proofs.quote.quote_house.Statement.{statement}
-use Rattle.houses.proofs.quote.quote_house.Tie as tie
+use Rattle.finding.proofs.find.find_at_house.Statement.{statement}
+use Rattle.finding.proofs.find.find_at_house.Tie as tie
 
-add-quote-6 : tie.Need-add-quote-6
-add-quote-6 c =
+add-find-at-6 : tie.Need-add-find-at-6
+add-find-at-6 c =
     let at-pre = c .before .before .before .before .before .before .before .before .before .before .before .before .before .before .before .before .before in
     omega (arith, at-pre .pre .0)
 
-mul-quote-6 : tie.Need-mul-quote-6
-mul-quote-6 c =
+mul-find-at-6 : tie.Need-mul-find-at-6
+mul-find-at-6 c =
     let at-pre = c .before .before .before .before .before .before .before .before .before .before .before .before .before .before .before .before .before in
     omega (arith, at-pre .pre .0)
 
-part-quote-end-6 : tie.Need-part-quote-end-6
-part-quote-end-6 c =
+part-find-at-end-6 : tie.Need-part-find-at-end-6
+part-find-at-end-6 c =
     let at-pre = c .before .before .before .before .before .before .before .before .before .before .before .before .before .before .before .before .before in
     omega (arith, at-pre .pre .0, at-pre .pre .1 .5)
 
 returns : tie.Need-returns
 returns c =
-    let at-quote = c .before .before .before .before .before .before .before .before .before .before .before .before in
-    λ removals. parts-step _ _ _ _ _ _ _ _ removals _ _ _ _ _ _ (at-quote .quote .ensures removals)
+    let at-find-at = c .before .before .before .before .before .before .before .before .before .before .before .before in
+    λ limit removals. parts-step _ _ _ _ _ _ _ limit removals _ _ _ _ _ _ (at-find-at .find-at .ensures limit removals)
 
 -- the needs in the order of the code
-pub quote-house-spec : {M : Type 1} → statement M
-quote-house-spec =
+pub find-at-house-spec : {M : Type 1} → statement M
+find-at-house-spec =
     tie.close
     (tie.spec
     (λ c. search needs)
@@ -58,11 +58,11 @@ quote-house-spec =
     (λ c. search needs)
     (λ c. search needs)
     (λ c. search needs)
-    add-quote-6
-    mul-quote-6
+    add-find-at-6
+    mul-find-at-6
     (λ c. search needs)
     (λ c. search needs)
-    part-quote-end-6
+    part-find-at-end-6
     (λ c κs. search needs)
     (λ c. search needs)
     (λ c. search needs)

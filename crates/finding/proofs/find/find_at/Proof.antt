@@ -7,8 +7,8 @@ use Rattle.model.specs.Calls.{lentTo}
 use mathlib.Core.Bool.{false}
 use mathlib.Core.Path.{refl, sym, ap, _∙_}
 use borrow.Author.Needs.{needs}
-use Rattle.houses.proofs.find.find_at.Statement.{statement}
-use Rattle.houses.proofs.find.find_at.Tie as tie
+use Rattle.finding.proofs.find.find_at.Statement.{statement}
+use Rattle.finding.proofs.find.find_at.Tie as tie
 
 head-of-requires : tie.Need-head-of-requires
 head-of-requires c κs =
