@@ -3,56 +3,33 @@ use mathlib.Core.Path.{_≡_, sym, ap, _∙_}
 use Prim.Native.Nat.{ℕ}
 use mathlib.Core.Bool.{Bool, true, false}
 use mathlib.Core.List.{List, []}
-use lib.ListN.{getD, set}
+use lib.ListN.{set}
 use lib.Seq.{set-getD}
 use Rattle.model.specs.Register.{Quote}
 use Rattle.model.specs.Queries.{Reply}
-use Rattle.model.specs.Tables.{Tables, noCounts}
-use Rattle.nursery.specs.Nursery.{removalsIn, storedIn, tablesIn}
+use Rattle.model.specs.Tables.{Tables}
+use Rattle.nursery.specs.Nursery.{removalsIn}
 use Rattle.nursery.specs.Calls.{HouseCall, commits, grows, inHouse, lands, step}
 use Rattle.admission.specs.Own as own
 use Rattle.admission.specs.Own.{ownStep}
-use Rattle.admission.specs.Lent as lentOf
 use Rattle.licence.specs.declared.heads.Heads.{Heads}
 use Rattle.licence.specs.Meaning.{asHeads, asRemovals, lent, nursery, outcome}
 use Rattle.licence.specs.Gate.{opensWith, passOthers, scratchPassed}
-use Rattle.licence.proofs.PassLaws.{open-known}
 use Rattle.licence.proofs.StepLaws.{committed-step, grown-step, joined, landed-step, ownLent}
-use Rattle.parts.specs.Left.{left, putOwn}
+use Rattle.licence.specs.Left.{left, putOwn}
+use Rattle.licence.proofs.JoinLaws.{all-left, own-is, ownGiven}
 
 module _ (t t′ s s′ s″ : Tables) (heads heads′ : Heads) (ss : List ℕ) (house limit : ℕ) (a : Reply) where
-  -- the four parts of what is lent
-  all-left : (o : own.Outcome) (k : ℕ) → left t′ (asHeads heads′) s″ [] a ≡ putOwn house t (asHeads heads) o → asRemovals heads′ ≡ set (asRemovals heads) house k
-      → outcome t′ heads′ ss s″ [] a ≡ joined house (nursery t heads ss) o k
-  unfolding putOwn
-  all-left o k e r =
-      λ i.
-      record {
-        lent = record {
-          nursery = record { tables = (e i) .tables; heads = (e i) .heads; removals = r i; shares = ss };
-          scratch = (e i) .scratch;
-        };
-        slice = (e i) .slice;
-        reply = (e i) .reply;
-      }
-
-  abbrev ownGiven : own.Lent
-  ownGiven = lentOf.lent (tablesIn house t) (getD (asHeads heads) house noCounts) s′
-
-  own-is : (g : Bool) → opensWith limit ≡ passOthers house g (lent t heads ss s) → s′ ≡ scratchPassed (lent t heads ss s) → ownGiven ≡ ownLent house (nursery t heads ss)
-  unfolding storedIn
-  own-is g e z = rw (z ∙ (open-known t heads ss s house g limit e) .2)
-
   -- what was done on the part of the house, as it is defined
   abbrev Done : HouseCall → Type 0
-  Done c = (removals : ℕ) → left t′ (asHeads heads′) s″ [] a ≡ putOwn house t (asHeads heads) (ownStep limit removals c ownGiven)
+  Done c = (removals : ℕ) → left t′ (asHeads heads′) s″ [] a ≡ putOwn house t (asHeads heads) (ownStep limit removals c (ownGiven t heads s′ house))
 
   own-done : (g : Bool) (c : HouseCall) (k m : ℕ) → opensWith limit ≡ passOthers house g (lent t heads ss s) → s′ ≡ scratchPassed (lent t heads ss s) → Done c
       → asRemovals heads′ ≡ set (asRemovals heads) house m
       → outcome t′ heads′ ss s″ [] a ≡ joined house (nursery t heads ss) (ownStep limit k c (ownLent house (nursery t heads ss))) m
   own-done g c k m e z f r =
-      all-left (ownStep limit k c (ownLent house (nursery t heads ss))) m
-      (f k ∙ ap (λ (x : own.Lent). putOwn house t (asHeads heads) (ownStep limit k c x)) (own-is g e z)) r
+      all-left t t′ s″ heads heads′ ss [] house a (ownStep limit k c (ownLent house (nursery t heads ss))) m
+      (f k ∙ ap (λ (x : own.Lent). putOwn house t (asHeads heads) (ownStep limit k c x)) (own-is t s s′ heads ss house limit g e z)) r
 
   -- the count of removals as it was
   kept-count : asRemovals heads′ ≡ asRemovals heads → asRemovals heads′ ≡ set (asRemovals heads) house (removalsIn house (nursery t heads ss))

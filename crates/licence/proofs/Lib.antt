@@ -5,3 +5,5 @@ pub mod OtherLaws
 pub mod PassLaws
 pub mod StepLaws
 pub mod CallLaws
+pub mod PartLaws
+pub mod JoinLaws

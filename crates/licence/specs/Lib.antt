@@ -1,3 +1,4 @@
 pub mod Meaning
 pub mod Others
 pub mod Gate
+pub mod Left

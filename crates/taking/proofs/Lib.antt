@@ -1,2 +1,2 @@
-pub mod PartLaws
+pub mod CountLaws
 pub mod JoinLaws

@@ -25,7 +25,8 @@ ghost use Rattle.admission.specs.Own.{ownStep};
 ghost use Rattle.licence.specs.Meaning.{asHeads, asRemovals};
 ghost use Rattle.licence.specs.Others.{Long};
 ghost use Rattle.removing.specs.Meaning.{removedReply};
-ghost use Rattle.taking.specs.Left.{countAfter, left, putOwn};
+ghost use Rattle.licence.specs.Left.{left, putOwn};
+ghost use Rattle.taking.specs.Counting.{countAfter};
 
 // A removal that is reported is counted.
 fn count_removal(heads: Heads, h: usize, answer: Removed) -> Heads

@@ -1,9 +1,9 @@
-use mathlib.Core.Path.{ap, _∙_}
+use mathlib.Core.Path.{refl, ap, _∙_}
 use Prim.Native.Nat.{ℕ}
 use mathlib.Core.List.{List}
 use lib.ListN.{set}
 use native.Mathlib.Omega.{arith}
-use Rattle.parts.proofs.PartLaws.{part-left}
+use Rattle.licence.proofs.PartLaws.{part-left}
 use borrow.Author.Needs.{needs}
 use Rattle.parts.proofs.grow.grow_house.Statement.{statement}
 use Rattle.parts.proofs.grow.grow_house.Tie as tie
@@ -163,7 +163,7 @@ returns c =
     let at-grow-own = c .before .before .before .before .before .before .before .before .before .before .before .before .before .before .before .before .before .before .before .before .before .before .before .before .before .before in
     let at-head-of = at-grow-own .before .before .before .before .before .before .before .before .before .before .before .before .before in
     let at-args = at-head-of .before .before .before .before .before .before .before .before .before .before .before .before .before .before in
-    (λ removals. part-left (at-args .args .h) _ _ _ _ _ _ _ _ _ _ _ _ _ _ _ _ _ _ _ _ removals _ (at-head-of .head-of .ensures) (c .with-removals .ensures .0 ∙ c .before .with-head .ensures .0) (at-grow-own .grow-own .ensures removals), c .with-removals .ensures .1 ∙ ap (λ (ns : List ℕ). set ns (at-args .args .h) 0) (c .before .with-head .ensures .1))
+    (λ removals. part-left (at-args .args .h) _ _ _ _ _ _ _ _ _ _ _ _ _ _ _ _ _ _ _ _ _ removals _ _ refl (at-head-of .head-of .ensures) (c .with-removals .ensures .0 ∙ c .before .with-head .ensures .0) (at-grow-own .grow-own .ensures removals), c .with-removals .ensures .1 ∙ ap (λ (ns : List ℕ). set ns (at-args .args .h) 0) (c .before .with-head .ensures .1))
 
 pub grow-house-spec : {M : Type 1} → statement M
 grow-house-spec =

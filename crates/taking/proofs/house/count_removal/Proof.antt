@@ -1,5 +1,5 @@
 use Rattle.licence.specs.Meaning.{asRemovals}
-use Rattle.taking.proofs.PartLaws.{count-on}
+use Rattle.taking.proofs.CountLaws.{count-on}
 use lib.Seq.{set-getD}
 use mathlib.Core.Path.{refl, sym, _∙_}
 use borrow.Author.Needs.{needs}

@@ -1,4 +1,5 @@
-use Rattle.taking.proofs.PartLaws.{heads-on, part-left}
+use Rattle.licence.proofs.PartLaws.{part-left}
+use Rattle.taking.proofs.CountLaws.{heads-on}
 use mathlib.Core.Path.{_∙_}
 use native.Mathlib.Omega.{arith}
 use borrow.Author.Needs.{needs}

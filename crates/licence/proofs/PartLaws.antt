@@ -1,5 +1,5 @@
 -- What a call on the part of one house leaves of the tables and heads of all eight.
-use mathlib.Core.Path.{_≡_, refl, sym, ap, _∙_}
+use mathlib.Core.Path.{_≡_, ap, _∙_}
 use Prim.Native.Nat.{ℕ, _+_, _*_, _-_}
 use native.Mathlib.Omega.{arith}
 use mathlib.Core.List.{List}
@@ -8,13 +8,12 @@ use borrow.Rule.Slice.PartMut.{putMid}
 use Rattle.model.specs.Queries.{Reply}
 use Rattle.model.specs.Tables.{Counts, Tables, noCounts}
 use Rattle.tables.specs.Meaning.{tables}
-use Rattle.tables.specs.Steps.{more32}
 use Rattle.nursery.specs.Nursery.{putPart, putTables, tablesIn}
 use Rattle.nursery.specs.Calls.{HouseCall}
-use Rattle.admission.specs.Own.{Outcome, ownStep}
+use Rattle.admission.specs.Own.{ownStep}
 use Rattle.admission.specs.Lent as own
 use Rattle.licence.proofs.CallLaws.{parts-are}
-use Rattle.taking.specs.Left.{left, putOwn}
+use Rattle.licence.specs.Left.{left, putOwn}
 
 module _ (h : ℕ) (degrees sides ends lengths volumes labels : List ℕ) (heads : List Counts) where
   one : 4096 * h + 4096 - 4096 * h ≡ 4096
@@ -77,11 +76,3 @@ module _ (h : ℕ) (degrees sides ends lengths volumes labels : List ℕ) (heads
       ∙ ap (λ (t : Tables). ownStep limit removals call (own.lent t c z)) (parts-are h degrees sides ends lengths volumes labels)
       ∙ ap (λ (k : Counts). ownStep limit removals call (own.lent (tablesIn h (tables degrees sides ends lengths volumes labels)) k z)) w
       ∙ ap (λ (i : ℕ). ownStep limit i call (own.lent (tablesIn h (tables degrees sides ends lengths volumes labels)) (getD heads h noCounts) z)) k)
-
--- the count of removals, raised
-pub count-on : (ks ks′ : List ℕ) (h k one : ℕ) → k ≡ getD ks h 0 → one ≡ more32 k → ks′ ≡ set ks h one → ks′ ≡ set ks h (more32 (getD ks h 0))
-count-on ks ks′ h k one a b c = rw (← a, ← b) c
-
--- a head put among heads that are the same
-pub heads-on : (heads heads₁ heads₂ : List Counts) (h : ℕ) (c : Counts) → heads₁ ≡ heads → heads₂ ≡ set heads₁ h c → heads₂ ≡ set heads h c
-heads-on heads heads₁ heads₂ h c a b = b ∙ ap (λ (x : List Counts). set x h c) a
