@@ -223,6 +223,8 @@ fn removals_are_counted() {
     answered(&mut lent, 4, &Call::Fetch(before));
     refused(&mut lent, 4, &Call::Remove(4, 8), 9);
     refused(&mut lent, 4, &Call::Remove(6, 0), 38);
+    // The number is one of 32 bits.
+    refused(&mut lent, 4, &Call::Remove(65_536, 9), 38);
     assert_eq!(answered(&mut lent, 4, &Call::Remove(4, 9)).first, 3);
     assert_eq!(lent.removals(4), 1);
     refused(&mut lent, 4, &Call::Fetch(before), 39);
@@ -245,6 +247,8 @@ fn removals_are_counted() {
     lent.set(4, 6, 4, u32::MAX);
     answered(&mut lent, 4, &Call::Open);
     refused(&mut lent, 4, &Call::Remove(4, 9), 38);
+    // That is looked at before the room.
+    refused(&mut lent, 4, &Call::Remove(4, 0), 38);
     lent.set(4, 6, 4, u32::MAX - 1);
     answered(&mut lent, 4, &Call::Remove(4, 9));
     assert_eq!(lent.removals(4), u32::MAX);

@@ -145,7 +145,7 @@ pub enum Call {
     Open,
     Fetch(OpenSheet),
     /// The pipe of this number, into so many numbers.
-    Remove(u16, usize),
+    Remove(u32, usize),
     /// For all houses.
     Shares(Vec<u16>),
 }
@@ -206,7 +206,7 @@ fn call_bytes(call: &Call) -> (u8, [usize; 3], Vec<u8>) {
             let numbers = [fittings | pipes << 16, place, sheet.removals as usize];
             (b'N', numbers, vec![])
         }
-        Call::Remove(pipe, size) => (b'R', [usize::from(*pipe), *size, 0], vec![]),
+        Call::Remove(pipe, size) => (b'R', [*pipe as usize, *size, 0], vec![]),
         Call::Shares(shares) => {
             let bytes = shares.iter().flat_map(|share| share.to_le_bytes());
             (b'H', [shares.len(), 0, 0], bytes.collect())
@@ -471,7 +471,7 @@ impl Lent {
             Call::Land(ref list) => return self.land(at, call, (*house).clone(), list),
             Call::Commit(ref quote) => return self.commit(at, call, (*house).clone(), quote),
             Call::Remove(pipe, size) => {
-                let removed = removal::remove(&house, removals, pipe.into(), size);
+                let removed = removal::remove(&house, removals, pipe as usize, size);
                 removed.map(|(left, report)| {
                     self.parts[at].keep(left);
                     self.parts[at].removals += 1;

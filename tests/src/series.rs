@@ -181,7 +181,7 @@ impl Series {
         self.put(answer.first >> 32, answer.first & 0xFFFF_FFFF, &answer);
     }
 
-    fn remove(&mut self, pipe: u16, size: usize) {
+    fn remove(&mut self, pipe: u32, size: usize) {
         let before = self.held();
         let answer = self.call(&Call::Remove(pipe, size));
         self.put(answer.first, 77, &answer);

@@ -180,7 +180,11 @@ fn told(degrees: &[u16], lengths: &[u32], walked: Look, back: Edge, up: bool) ->
 fn edge_towards(sides: &[u16], v: Vertex, up: bool) -> Edge
     ensures { λ r. ⌜ r .0 ≡ edgeTowards (now (sides .entry)) up (v .0) ⌝ }
 {
-    if up { high_edge(sides, v) } else { low_edge(sides, v) }
+    if up {
+        high_edge(sides, v)
+    } else {
+        low_edge(sides, v)
+    }
 }
 
 // The chain or ring of which v has the lowest label is looked through upwards, or that of which v has the highest downwards.

@@ -1,14 +1,14 @@
 // Remove on the tables of one house: 25, 21, then 38, then 9.
-use rest::changes::count_changes;
-use rest::changes::put_changes;
-use rest::copying::copy_tables;
-use rest::rest::land_rest;
 use admission::gate::Gate;
 use admission::gate::pass_gate;
 use counters::counts::Counts;
 use counters::numbers::Vertex;
 use counters::refusals::Refusal;
 use insertion::edges::Inserted;
+use rest::changes::count_changes;
+use rest::changes::put_changes;
+use rest::copying::copy_tables;
+use rest::rest::land_rest;
 use tables::whole::clear_tables;
 ghost use mathlib.Core.Path.{_≡_};
 ghost use Prim.Native.Nat.{ℕ, _<_};

@@ -345,7 +345,7 @@ fn beside_a_large_one(random: &mut Random, lent: &mut Lent) -> Vec<Command> {
     for _ in 0..2 {
         let now = &Now::of(lent, random.below(HOUSES));
         let call = match random.below(6) {
-            0 => Call::Remove(u16::try_from(random.below(4_096)).expect("16 bits"), SLICE),
+            0 => Call::Remove(number_of(random.below(4_096)), SLICE),
             1 => commit(random, now),
             2 => question(random, now),
             _ => land(random, now),
@@ -375,7 +375,7 @@ fn removals(random: &mut Random, now: &Now) -> Vec<Command> {
     }
     match random.below(4) {
         0 => commands.push(now.call(Call::Fetch(opened))),
-        1 => commands.push(now.call(Call::Remove(u16::try_from(count).expect("16 bits"), SLICE))),
+        1 => commands.push(now.call(Call::Remove(number_of(count), SLICE))),
         2 => commands.push(now.call(Call::Sheet(SLICE))),
         _ => commands.push(now.call(land(random, now))),
     }
@@ -385,11 +385,16 @@ fn removals(random: &mut Random, now: &Now) -> Vec<Command> {
 fn remove(random: &mut Random, now: &Now) -> Call {
     let count = now.house.pipes().len();
     let any = random.below(count + 1);
-    let pipe = random.pick(&[any, any, any, any, any, 0, count.saturating_sub(1), 65_535]);
+    // The last two are a pipe's number where only 16 bits of them are looked at.
+    let last = count.saturating_sub(1);
+    let pipe = random.pick(&[any, any, any, any, any, 0, last, 65_536 + any, 4_294_901_760]);
     let report = removal::remove(&now.house, 0, pipe, usize::MAX);
     let needs = report.map_or(0, |(_, report)| 3 * report.len());
-    let pipe = u16::try_from(pipe).expect("16 bits");
-    Call::Remove(pipe, room(random, needs, SLICE))
+    Call::Remove(number_of(pipe), room(random, needs, SLICE))
+}
+
+fn number_of(pipe: usize) -> u32 {
+    u32::try_from(pipe).expect("32 bits")
 }
 
 /// A list of some kind, or of a house with rings.

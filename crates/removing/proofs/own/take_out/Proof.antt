@@ -5,21 +5,6 @@ use borrow.Author.Needs.{needs}
 use Rattle.removing.proofs.own.take_out.Statement.{statement}
 use Rattle.removing.proofs.own.take_out.Tie as tie
 
-land-rest-requires : tie.Need-land-rest-requires
-land-rest-requires c κs = search needs
-
-enum-known-rest : tie.Need-enum-known-rest
-enum-known-rest c = search needs
-
-settle-requires : tie.Need-settle-requires
-settle-requires c κs = search needs
-
-enum-known-rest-2 : tie.Need-enum-known-rest-2
-enum-known-rest-2 c = search needs
-
-clear-tables-requires : tie.Need-clear-tables-requires
-clear-tables-requires c κs = search needs
-
 same-length : tie.Need-same-length
 same-length c =
     let at-settle = c .before .before .before .before .before .before .before .before .before .before .before .before .before .before .before .before .before .before .before .before .before .before .before .before .before .before in
@@ -86,42 +71,12 @@ same-length-12 c =
     let at-land-rest = at-settle .before .before .before .before .before .before .before .before .before .before .before .before .before .before .before .before .before .before .before .before .before .before .before .before .before .before .before .before .before in
     at-settle .settle .kept .1 .1 .1 .1 .1 .1 .1 .1 .1 .1 .1 .1 .1 .0 ∙ at-land-rest .land-rest .kept .1 .1 .1 .1 .1 .1 .1 .1 .1 .1 .0
 
-same-length-13 : tie.Need-same-length-13
-same-length-13 c = search needs
-
 returns : tie.Need-returns
 returns c =
     let at-settle = c .before .before .before .before .before .before .before .before .before .before .before .before .before .before .before .before .before .before .before .before .before .before .before .before .before .before in
     let at-rest = at-settle .before .before .before .before .before .before .before .before .before .before .before .before .before .before .before in
     let at-land-rest = at-rest .before .before .before .before .before .before .before .before .before .before .before .before .before .before in
     λ q. out-done _ _ _ _ _ _ _ (at-land-rest .land-rest .ensures) _ _ _ (ap asAnswer (at-rest .rest .given .1)) (sizes-kept _ _ (at-land-rest .land-rest .kept .1 .1 .1 .1 .1)) (at-settle .settle .ensures) q
-
-same-length-14 : tie.Need-same-length-14
-same-length-14 c = search needs
-
-same-length-15 : tie.Need-same-length-15
-same-length-15 c = search needs
-
-same-length-16 : tie.Need-same-length-16
-same-length-16 c = search needs
-
-same-length-17 : tie.Need-same-length-17
-same-length-17 c = search needs
-
-same-length-18 : tie.Need-same-length-18
-same-length-18 c = search needs
-
-same-length-19 : tie.Need-same-length-19
-same-length-19 c = search needs
-
-same-length-20 : tie.Need-same-length-20
-same-length-20 c = search needs
-
-same-length-21 : tie.Need-same-length-21
-same-length-21 c = search needs
-
-same-length-22 : tie.Need-same-length-22
-same-length-22 c = search needs
 
 returns-2 : tie.Need-returns-2
 returns-2 c =
@@ -130,15 +85,16 @@ returns-2 c =
     let at-land-rest = at-rest2 .before .before .before .before .before .before .before .before .before .before .before .before .before .before in
     λ q. out-refused _ _ _ _ _ _ _ (at-land-rest .land-rest .ensures) _ _ (ap asAnswer (at-rest2 .rest2 .given .1)) (at-clear-tables .clear-tables .ensures)
 
+-- the needs in the order of the code
 pub take-out-spec : {M : Type 1} → statement M
 take-out-spec =
     tie.close
     (tie.spec
-    land-rest-requires
-    enum-known-rest
-    settle-requires
-    enum-known-rest-2
-    clear-tables-requires
+    (λ c κs. search needs)
+    (λ c. search needs)
+    (λ c κs. search needs)
+    (λ c. search needs)
+    (λ c κs. search needs)
     same-length
     same-length-2
     same-length-3
@@ -151,15 +107,15 @@ take-out-spec =
     same-length-10
     same-length-11
     same-length-12
-    same-length-13
+    (λ c. search needs)
     returns
-    same-length-14
-    same-length-15
-    same-length-16
-    same-length-17
-    same-length-18
-    same-length-19
-    same-length-20
-    same-length-21
-    same-length-22
+    (λ c. search needs)
+    (λ c. search needs)
+    (λ c. search needs)
+    (λ c. search needs)
+    (λ c. search needs)
+    (λ c. search needs)
+    (λ c. search needs)
+    (λ c. search needs)
+    (λ c. search needs)
     returns-2)

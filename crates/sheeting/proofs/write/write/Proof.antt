@@ -10,12 +10,6 @@ use borrow.Author.Needs.{needs}
 use Rattle.sheeting.proofs.write.write.Statement.{statement}
 use Rattle.sheeting.proofs.write.write.Tie as tie
 
-pass-others-requires : tie.Need-pass-others-requires
-pass-others-requires c κs = search needs
-
-enum-known-passed : tie.Need-enum-known-passed
-enum-known-passed c = search needs
-
 head-of-requires : tie.Need-head-of-requires
 head-of-requires c κs =
     let at-pass-others = c .before .before .before .before .before .before .before .before .before .before .before .before .before .before .before in
@@ -26,9 +20,6 @@ write-house-requires c κs =
     let at-passed = c .before .before .before .before .before .before .before .before .before in
     let at-pass-others = at-passed .before .before .before .before .before .before .before .before .before .before .before .before .before .before in
     ((open-known _ _ _ _ _ false _ (ap asPassed (sym (at-passed .passed .given .1)) ∙ at-pass-others .pass-others .ensures .0)) .0, (open-known _ _ _ _ _ false _ (ap asPassed (sym (at-passed .passed .given .1)) ∙ at-pass-others .pass-others .ensures .0)) .1)
-
-enum-known-passed-2 : tie.Need-enum-known-passed-2
-enum-known-passed-2 c = search needs
 
 same-length : tie.Need-same-length
 same-length c =
@@ -66,9 +57,6 @@ same-length-6 c =
     let at-pass-others = at-write-house .before .before .before .before .before .before .before .before .before .before .before .before .before .before .before .before .before .before .before .before .before .before .before .before in
     at-write-house .write-house .kept .1 .1 .1 .1 .1 .1 .1 .1 .1 .1 .1 .1 .0 ∙ at-pass-others .pass-others .kept .1 .1 .1 .1 .1 .1 .1 .1 .1 .1 .1 .1 .1 .0
 
-same-length-7 : tie.Need-same-length-7
-same-length-7 c = search needs
-
 returns : tie.Need-returns
 returns c =
     let at-write-house = c .before .before .before .before .before .before .before .before .before .before .before .before .before .before in
@@ -77,51 +65,34 @@ returns c =
     let at-pass-others = at-passed .before .before .before .before .before .before .before .before .before .before .before .before .before .before in
     asked-call _ _ _ _ _ _ _ (ap asPassed (sym (at-passed .passed .given .1)) ∙ at-pass-others .pass-others .ensures .0) (at-pass-others .pass-others .ensures .1) _ (at-head-of .head-of .ensures) _ _ _ _ (at-write-house .write-house .ensures _ _)
 
-same-length-8 : tie.Need-same-length-8
-same-length-8 c = search needs
-
-same-length-9 : tie.Need-same-length-9
-same-length-9 c = search needs
-
-same-length-10 : tie.Need-same-length-10
-same-length-10 c = search needs
-
-same-length-11 : tie.Need-same-length-11
-same-length-11 c = search needs
-
-same-length-12 : tie.Need-same-length-12
-same-length-12 c = search needs
-
-same-length-13 : tie.Need-same-length-13
-same-length-13 c = search needs
-
 returns-2 : tie.Need-returns-2
 unfolding isGrow sliceOf lentTo
 returns-2 c =
     let at-pass-others = c .before .before .before .before .before .before .before .before .before .before .before .before .before .before .before in
     barred-call _ _ _ _ _ _ false (writes _) _ refl (ap asPassed (sym (c .before .passed2 .given .1)) ∙ at-pass-others .pass-others .ensures .0) (at-pass-others .pass-others .ensures .1)
 
+-- the needs in the order of the code
 pub write-spec : {M : Type 1} → statement M
 write-spec =
     tie.close
     (tie.spec
-    pass-others-requires
-    enum-known-passed
+    (λ c κs. search needs)
+    (λ c. search needs)
     head-of-requires
     write-house-requires
-    enum-known-passed-2
+    (λ c. search needs)
     same-length
     same-length-2
     same-length-3
     same-length-4
     same-length-5
     same-length-6
-    same-length-7
+    (λ c. search needs)
     returns
-    same-length-8
-    same-length-9
-    same-length-10
-    same-length-11
-    same-length-12
-    same-length-13
+    (λ c. search needs)
+    (λ c. search needs)
+    (λ c. search needs)
+    (λ c. search needs)
+    (λ c. search needs)
+    (λ c. search needs)
     returns-2)

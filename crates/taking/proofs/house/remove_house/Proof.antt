@@ -6,24 +6,6 @@ use borrow.Author.Needs.{needs}
 use Rattle.taking.proofs.house.remove_house.Statement.{statement}
 use Rattle.taking.proofs.house.remove_house.Tie as tie
 
-mul-v : tie.Need-mul-v
-mul-v c = search needs
-
-mul-s : tie.Need-mul-s
-mul-s c = search needs
-
-mul-n : tie.Need-mul-n
-mul-n c = search needs
-
-mul-e : tie.Need-mul-e
-mul-e c = search needs
-
-head-of-requires : tie.Need-head-of-requires
-head-of-requires c κs = search needs
-
-removals-of-requires : tie.Need-removals-of-requires
-removals-of-requires c κs = search needs
-
 add-remove-own : tie.Need-add-remove-own
 add-remove-own c =
     let at-pre = c .before .before .before .before .before .before .before .before .before .before .before .before .before .before .before in
@@ -33,12 +15,6 @@ mul-remove-own : tie.Need-mul-remove-own
 mul-remove-own c =
     let at-pre = c .before .before .before .before .before .before .before .before .before .before .before .before .before .before .before in
     omega (arith, at-pre .pre .0)
-
-sub-remove-own : tie.Need-sub-remove-own
-sub-remove-own c = search needs
-
-part-remove-own-start : tie.Need-part-remove-own-start
-part-remove-own-start c = search needs
 
 part-remove-own-end : tie.Need-part-remove-own-end
 part-remove-own-end c =
@@ -55,12 +31,6 @@ mul-remove-own-2 c =
     let at-pre = c .before .before .before .before .before .before .before .before .before .before .before .before .before .before .before .before in
     omega (arith, at-pre .pre .0)
 
-sub-remove-own-2 : tie.Need-sub-remove-own-2
-sub-remove-own-2 c = search needs
-
-part-remove-own-start-2 : tie.Need-part-remove-own-start-2
-part-remove-own-start-2 c = search needs
-
 part-remove-own-end-2 : tie.Need-part-remove-own-end-2
 part-remove-own-end-2 c =
     let at-pre = c .before .before .before .before .before .before .before .before .before .before .before .before .before .before .before .before in
@@ -75,12 +45,6 @@ mul-remove-own-3 : tie.Need-mul-remove-own-3
 mul-remove-own-3 c =
     let at-pre = c .before .before .before .before .before .before .before .before .before .before .before .before .before .before .before .before .before in
     omega (arith, at-pre .pre .0)
-
-sub-remove-own-3 : tie.Need-sub-remove-own-3
-sub-remove-own-3 c = search needs
-
-part-remove-own-start-3 : tie.Need-part-remove-own-start-3
-part-remove-own-start-3 c = search needs
 
 part-remove-own-end-3 : tie.Need-part-remove-own-end-3
 part-remove-own-end-3 c =
@@ -97,12 +61,6 @@ mul-remove-own-4 c =
     let at-pre = c .before .before .before .before .before .before .before .before .before .before .before .before .before .before .before .before .before .before in
     omega (arith, at-pre .pre .0)
 
-sub-remove-own-4 : tie.Need-sub-remove-own-4
-sub-remove-own-4 c = search needs
-
-part-remove-own-start-4 : tie.Need-part-remove-own-start-4
-part-remove-own-start-4 c = search needs
-
 part-remove-own-end-4 : tie.Need-part-remove-own-end-4
 part-remove-own-end-4 c =
     let at-pre = c .before .before .before .before .before .before .before .before .before .before .before .before .before .before .before .before .before .before in
@@ -117,12 +75,6 @@ mul-remove-own-5 : tie.Need-mul-remove-own-5
 mul-remove-own-5 c =
     let at-pre = c .before .before .before .before .before .before .before .before .before .before .before .before .before .before .before .before .before .before .before in
     omega (arith, at-pre .pre .0)
-
-sub-remove-own-5 : tie.Need-sub-remove-own-5
-sub-remove-own-5 c = search needs
-
-part-remove-own-start-5 : tie.Need-part-remove-own-start-5
-part-remove-own-start-5 c = search needs
 
 part-remove-own-end-5 : tie.Need-part-remove-own-end-5
 part-remove-own-end-5 c =
@@ -139,27 +91,15 @@ mul-remove-own-6 c =
     let at-pre = c .before .before .before .before .before .before .before .before .before .before .before .before .before .before .before .before .before .before .before .before in
     omega (arith, at-pre .pre .0)
 
-sub-remove-own-6 : tie.Need-sub-remove-own-6
-sub-remove-own-6 c = search needs
-
-part-remove-own-start-6 : tie.Need-part-remove-own-start-6
-part-remove-own-start-6 c = search needs
-
 part-remove-own-end-6 : tie.Need-part-remove-own-end-6
 part-remove-own-end-6 c =
     let at-pre = c .before .before .before .before .before .before .before .before .before .before .before .before .before .before .before .before .before .before .before .before in
     omega (arith, at-pre .pre .0, at-pre .pre .1 .5)
 
-remove-own-requires : tie.Need-remove-own-requires
-remove-own-requires c κs = search needs
-
 count-removal-requires : tie.Need-count-removal-requires
 count-removal-requires c κs =
     let at-pre = c .before .before .before .before .before .before .before .before .before .before .before .before .before .before .before .before .before .before .before .before .before .before .before .before .before .before .before .before .before .before .before .before .before .before .before .before .before .before .before .before .before .before .before .before .before .before .before .before .before .before .before .before .before .before .before in
     at-pre .pre .0
-
-with-head-requires : tie.Need-with-head-requires
-with-head-requires c κs = search needs
 
 same-length : tie.Need-same-length
 same-length c =
@@ -234,49 +174,50 @@ returns c =
     let at-args = at-head-of .before .before .before .before .before .before .before .before .before .before .before .before .before .before in
     (λ limit. part-left (at-args .args .h) _ _ _ _ _ _ _ _ _ _ _ _ _ _ _ _ _ _ _ _ limit _ _ _ (at-removals-of .removals-of .ensures) (at-head-of .head-of .ensures) (heads-on _ _ _ _ _ (c .before .count-removal .ensures .0) (c .with-head .ensures .0)) (at-remove-own .remove-own .ensures limit), c .with-head .ensures .1 ∙ c .before .count-removal .ensures .1)
 
+-- the needs in the order of the code
 pub remove-house-spec : {M : Type 1} → statement M
 remove-house-spec =
     tie.close
     (tie.spec
-    mul-v
-    mul-s
-    mul-n
-    mul-e
-    head-of-requires
-    removals-of-requires
+    (λ c. search needs)
+    (λ c. search needs)
+    (λ c. search needs)
+    (λ c. search needs)
+    (λ c κs. search needs)
+    (λ c κs. search needs)
     add-remove-own
     mul-remove-own
-    sub-remove-own
-    part-remove-own-start
+    (λ c. search needs)
+    (λ c. search needs)
     part-remove-own-end
     add-remove-own-2
     mul-remove-own-2
-    sub-remove-own-2
-    part-remove-own-start-2
+    (λ c. search needs)
+    (λ c. search needs)
     part-remove-own-end-2
     add-remove-own-3
     mul-remove-own-3
-    sub-remove-own-3
-    part-remove-own-start-3
+    (λ c. search needs)
+    (λ c. search needs)
     part-remove-own-end-3
     add-remove-own-4
     mul-remove-own-4
-    sub-remove-own-4
-    part-remove-own-start-4
+    (λ c. search needs)
+    (λ c. search needs)
     part-remove-own-end-4
     add-remove-own-5
     mul-remove-own-5
-    sub-remove-own-5
-    part-remove-own-start-5
+    (λ c. search needs)
+    (λ c. search needs)
     part-remove-own-end-5
     add-remove-own-6
     mul-remove-own-6
-    sub-remove-own-6
-    part-remove-own-start-6
+    (λ c. search needs)
+    (λ c. search needs)
     part-remove-own-end-6
-    remove-own-requires
+    (λ c κs. search needs)
     count-removal-requires
-    with-head-requires
+    (λ c κs. search needs)
     same-length
     same-length-2
     same-length-3

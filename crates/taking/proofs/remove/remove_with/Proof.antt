@@ -10,20 +10,11 @@ use borrow.Author.Needs.{needs}
 use Rattle.taking.proofs.remove.remove_with.Statement.{statement}
 use Rattle.taking.proofs.remove.remove_with.Tie as tie
 
-pass-others-requires : tie.Need-pass-others-requires
-pass-others-requires c κs = search needs
-
-enum-known-passed : tie.Need-enum-known-passed
-enum-known-passed c = search needs
-
 remove-house-requires : tie.Need-remove-house-requires
 remove-house-requires c κs =
     let at-passed = c .before .before .before .before .before .before .before .before .before .before .before .before .before .before in
     let at-pass-others = at-passed .before .before .before .before .before .before .before .before .before .before .before .before .before .before in
     let k = open-known _ _ _ _ _ _ _ (ap asPassed (sym (at-passed .passed .given .1)) ∙ at-pass-others .pass-others .ensures .0) in (k .0, k .1)
-
-enum-known-passed-2 : tie.Need-enum-known-passed-2
-enum-known-passed-2 c = search needs
 
 same-length : tie.Need-same-length
 same-length c =
@@ -103,56 +94,21 @@ returns c =
     let at-pass-others = at-passed .before .before .before .before .before .before .before .before .before .before .before .before .before .before in
     remove-joined _ _ _ _ _ _ _ _ _ _ _ _ _ (ap asPassed (sym (at-passed .passed .given .1)) ∙ at-pass-others .pass-others .ensures .0) (at-pass-others .pass-others .ensures .1) (at-remove-house .remove-house .result .answer) (at-remove-house .remove-house .ensures .0 _) (at-remove-house .remove-house .ensures .1)
 
-same-length-14 : tie.Need-same-length-14
-same-length-14 c = search needs
-
-same-length-15 : tie.Need-same-length-15
-same-length-15 c = search needs
-
-same-length-16 : tie.Need-same-length-16
-same-length-16 c = search needs
-
-same-length-17 : tie.Need-same-length-17
-same-length-17 c = search needs
-
-same-length-18 : tie.Need-same-length-18
-same-length-18 c = search needs
-
-same-length-19 : tie.Need-same-length-19
-same-length-19 c = search needs
-
-same-length-20 : tie.Need-same-length-20
-same-length-20 c = search needs
-
-same-length-21 : tie.Need-same-length-21
-same-length-21 c = search needs
-
-same-length-22 : tie.Need-same-length-22
-same-length-22 c = search needs
-
-same-length-23 : tie.Need-same-length-23
-same-length-23 c = search needs
-
-same-length-24 : tie.Need-same-length-24
-same-length-24 c = search needs
-
-same-length-25 : tie.Need-same-length-25
-same-length-25 c = search needs
-
 returns-2 : tie.Need-returns-2
 unfolding isGrow sliceOf
 returns-2 c =
     let at-pass-others = c .before .before .before .before .before .before .before .before .before .before .before .before .before .before .before in
     barred-call _ _ _ _ _ _ false (removes _ _) _ refl (ap asPassed (sym (c .before .passed2 .given .1)) ∙ at-pass-others .pass-others .ensures .0) (at-pass-others .pass-others .ensures .1)
 
+-- the needs in the order of the code
 pub remove-with-spec : {M : Type 1} → statement M
 remove-with-spec =
     tie.close
     (tie.spec
-    pass-others-requires
-    enum-known-passed
+    (λ c κs. search needs)
+    (λ c. search needs)
     remove-house-requires
-    enum-known-passed-2
+    (λ c. search needs)
     same-length
     same-length-2
     same-length-3
@@ -167,16 +123,16 @@ remove-with-spec =
     same-length-12
     same-length-13
     returns
-    same-length-14
-    same-length-15
-    same-length-16
-    same-length-17
-    same-length-18
-    same-length-19
-    same-length-20
-    same-length-21
-    same-length-22
-    same-length-23
-    same-length-24
-    same-length-25
+    (λ c. search needs)
+    (λ c. search needs)
+    (λ c. search needs)
+    (λ c. search needs)
+    (λ c. search needs)
+    (λ c. search needs)
+    (λ c. search needs)
+    (λ c. search needs)
+    (λ c. search needs)
+    (λ c. search needs)
+    (λ c. search needs)
+    (λ c. search needs)
     returns-2)
