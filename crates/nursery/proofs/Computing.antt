@@ -4,9 +4,9 @@ use Rattle.model.proofs.Computing.{computing}
 use Rattle.model.proofs.Values.{lists}
 use Rattle.nursery.specs.Licence.{reserves, overfull, unused, mayLand, limitOf}
 use Rattle.nursery.specs.Removal.{without, changesFrom, changeNumbers, remove, landingsOf, landedAnew}
-use Rattle.nursery.specs.Calls.{readEffect, commitEffect, removeEffect, effect, bringsEight, anySome, outOfPlace}
+use Rattle.nursery.specs.Calls.{readEffect, commitEffect, removeEffect, effect, bringsEight, grownBy, ownOf, edgesBut, anySome, outOfPlace}
 use Rattle.nursery.specs.Series.{registerAt, removalsAt, edgesAt, verticesAt, limitAt, houseAt, putAt, sharedOut, emptySite, madeFits, admitted, settles, afterCall, after, answered, replyTo, acceptsRest, accepts, acceptsIn, acceptsMade, since}
 
 unfoldable pub settling : Unit {0}
-unfolding computing lists reserves overfull unused mayLand limitOf without changesFrom changeNumbers remove landingsOf landedAnew readEffect commitEffect removeEffect effect bringsEight anySome outOfPlace registerAt removalsAt edgesAt verticesAt limitAt houseAt putAt sharedOut emptySite madeFits admitted settles afterCall after answered replyTo acceptsRest accepts acceptsIn acceptsMade since
+unfolding computing lists reserves overfull unused mayLand limitOf without changesFrom changeNumbers remove landingsOf landedAnew readEffect commitEffect removeEffect effect bringsEight grownBy ownOf edgesBut anySome outOfPlace registerAt removalsAt edgesAt verticesAt limitAt houseAt putAt sharedOut emptySite madeFits admitted settles afterCall after answered replyTo acceptsRest accepts acceptsIn acceptsMade since
 settling = tt

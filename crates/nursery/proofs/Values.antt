@@ -1,15 +1,23 @@
 -- The values of specs/Values, computed from the definitions.
 use mathlib.Core.Path.{refl}
-use Rattle.nursery.specs.Values.{Licences, Removals, eight, houseOf, removing, splitFirst}
+use Rattle.nursery.specs.Nursery.{part, storedIn, tablesIn}
+use Rattle.nursery.specs.Calls.{anyDamaged, isOwn}
+use Rattle.nursery.specs.Values.{Licences, Removals, eight, houseOf, noTables, removing, splitFirst}
 use Rattle.nursery.proofs.Computing.{settling}
 
 pub licences : Licences
-unfolding settling eight
+unfolding settling eight noTables part tablesIn storedIn isOwn anyDamaged
 licences =
     record {
       just-full = refl;
       share-passes = refl;
       pipes-pass = refl;
+      own-as-empty = refl;
+      landing-counts-own = refl;
+      for-the-rest = refl;
+      own-damaged = refl;
+      landing-damaged = refl;
+      other-damaged = refl;
       limit = refl;
       may-96th = refl;
       not-97th = refl;

@@ -1,5 +1,4 @@
--- Values of document 02, S-10 and S-11, to be computed from the definitions: licences by house, what a call does to a house, and one series of
--- calls.
+-- Values of document 02, S-10 and S-11, to be computed from the definitions: licences by house, and what a call does to a house.
 use mathlib.Core.Path.{_≡_}
 use Prim.Native.Nat.{ℕ, _-_}
 use mathlib.Core.Bool.{true, false}
@@ -8,11 +7,12 @@ use lib.ListN.{length, replicate}
 use Rattle.model.specs.Basics.{maxEdges}
 use Rattle.model.specs.Format.{listOf, growList}
 use Rattle.model.specs.Queries.{refuses, reported, sheetNumbers}
-use Rattle.model.specs.Tables.{countsOf}
+use Rattle.model.specs.Tables.{countsOf, noCounts}
 use Rattle.model.specs.Calls.{House}
 use Rattle.model.specs.Values.{edge, house}
 use Rattle.nursery.specs.Licence.{limitOf, mayLand, overfull}
-use Rattle.nursery.specs.Calls.{Effect, effect, grows, lands, removes}
+use Rattle.nursery.specs.Nursery.{Nursery}
+use Rattle.nursery.specs.Calls.{Effect, anyDamaged, edgesBut, effect, grows, inHouse, lands, ownOf, removes}
 
 -- ---- S-10: the licence of one house
 
@@ -20,11 +20,30 @@ use Rattle.nursery.specs.Calls.{Effect, effect, grows, lands, removes}
 unfoldable pub eight : List ℕ → List ℕ
 eight ns = ns ++ replicate (8 - length ns) 0
 
+-- houses without tables, all damaged
+unfoldable pub noTables : Nursery
+noTables =
+    record {
+      tables = record { degrees = []; sides = []; ends = []; lengths = []; volumes = []; labels = [] };
+      heads = replicate 8 noCounts;
+      removals = eight [];
+      shares = eight [];
+    }
+
 pub record Licences : Type 0 where
   -- "the larger of share and pipes, summed over them, passes 4,096"
   pub just-full : overfull (eight (90 ∷ 4006 ∷ [])) (eight (50 ∷ 4000 ∷ [])) ≡ false
   pub share-passes : overfull (eight (90 ∷ 4007 ∷ [])) (eight (50 ∷ 4000 ∷ [])) ≡ true
   pub pipes-pass : overfull (eight (90 ∷ 0 ∷ [])) (eight (50 ∷ 4007 ∷ [])) ≡ true
+  -- "A grow counts its own house as empty there": house 0 with 4,090 pipes, house 1 with a share of 90, a grow and a landing in house 0
+  pub own-as-empty : overfull (eight (0 ∷ 90 ∷ [])) (edgesBut (ownOf (inHouse 0 (grows []))) (eight (4090 ∷ 50 ∷ []))) ≡ false
+  pub landing-counts-own : overfull (eight (0 ∷ 90 ∷ [])) (edgesBut (ownOf (inHouse 0 (lands []))) (eight (4090 ∷ 50 ∷ []))) ≡ true
+  -- "and gives 21 for the rest"
+  pub for-the-rest : overfull (eight (0 ∷ 90 ∷ [])) (edgesBut (ownOf (inHouse 0 (grows []))) (eight (4090 ∷ 4097 ∷ []))) ≡ true
+  -- the same of damaged houses: house 3 in a grow of house 3, and in a landing there; house 2 in a grow of house 3
+  pub own-damaged : anyDamaged (ownOf (inHouse 3 (grows []))) noTables (3 ∷ []) ≡ false
+  pub landing-damaged : anyDamaged (ownOf (inHouse 3 (lands []))) noTables (3 ∷ []) ≡ true
+  pub other-damaged : anyDamaged (ownOf (inHouse 3 (grows []))) noTables (2 ∷ []) ≡ true
   -- share 90, others 4,000, 50 of its own: the 96th pipe may land, and the 97th may not
   pub limit : limitOf 0 (eight (90 ∷ 0 ∷ [])) (eight (50 ∷ 4000 ∷ [])) ≡ 96
   pub may-96th : mayLand 0 (eight (90 ∷ 0 ∷ [])) (eight (95 ∷ 4000 ∷ [])) ≡ true
@@ -32,7 +51,7 @@ pub record Licences : Type 0 where
   -- below its share it may, whatever the others have
   pub below-share : mayLand 0 (eight (90 ∷ 0 ∷ [])) (eight (89 ∷ 4006 ∷ [])) ≡ true
   pub at-share : mayLand 0 (eight (90 ∷ 0 ∷ [])) (eight (90 ∷ 4006 ∷ [])) ≡ false
-  -- the others' unused shares are kept for them, and their own does not count twice
+  -- the others' unused shares are kept for them; the pipes that they have within a share are not counted on top
   pub kept-for-others : limitOf 2 (eight (90 ∷ 4000 ∷ [])) (eight (50 ∷ 10 ∷ 6 ∷ [])) ≡ 6
   -- no shares: first come, first served
   pub no-shares : limitOf 2 (eight []) (eight (50 ∷ 10 ∷ 6 ∷ [])) ≡ 4036
