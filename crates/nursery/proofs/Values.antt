@@ -45,6 +45,8 @@ removals =
       no-such-pipe = refl;
       last-removal = refl;
       no-more-removals = refl;
+      largest-before-short = refl;
+      short-below-largest = refl;
       grow-clears = refl;
       land-keeps = refl;
     }

@@ -90,10 +90,12 @@ pub record Removals : Type 0 where
   -- the total of the new landing may be greater than the old one: the first run has its coupling again, and gives way
   pub total-before : (growList splitFirst) .register .relabellings ≡ 0
   pub total-after : (removing 2 24 splitFirst) .leaves .relabellings ≡ 1
-  -- 38: no such pipe, before 9; and a count at its largest
+  -- 38: no such pipe; a count at its largest, before 9 for a slice too short
   pub no-such-pipe : (removing 6 0 house) .reply ≡ refuses 38
   pub last-removal : (effect (removes 4 (replicate 9 7)) (houseOf house 4294967294)) .removals ≡ 4294967295
   pub no-more-removals : (effect (removes 4 (replicate 9 7)) (houseOf house 4294967295)) .reply ≡ refuses 38
+  pub largest-before-short : (effect (removes 4 []) (houseOf house 4294967295)) .reply ≡ refuses 38
+  pub short-below-largest : (effect (removes 4 []) (houseOf house 4294967294)) .reply ≡ refuses 9
   -- a grow clears the count, a landing does not
   pub grow-clears : (effect (grows house) (houseOf house 3)) .removals ≡ 0
   pub land-keeps : (effect (lands (listOf 1 [])) (houseOf house 3)) .removals ≡ 3
