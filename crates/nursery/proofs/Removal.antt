@@ -158,7 +158,8 @@ pub record RemovedOf (s : House) (d room : ℕ) (r : Register) (cs : List Change
 pub data KeptFor (s : House) (d room x : ℕ) : Type 0 where
   no-such-edge : length (s .register .edges) ≤ d → x ≡ 38 → KeptFor s d room x
   no-more-removals : maxRemovals ≤ s .removals → x ≡ 38 → KeptFor s d room x
-  no-room : d < length (s .register .edges) → s .removals < maxRemovals → (r : Register) → growFrom (s .register .vertices) (without d (s .register .edges)) ≡ landed r
+  no-room : d < length (s .register .edges) → s .removals < maxRemovals
+      → (r : Register) → growFrom (s .register .vertices) (without d (s .register .edges)) ≡ landed r
       → room < length (changeNumbers (changesFrom 0 (s .register .labels) (r .labels))) → x ≡ 9 → KeptFor s d room x
 
 abbrev pub RemovalIs : House → ℕ → ℕ → Removed → Type 0

@@ -16,14 +16,15 @@ use Rattle.model.specs.Queries.{refuses, reported}
 use Rattle.model.specs.Tables.{held}
 use Rattle.model.specs.Calls.{Ask}
 use Rattle.nursery.specs.Licence.{houses, licence, mayLand, reserves}
-use Rattle.nursery.specs.Nursery.{edgesIn, limitIn, storedIn}
+use Rattle.nursery.specs.Nursery.{edgesIn, houseIn, limitIn, storedIn}
 use Rattle.nursery.specs.Calls.{Call, HouseCall, Lent, allFit, asks, barred, grows, inHouse, lentSlice, removes, scratchAfter, step}
 use Rattle.nursery.specs.Notions.{TurnedAway, Untouched}
 use Rattle.nursery.proofs.Within.{never-36}
+use Rattle.nursery.proofs.Removal.{KeptFor}
 use Rattle.nursery.proofs.Gate.{frame, is-open, question-quiet, step-barred}
 use Rattle.nursery.proofs.Damaged.{damaged, grow-21, grow-free, grow-overfull, only-21, overfull-sum}
 use Rattle.nursery.proofs.OnLicence.{among, below-share, limit-below, may-land, reserved-after, share-below, turned-away}
-use Rattle.nursery.proofs.Taking.{RemovedAs, refused-keeps, reported-as}
+use Rattle.nursery.proofs.Taking.{RemovedAs, refused-for, refused-keeps, reported-as}
 
 -- ---- 12. The licence
 
@@ -74,10 +75,16 @@ pub record OnLicence (l : Lent) : Type 0 where
 -- ---- 13. Taking pipes out
 
 -- Document 02, S-11. A removal that is reported leaves what landing the remaining pipes in order from empty leaves, one pipe less, counted, and
--- told by exactly the fittings whose tags differ (`RemovedAs`, `TakenOut`, `Report`); any other leaves the houses and the slice as they were.
+-- told by exactly the fittings whose tags differ (`RemovedAs`, `TakenOut`, `Report`). Any other is refused for a ground that holds (`KeptFor`), and
+-- leaves the houses and the slice as they were.
 pub record TakesOut (l : Lent) : Type 0 where
   pub reported-as : (h d : ℕ) (slice : List ℕ) (k : ℕ) → (step (inHouse h (removes d slice)) l) .reply ≡ reported k
       → RemovedAs h d slice (l .nursery) (step (inHouse h (removes d slice)) l) k
+  -- "38 no such pipe, or the count at its largest, after 21, then 9 for a short answer slice"
+  pub refused-for : (h d : ℕ) (slice : List ℕ) → ((k : ℕ) → (step (inHouse h (removes d slice)) l) .reply ≢ reported k)
+      → (x : ℕ) × ((step (inHouse h (removes d slice)) l) .reply ≡ refuses x)
+      × ((barred (inHouse h (removes d slice)) l ≡ some x) ⊎ ((barred (inHouse h (removes d slice)) l ≡ none) × KeptFor (houseIn h (l .nursery)) d (length slice) x))
+  -- "nothing changed"
   pub refused-keeps : (h d : ℕ) (slice : List ℕ) → ((k : ℕ) → (step (inHouse h (removes d slice)) l) .reply ≢ reported k)
       → ((step (inHouse h (removes d slice)) l) .lent .nursery ≡ l .nursery) × ((step (inHouse h (removes d slice)) l) .slice ≡ slice)
 
@@ -110,5 +117,6 @@ module _ (l : Lent) (heads : length (l .nursery .heads) ≡ houses) where
   theorem-13 counts =
       record {
         reported-as = λ h d slice. reported-as h d slice l heads counts;
+        refused-for = λ h d slice. refused-for h d slice l;
         refused-keeps = λ h d slice. refused-keeps h d slice l;
       }
