@@ -2,7 +2,7 @@
 use mathlib.Core.Path.{refl}
 use Rattle.nursery.specs.Nursery.{part, storedIn, tablesIn}
 use Rattle.nursery.specs.Calls.{anyDamaged, isOwn}
-use Rattle.nursery.specs.Values.{Licences, Removals, eight, houseOf, noTables, removing, splitFirst}
+use Rattle.nursery.specs.Values.{Licences, Removals, eight, houseOf, noTables, openedAt, removing, splitFirst}
 use Rattle.nursery.proofs.Computing.{settling}
 
 pub licences : Licences
@@ -28,13 +28,14 @@ licences =
     }
 
 pub removals : Removals
-unfolding settling houseOf removing splitFirst
+unfolding settling houseOf openedAt removing splitFirst
 removals =
     record {
       report = refl;
       reported-three = refl;
       head = refl;
       rows = refl;
+      moved-names = refl;
       later-move = refl;
       one-birth = refl;
       counted = refl;
@@ -47,6 +48,9 @@ removals =
       no-more-removals = refl;
       largest-before-short = refl;
       short-below-largest = refl;
+      same-count = refl;
+      other-count = refl;
+      lower-count = refl;
       grow-clears = refl;
       land-keeps = refl;
     }

@@ -6,13 +6,13 @@ use mathlib.Core.List.{List, [], _∷_, _++_}
 use lib.ListN.{length, replicate}
 use Rattle.model.specs.Basics.{maxEdges}
 use Rattle.model.specs.Format.{listOf, growList}
-use Rattle.model.specs.Queries.{refuses, reported, sheetNumbers}
+use Rattle.model.specs.Queries.{OpenSheet, fetched, refuses, reported, sheetNumbers}
 use Rattle.model.specs.Tables.{countsOf, noCounts}
 use Rattle.model.specs.Calls.{House}
 use Rattle.model.specs.Values.{edge, house}
 use Rattle.nursery.specs.Licence.{limitOf, mayLand, overfull}
 use Rattle.nursery.specs.Nursery.{Nursery}
-use Rattle.nursery.specs.Calls.{Effect, anyDamaged, edgesBut, effect, grows, inHouse, lands, ownOf, removes}
+use Rattle.nursery.specs.Calls.{Effect, anyDamaged, edgesBut, effect, fetches, grows, inHouse, lands, ownOf, removes}
 
 -- ---- S-10: the licence of one house
 
@@ -70,15 +70,22 @@ removing d room bs = effect (removes d (replicate room 7)) (houseOf bs 3)
 unfoldable pub splitFirst : List ℕ
 splitFirst = listOf 8 (edge 0 1 1 ∷ edge 1 2 1 ∷ edge 1 7 1 ∷ edge 3 4 1 ∷ edge 4 5 1 ∷ edge 5 6 1 ∷ edge 2 3 1 ∷ [])
 
+-- the sheet of document 01's house at its second line, opened at this count
+unfoldable pub openedAt : ℕ → OpenSheet
+openedAt removals = record { vertices = 7; edges = 6; place = 1; removals = removals }
+
 pub record Removals : Type 0 where
   -- document 01's house without pipe 4, which joined its runs: a fitting that ceases to be a coupling, one that becomes one, one with another
   -- tag
   pub report : (removing 4 10 house) .slice ≡ 2 ∷ 8193 ∷ 0 ∷ 3 ∷ 0 ∷ 16383 ∷ 4 ∷ 8195 ∷ 16384 ∷ 7 ∷ []
   pub reported-three : (removing 4 9 house) .reply ≡ reported 3
-  -- births and re-hung total are those of the new landing, and pipe 5 is now pipe 4
+  -- births and re-hung total are those of the new landing
   pub head : countsOf ((removing 4 9 house) .leaves) ≡ record { vertices = 7; edges = 5; blocks = 2; relabellings = 0 }
   pub rows : sheetNumbers ((removing 4 9 house) .leaves) ≡ 0 ∷ 0 ∷ 2 ∷ 1 ∷ 3000 ∷ 0 ∷ 2 ∷ 5 ∷ 6 ∷ 2 ∷ 2100 ∷ 0 ∷ []
-  -- without pipe 1 the later ones move down by one, and so do the births
+  -- "later pipes move down by one": without pipe 1, the runs that pipes 2, 4 and 5 named are named 1, 3 and 4
+  pub moved-names : sheetNumbers ((removing 1 9 house) .leaves)
+      ≡ 0 ∷ 0 ∷ 1 ∷ 0 ∷ 1000 ∷ 0 ∷ 1 ∷ 3 ∷ 5 ∷ 1 ∷ 1200 ∷ 0 ∷ 3 ∷ 2 ∷ 3 ∷ 0 ∷ 300 ∷ 0 ∷ 4 ∷ 3 ∷ 6 ∷ 0 ∷ 900 ∷ 0 ∷ []
+  -- and the births are counted anew: the first coupling to be born has the first tag
   pub later-move : (removing 1 9 house) .slice ≡ 1 ∷ 8192 ∷ 0 ∷ 2 ∷ 8193 ∷ 0 ∷ 4 ∷ 8195 ∷ 8192 ∷ []
   pub one-birth : countsOf ((removing 1 9 house) .leaves) ≡ record { vertices = 7; edges = 5; blocks = 1; relabellings = 0 }
   pub counted : (removing 4 9 house) .removals ≡ 4
@@ -96,6 +103,10 @@ pub record Removals : Type 0 where
   pub no-more-removals : (effect (removes 4 (replicate 9 7)) (houseOf house 4294967295)) .reply ≡ refuses 38
   pub largest-before-short : (effect (removes 4 []) (houseOf house 4294967295)) .reply ≡ refuses 38
   pub short-below-largest : (effect (removes 4 []) (houseOf house 4294967294)) .reply ≡ refuses 9
+  -- an open sheet goes on where its count is the house's, whatever was called between, and is ended where it differs
+  pub same-count : (effect (fetches (openedAt 3)) (houseOf house 3)) .reply ≡ fetched (2 ∷ 3 ∷ 5 ∷ 1 ∷ 1200 ∷ 0 ∷ []) (record { vertices = 7; edges = 6; place = 2; removals = 3 })
+  pub other-count : (effect (fetches (openedAt 3)) (houseOf house 4)) .reply ≡ refuses 39
+  pub lower-count : (effect (fetches (openedAt 3)) (houseOf house 0)) .reply ≡ refuses 39
   -- a grow clears the count, a landing does not
   pub grow-clears : (effect (grows house) (houseOf house 3)) .removals ≡ 0
   pub land-keeps : (effect (lands (listOf 1 [])) (houseOf house 3)) .removals ≡ 3
