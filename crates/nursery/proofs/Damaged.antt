@@ -23,7 +23,7 @@ use Rattle.nursery.proofs.Gate.{damaged-21, overfull-21}
 -- ---- which calls grow which house
 
 -- a call that does not grow house g does not count it as empty
-not-own : (c : Call) (g : ℕ) → ((bs : List ℕ) → c ≢ inHouse g (grows bs)) → isOwn (ownOf c) g ≡ false
+pub not-own : (c : Call) (g : ℕ) → ((bs : List ℕ) → c ≢ inHouse g (grows bs)) → isOwn (ownOf c) g ≡ false
 unfolding ownOf grownBy isOwn
 not-own (inHouse h (grows bs)) g d = ne-eqb g h (λ e. d bs (ap (λ (k : ℕ). inHouse k (grows bs)) (sym e)))
 not-own (inHouse h (lands bs)) g d = refl
@@ -44,7 +44,7 @@ all-edges (setsShares shares) edges d = refl
 
 -- ---- a damaged house, where one is found
 
-in-range : (at n g : ℕ) → Mem g (countFrom at n) → g < at + n
+pub in-range : (at n g : ℕ) → Mem g (countFrom at n) → g < at + n
 unfolding countFrom
 in-range at zero g m = absurd (mem-nil m)
 in-range at (suc n) g m = go (mem-cases m) (λ k. in-range (suc at) n g k)
@@ -53,7 +53,7 @@ in-range at (suc n) g m = go (mem-cases m) (λ k. in-range (suc at) n g k)
     go (inl e) ih = omega (arith, e)
     go (inr k) ih = omega (arith, ih k)
 
-damaged-where : (own : Option ℕ) (n : Nursery) (hs : List ℕ) → anyDamaged own n hs ≡ true
+pub damaged-where : (own : Option ℕ) (n : Nursery) (hs : List ℕ) → anyDamaged own n hs ≡ true
     → (g : ℕ) × Mem g hs × (isOwn own g ≡ false) × (held (storedIn g n) ≡ none)
 unfolding anyDamaged
 damaged-where own n [] e = absurd (not-both true refl (sym e))

@@ -103,7 +103,7 @@ NoQuote (quoting e) = ⊥
 NoQuote opening = Unit {0}
 NoQuote (fetching o) = Unit {0}
 
-answer-same : (q : Ask) (s t : House) → NoQuote q → s .register ≡ t .register → s .removals ≡ t .removals → answer q s ≡ answer q t
+pub answer-same : (q : Ask) (s t : House) → NoQuote q → s .register ≡ t .register → s .removals ≡ t .removals → answer q s ≡ answer q t
 unfolding answer
 answer-same (finding label) s t u e k = rw e
 answer-same (findingAt v) s t u e k = rw e

@@ -35,6 +35,8 @@ pub mod Damaged
 pub mod Holding
 -- the licence
 pub mod OnLicence
+-- a call for one house alters no sheet of another
+pub mod Sheets
 -- removals
 pub mod Taking
 -- quotes and commits

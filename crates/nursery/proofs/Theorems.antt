@@ -13,25 +13,29 @@ use Rattle.model.specs.Graph.{Edge}
 use Rattle.model.specs.Register.{Register, edgeRefusal}
 use Rattle.model.specs.Format.{growList, stopped}
 use Rattle.model.specs.Queries.{refuses, reported}
-use Rattle.model.specs.Tables.{held}
-use Rattle.model.specs.Calls.{Ask}
+use Rattle.model.specs.Tables.{Tables, fits, held}
+use Rattle.model.specs.Calls.{Ask, answer}
 use Rattle.nursery.specs.Licence.{houses, licence, mayLand, reserves}
 use Rattle.nursery.specs.Nursery.{edgesIn, houseIn, limitIn, storedIn}
 use Rattle.nursery.specs.Calls.{Call, HouseCall, Lent, allFit, asks, barred, grows, inHouse, lentSlice, removes, scratchAfter, step}
+use Rattle.nursery.specs.Series.{askedOf}
 use Rattle.nursery.specs.Notions.{TurnedAway, Untouched}
 use Rattle.nursery.proofs.Within.{never-36}
 use Rattle.nursery.proofs.Removal.{KeptFor}
+use Rattle.nursery.proofs.InSeries.{NoQuote}
 use Rattle.nursery.proofs.Gate.{frame, is-open, question-quiet, step-barred}
 use Rattle.nursery.proofs.Damaged.{damaged, grow-21, grow-free, grow-overfull, only-21, overfull-sum}
 use Rattle.nursery.proofs.OnLicence.{among, below-share, limit-below, may-land, reserved-after, share-below, turned-away}
+use Rattle.nursery.proofs.Sheets.{sheets-stay}
 use Rattle.nursery.proofs.Taking.{RemovedAs, refused-for, refused-keeps, reported-as}
 
 -- ---- 12. The licence
 
--- Document 02, S-10. Where nothing bars a call for a house, the limit of the house says what the paper says: with k pipes, no more than
--- the limit, it may land another exactly if k is below it. Its share is within the limit, and so a house is turned away for the limit, by a list, a quote or a commit,
--- only if it has its share. The sum of the larger of share and pipes never passes 4,096. No call for one house alters another. 21 holds exactly
--- where a house, but for a grow's own, is damaged, or the sum passes, that house as empty. Lists landed without a licence never meet 36.
+-- Document 02, S-10. Where nothing bars a call for a house, the limit of the house says what the paper says: with k pipes, no more than the limit,
+-- it may land another exactly if k is below it. Its share is within the limit, and so a house is turned away for the limit, by a list, a quote or
+-- a commit, only if it has its share. The sum of the larger of share and pipes never passes 4,096. No call for one house alters another. 21 holds
+-- exactly where a house is damaged or the sum passes 4,096, a grow's own house not looked at and as empty. Lists landed without a licence never
+-- meet 36.
 pub record OnLicence (l : Lent) : Type 0 where
   pub may-land : (h : ℕ) (c : HouseCall) → barred (inHouse h c) l ≡ none → (k : ℕ) → k ≤ limitIn h (l .nursery)
       → mayLand h (l .nursery .shares) (set (edgesIn (l .nursery)) h k) ≡ ltb k (limitIn h (l .nursery))
@@ -45,8 +49,11 @@ pub record OnLicence (l : Lent) : Type 0 where
   -- "the sum never passes 4,096": `AllAtEnd` has it of series
   pub reserved : (h : ℕ) (c : HouseCall) → barred (inHouse h c) l ≡ none
       → let n = (step (inHouse h c) l) .lent .nursery in sum (reserves (n .shares) (edgesIn n)) ≤ licence
-  -- "landing in one house alters no sheet of another"
+  -- "landing in one house alters no sheet of another": nothing of its house is written, ..
   pub others-stay : (h : ℕ) (c : HouseCall) (g : ℕ) → g ≢ h → Untouched g (l .nursery) ((step (inHouse h c) l) .lent .nursery)
+  -- .. and its sheet, like every question but a quote, is answered from what was there
+  pub sheets-stay : (h : ℕ) (c : HouseCall) → barred (inHouse h c) l ≡ none → (g : ℕ) → g < houses → g ≢ h → (scratch : Tables) → fits scratch ≡ true → (q : Ask) → NoQuote q
+      → askedOf g scratch ((step (inHouse h c) l) .lent .nursery) q ≡ answer q (houseIn g (l .nursery))
   pub question-stays : (h : ℕ) (q : Ask) → (step (inHouse h (asks q)) l) .lent .nursery ≡ l .nursery
   -- "its 21 looks at every one": a house that holds no register gives it to every call, but to a grow of that house
   pub damaged : (c : Call) (g : ℕ) → allFit c l ≡ true → g < houses → ((bs : List ℕ) → c ≢ inHouse g (grows bs)) → held (storedIn g (l .nursery)) ≡ none
@@ -102,6 +109,7 @@ module _ (l : Lent) (heads : length (l .nursery .heads) ≡ houses) where
         turned-away = λ h c. turned-away h c l heads;
         reserved = λ h c. reserved-after h c l heads;
         others-stay = λ h c. frame h c l;
+        sheets-stay = λ h c e. sheets-stay h c l heads e;
         question-stays = λ h q. question-quiet h q l;
         damaged = λ c. damaged c l;
         overfull-sum = λ c. overfull-sum c l;
