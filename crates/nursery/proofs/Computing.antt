@@ -1,5 +1,5 @@
 -- `unfolding settling` opens every definition on houses, licences, removals and series at once, beside those of `model`, for a value that the
--- checker computes. What lies in the tables of eight houses is never computed: they are long.
+-- checker computes. The tables of eight houses are long, and little of them is computed (`Values.bars`).
 use Rattle.model.proofs.Computing.{computing}
 use Rattle.model.proofs.Values.{lists}
 use Rattle.nursery.specs.Licence.{reserves, overfull, unused, mayLand, limitOf}

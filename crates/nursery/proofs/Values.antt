@@ -1,12 +1,12 @@
 -- The values of specs/Values, computed from the definitions.
 use mathlib.Core.Path.{refl}
-use Rattle.nursery.specs.Nursery.{part, storedIn, tablesIn}
-use Rattle.nursery.specs.Calls.{anyDamaged, isOwn}
-use Rattle.nursery.specs.Values.{Licences, Removals, eight, houseOf, noTables, openedAt, removing, splitFirst}
+use Rattle.nursery.specs.Nursery.{edgesIn, houseIn, limitIn, noHouses, part, putIn, putPart, putTables, registerIn, removalsIn, storedIn, tablesIn, verticesIn}
+use Rattle.nursery.specs.Calls.{allFit, anyDamaged, barred, does, isOwn, lentSlice, notGrown, nurseryFits, scratchAfter, sliceOf, step}
+use Rattle.nursery.specs.Values.{Barred, Licences, Removals, eight, houseOf, oneDamaged, openedAt, regrown, removing, splitFirst}
 use Rattle.nursery.proofs.Computing.{settling}
 
 pub licences : Licences
-unfolding settling eight noTables part tablesIn storedIn isOwn anyDamaged
+unfolding settling eight
 licences =
     record {
       just-full = refl;
@@ -15,9 +15,6 @@ licences =
       own-as-empty = refl;
       landing-counts-own = refl;
       for-the-rest = refl;
-      own-damaged = refl;
-      landing-damaged = refl;
-      other-damaged = refl;
       limit = refl;
       may-96th = refl;
       not-97th = refl;
@@ -25,6 +22,21 @@ licences =
       at-share = refl;
       kept-for-others = refl;
       no-shares = refl;
+    }
+
+pub bars : Barred
+unfolding settling eight oneDamaged regrown part putPart tablesIn putTables storedIn removalsIn registerIn edgesIn verticesIn limitIn houseIn putIn noHouses nurseryFits allFit isOwn anyDamaged notGrown barred sliceOf lentSlice does scratchAfter step
+bars =
+    record {
+      own-damaged = refl;
+      other-damaged = refl;
+      no-house = refl;
+      grow-refused = refl;
+      nothing-cleared = refl;
+      grow-own = refl;
+      own-tags = refl;
+      next-tags = refl;
+      own-count = refl;
     }
 
 pub removals : Removals

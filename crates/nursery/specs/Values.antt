@@ -1,34 +1,26 @@
--- Values of document 02, S-10 and S-11, to be computed from the definitions: licences by house, and what a call does to a house.
+-- Values of document 02, S-10 and S-11, to be computed from the definitions: licences by house, what bars a call, and what a call does to a
+-- house.
 use mathlib.Core.Path.{_≡_}
 use Prim.Native.Nat.{ℕ, _-_}
 use mathlib.Core.Bool.{true, false}
+use mathlib.Core.Option.{some}
 use mathlib.Core.List.{List, [], _∷_, _++_}
-use lib.ListN.{length, replicate}
+use lib.ListN.{length, replicate, take}
 use Rattle.model.specs.Basics.{maxEdges}
 use Rattle.model.specs.Format.{listOf, growList}
 use Rattle.model.specs.Queries.{OpenSheet, fetched, refuses, reported, sheetNumbers}
-use Rattle.model.specs.Tables.{countsOf, noCounts}
+use Rattle.model.specs.Tables.{cleared, countsOf, noCounts}
 use Rattle.model.specs.Calls.{House}
 use Rattle.model.specs.Values.{edge, house}
 use Rattle.nursery.specs.Licence.{limitOf, mayLand, overfull}
-use Rattle.nursery.specs.Nursery.{Nursery}
-use Rattle.nursery.specs.Calls.{Effect, anyDamaged, edgesBut, effect, fetches, grows, inHouse, lands, ownOf, removes}
+use Rattle.nursery.specs.Nursery.{noHouses, storedIn}
+use Rattle.nursery.specs.Calls.{Effect, Lent, Outcome, anyDamaged, barred, does, edgesBut, effect, fetches, grows, inHouse, lands, opens, ownOf, removes, step}
 
 -- ---- S-10: the licence of one house
 
 -- eight numbers: these in front, and 0 for the other houses
 unfoldable pub eight : List ℕ → List ℕ
 eight ns = ns ++ replicate (8 - length ns) 0
-
--- houses without tables, all damaged
-unfoldable pub noTables : Nursery
-noTables =
-    record {
-      tables = record { degrees = []; sides = []; ends = []; lengths = []; volumes = []; labels = [] };
-      heads = replicate 8 noCounts;
-      removals = eight [];
-      shares = eight [];
-    }
 
 pub record Licences : Type 0 where
   -- "the larger of share and pipes, summed over them, passes 4,096"
@@ -40,10 +32,6 @@ pub record Licences : Type 0 where
   pub landing-counts-own : overfull (eight (0 ∷ 90 ∷ [])) (edgesBut (ownOf (inHouse 0 (lands []))) (eight (4090 ∷ 50 ∷ []))) ≡ true
   -- "and gives 21 for the rest"
   pub for-the-rest : overfull (eight (0 ∷ 90 ∷ [])) (edgesBut (ownOf (inHouse 0 (grows []))) (eight (4090 ∷ 4097 ∷ []))) ≡ true
-  -- the same of damaged houses: house 3 in a grow of house 3, and in a landing there; house 2 in a grow of house 3
-  pub own-damaged : anyDamaged (ownOf (inHouse 3 (grows []))) noTables (3 ∷ []) ≡ false
-  pub landing-damaged : anyDamaged (ownOf (inHouse 3 (lands []))) noTables (3 ∷ []) ≡ true
-  pub other-damaged : anyDamaged (ownOf (inHouse 3 (grows []))) noTables (2 ∷ []) ≡ true
   -- share 90, others 4,000, 50 of its own: the 96th pipe may land, and the 97th may not
   pub limit : limitOf 0 (eight (90 ∷ 0 ∷ [])) (eight (50 ∷ 4000 ∷ [])) ≡ 96
   pub may-96th : mayLand 0 (eight (90 ∷ 0 ∷ [])) (eight (95 ∷ 4000 ∷ [])) ≡ true
@@ -55,6 +43,40 @@ pub record Licences : Type 0 where
   pub kept-for-others : limitOf 2 (eight (90 ∷ 4000 ∷ [])) (eight (50 ∷ 10 ∷ 6 ∷ [])) ≡ 6
   -- no shares: first come, first served
   pub no-shares : limitOf 2 (eight []) (eight (50 ∷ 10 ∷ 6 ∷ [])) ≡ 4036
+
+-- ---- S-10: calls on eight houses, one of them damaged
+
+-- cleared tables; house 0 has a pipe in its head that lies in no table, house 1 three fittings
+unfoldable pub oneDamaged : Lent
+oneDamaged =
+    record {
+      nursery = record {
+        tables = noHouses .tables;
+        heads = record { vertices = 2; edges = 1; blocks = 0; relabellings = 0 } ∷ record { vertices = 3; edges = 0; blocks = 0; relabellings = 0 } ∷ replicate 6 noCounts;
+        removals = eight (3 ∷ 4 ∷ []);
+        shares = eight [];
+      };
+      scratch = cleared;
+    }
+
+-- house 0 grown from document 01's list
+unfoldable pub regrown : Outcome
+regrown = does (inHouse 0 (grows house)) (oneDamaged .nursery)
+
+pub record Barred : Type 0 where
+  -- "its 21 looks at every one", before 37
+  pub own-damaged : barred (inHouse 0 opens) oneDamaged ≡ some 21
+  pub other-damaged : barred (inHouse 1 opens) oneDamaged ≡ some 21
+  pub no-house : barred (inHouse 8 opens) oneDamaged ≡ some 21
+  -- "A grow .. gives 21 for the rest before it clears anything"
+  pub grow-refused : (step (inHouse 1 (grows house)) oneDamaged) .reply ≡ refuses 21
+  pub nothing-cleared : (step (inHouse 1 (grows house)) oneDamaged) .lent .nursery .heads ≡ oneDamaged .nursery .heads
+  -- "A grow counts its own house as empty there": it does not look at it
+  pub grow-own : anyDamaged (ownOf (inHouse 0 (grows house))) (oneDamaged .nursery) (0 ∷ 1 ∷ []) ≡ false
+  -- and lands in it alone: its tags, and those of the next house
+  pub own-tags : take 7 ((storedIn 0 (regrown .lent .nursery)) .tables .labels) ≡ 0 ∷ 8192 ∷ 8193 ∷ 0 ∷ 8195 ∷ 0 ∷ 0 ∷ []
+  pub next-tags : take 7 ((storedIn 1 (regrown .lent .nursery)) .tables .labels) ≡ replicate 7 0
+  pub own-count : regrown .lent .nursery .removals ≡ eight (0 ∷ 4 ∷ [])
 
 -- ---- S-11: what a removal does to a house
 
