@@ -33,7 +33,7 @@ use Rattle.nursery.proofs.Whole.{asked-is, from-start}
 own-kept : (s : House) (d room x : ℕ) → KeptFor s d room x → (x ≢ 21) × (x ≢ 25)
 own-kept s d room x (no-such-edge a e) = (λ z. omega (arith, e, z), λ z. omega (arith, e, z))
 own-kept s d room x (no-more-removals a e) = (λ z. omega (arith, e, z), λ z. omega (arith, e, z))
-own-kept s d room x (no-room r g a e) = (λ z. omega (arith, e, z), λ z. omega (arith, e, z))
+own-kept s d room x (no-room i k r g a e) = (λ z. omega (arith, e, z), λ z. omega (arith, e, z))
 
 own-removal : (s : House) (d : ℕ) (slice : List ℕ) (x : Removed) → RemovalIs s d (length slice) x → Own ((removeEffect s slice x) .reply)
 unfolding removeEffect refusalOf
@@ -103,7 +103,7 @@ NoQuote (quoting e) = ⊥
 NoQuote opening = Unit {0}
 NoQuote (fetching o) = Unit {0}
 
-answer-same : (q : Ask) (s t : House) → NoQuote q → s .register ≡ t .register → s .removals ≡ t .removals → answer q s ≡ answer q t
+pub answer-same : (q : Ask) (s t : House) → NoQuote q → s .register ≡ t .register → s .removals ≡ t .removals → answer q s ≡ answer q t
 unfolding answer
 answer-same (finding label) s t u e k = rw e
 answer-same (findingAt v) s t u e k = rw e

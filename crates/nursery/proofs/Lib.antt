@@ -29,10 +29,14 @@ pub mod Times
 pub mod InSeries
 -- calls over whatever is lent: what bars them, and that one house leaves the others
 pub mod Gate
+-- 21, in the words of the paper
+pub mod Damaged
 -- and the houses that are held where nothing bars them
 pub mod Holding
 -- the licence
 pub mod OnLicence
+-- a call for one house alters no sheet of another
+pub mod Sheets
 -- removals
 pub mod Taking
 -- quotes and commits

@@ -221,8 +221,8 @@ removes-calm s d room x (no-such-edge a e) (inl z) = omega (arith, e, z)
 removes-calm s d room x (no-such-edge a e) (inr z) = omega (arith, e, z)
 removes-calm s d room x (no-more-removals a e) (inl z) = omega (arith, e, z)
 removes-calm s d room x (no-more-removals a e) (inr z) = omega (arith, e, z)
-removes-calm s d room x (no-room r g a e) (inl z) = omega (arith, e, z)
-removes-calm s d room x (no-room r g a e) (inr z) = omega (arith, e, z)
+removes-calm s d room x (no-room i k r g a e) (inl z) = omega (arith, e, z)
+removes-calm s d room x (no-room i k r g a e) (inr z) = omega (arith, e, z)
 
 removes-turned : (s : House) (d : ℕ) (slice : List ℕ) (x : Removed) → RemovalIs s d (length slice) x → TurnedAway ((removeEffect s slice x) .reply) → ⊥
 unfolding removeEffect

@@ -154,11 +154,12 @@ pub record RemovedOf (s : House) (d room : ℕ) (r : Register) (cs : List Change
   pub changes : cs ≡ changesFrom 0 (s .register .labels) (r .labels)
   pub room-to-tell : length (changeNumbers cs) ≤ room
 
--- one that is: "38 no such pipe, or the count at its largest, .. then 9 for a short answer slice"
+-- one that is: "38 no such pipe, or the count at its largest, .. then 9 for a short answer slice", where neither ground of 38 holds
 pub data KeptFor (s : House) (d room x : ℕ) : Type 0 where
   no-such-edge : length (s .register .edges) ≤ d → x ≡ 38 → KeptFor s d room x
   no-more-removals : maxRemovals ≤ s .removals → x ≡ 38 → KeptFor s d room x
-  no-room : (r : Register) → growFrom (s .register .vertices) (without d (s .register .edges)) ≡ landed r
+  no-room : d < length (s .register .edges) → s .removals < maxRemovals
+      → (r : Register) → growFrom (s .register .vertices) (without d (s .register .edges)) ≡ landed r
       → room < length (changeNumbers (changesFrom 0 (s .register .labels) (r .labels))) → x ≡ 9 → KeptFor s d room x
 
 abbrev pub RemovalIs : House → ℕ → ℕ → Removed → Type 0
@@ -178,7 +179,7 @@ removal-is s f d room = first (leb (length (s .register .edges)) d) refl (leb ma
     last : (t : Register) → growFrom (r .vertices) (without d (r .edges)) ≡ landed t → d < length (r .edges) → s .removals < maxRemovals → (b : Bool)
         → ltb room (length (changeNumbers (changesFrom 0 (r .labels) (t .labels)))) ≡ b
         → RemovalIs s d room (if b then keptWith 9 else removed t (changesFrom 0 (r .labels) (t .labels)))
-    last t g l k true q = no-room t g (ltb-true room _ q) refl
+    last t g l k true q = no-room l k t g (ltb-true room _ q) refl
     last t g l k false q = record { was-there = l; room-to-count = k; grown = g; changes = refl; room-to-tell = ltb-false room _ q }
 
     next : d < length (r .edges) → s .removals < maxRemovals → (x : Landed) → growFrom (r .vertices) (without d (r .edges)) ≡ x

@@ -1,8 +1,8 @@
 -- Document 02, S-11, of the calls, whatever they are lent: a removal that is reported leaves what landing the remaining pipes leaves, counted
 -- and told; one that is refused leaves all as it was.
 use mathlib.Core.Path.{_≡_, refl, sym, ap, _∙_, subst}
-use mathlib.Core.Logic.{_≢_}
-use Prim.Native.Nat.{ℕ, _+_, _<_}
+use mathlib.Core.Logic.{_≢_, _⊎_, inl, inr}
+use Prim.Native.Nat.{ℕ, _+_, _≤_, _<_}
 use native.Mathlib.Omega.{arith}
 use mathlib.Core.List.{List}
 use mathlib.Core.Option.{Option, none, some}
@@ -19,7 +19,7 @@ use Rattle.nursery.specs.Removal.{Change, Removed, changeNumbers, keptWi
 use Rattle.nursery.specs.Nursery.{Nursery, houseIn, putIn, registerIn, removalsIn, storedIn}
 use Rattle.nursery.specs.Calls.{Lent, Outcome, barred, effect, grownBy, inHouse, isOwn, lentSlice, ownOf, removeEffect, removes, sliceOf, step}
 use Rattle.nursery.specs.Notions.{TakenOut}
-use Rattle.nursery.proofs.Removal.{RemovalIs, RemovedOf, removal-is, taken-out}
+use Rattle.nursery.proofs.Removal.{KeptFor, RemovalIs, RemovedOf, removal-is, taken-out}
 use Rattle.nursery.proofs.Gate.{Open, is-open, open-inside, put-same, register-reachable, removals-put, step-barred, step-effect, stored-put}
 
 -- from house h without edge d, with so many vertices reported
@@ -34,7 +34,8 @@ pub record RemovedAs (h d : ℕ) (slice : List ℕ) (n : Nursery) (o : Outcome) 
   -- "The register gains a 32-bit count of removals"
   pub counted : removalsIn h (o .lent .nursery) ≡ removalsIn h n + 1
   pub room-to-count : removalsIn h n < maxRemovals
-  -- the report in front of the slice, the rest of it untouched
+  -- the report in front of the slice, which has room for it, the rest of it untouched
+  pub room-to-tell : length (changeNumbers changes) ≤ length slice
   pub told : k ≡ length changes
   pub slice-is : o .slice ≡ inFront (changeNumbers changes) slice
 
@@ -86,6 +87,7 @@ module _ (h d : ℕ) (slice : List ℕ) (l : Lent) where
             held-after = ap held stored ∙ kept-held r (kept r (t .reachable));
             counted = ap (λ (p : Outcome). removalsIn h (p .lent .nursery)) is ∙ removals-put h r (s .removals + 1) n (omega (arith, i, counts));
             room-to-count = counted .room-to-count;
+            room-to-tell = counted .room-to-tell;
             told = sym (reported-is (length cs) k (sym (ap (λ (p : Outcome). p .reply) is) ∙ w));
             slice-is = ap (λ (p : Outcome). p .slice) is;
           }
@@ -93,6 +95,29 @@ module _ (h d : ℕ) (slice : List ℕ) (l : Lent) where
       go : (x : Option ℕ) → barred (inHouse h (removes d slice)) l ≡ x → Goal
       go (some x) e = absurd (not-reported x k (sym (ap (λ (p : Outcome). p .reply) (step-barred (inHouse h (removes d slice)) l x e)) ∙ w))
       go none e = by-removal (is-open (inHouse h (removes d slice)) l e) e (remove s d (length slice)) refl
+
+  -- any other is refused: with 25, 21 or 37, or else with 38, or else with 9, where their grounds hold
+  pub refused-for : ((k : ℕ) → (step (inHouse h (removes d slice)) l) .reply ≢ reported k)
+      → (x : ℕ) × ((step (inHouse h (removes d slice)) l) .reply ≡ refuses x)
+      × ((barred (inHouse h (removes d slice)) l ≡ some x) ⊎ ((barred (inHouse h (removes d slice)) l ≡ none) × KeptFor (houseIn h (l .nursery)) d (length slice) x))
+  unfolding removeEffect houseIn
+  refused-for w = go (barred (inHouse h (removes d slice)) l) refl
+    where
+      Goal : Type 0
+      Goal = (x : ℕ) × ((step (inHouse h (removes d slice)) l) .reply ≡ refuses x)
+          × ((barred (inHouse h (removes d slice)) l ≡ some x) ⊎ ((barred (inHouse h (removes d slice)) l ≡ none) × KeptFor (houseIn h (l .nursery)) d (length slice) x))
+
+      by-removal : barred (inHouse h (removes d slice)) l ≡ none → (x : Removed) → remove s d (length slice) ≡ x → Goal
+      by-removal e (removed r cs) q = absurd (w (length cs) (ap (λ (p : Outcome). p .reply) (removes-as e (removed r cs) q)))
+      by-removal e (keptWith x) q = (
+        x,
+        ap (λ (p : Outcome). p .reply) (removes-as e (keptWith x) q),
+        inr (e, subst (RemovalIs s d (length slice)) q (removal-is s (founded (s .register) (register-reachable h n)) d (length slice))),
+      )
+
+      go : (x : Option ℕ) → barred (inHouse h (removes d slice)) l ≡ x → Goal
+      go (some x) e = (x, ap (λ (p : Outcome). p .reply) (step-barred (inHouse h (removes d slice)) l x e), inl e)
+      go none e = by-removal e (remove s d (length slice)) refl
 
   -- "38 .., then 9 for a short answer slice, nothing changed": nor is anything by 25, 21 or 37
   pub refused-keeps : ((k : ℕ) → (step (inHouse h (removes d slice)) l) .reply ≢ reported k)

@@ -176,7 +176,7 @@ unfoldable pub lentSlice : Call → List ℕ
 lentSlice (inHouse h c) = sliceOf c
 lentSlice (setsShares shares) = []
 
--- where nothing bars it, a call does this to its house, and that to the shares; "scratch ends all zero"
+-- where nothing bars it, a call for a house has its effect there, and shares are put in place of the old ones; "scratch ends all zero"
 unfoldable pub does : Call → Nursery → Outcome
 does (inHouse h c) n =
     let e = effect c (houseIn h n) in

@@ -10,8 +10,8 @@ use Rattle.model.specs.Calls.{House}
 use Rattle.nursery.specs.Licence.{houses, limitOf}
 
 -- "Each call for a house lends all eight": tables eight times as long as those of one house, eight heads and eight shares. "The register gains a
--- 32-bit count of removals ..; it alone is not drawn from the pipes, 21 ignores it": it stands beside the head, so that what is stored for a
--- register is as it was.
+-- 32-bit count of removals ..; it alone is not drawn from the pipes, 21 ignores it": it stands beside the head, so `Stored` does not
+-- have it.
 pub record Nursery : Type 0 where
   pub tables : Tables
   pub heads : List Counts
@@ -87,7 +87,7 @@ putIn h r removals n =
       shares = n .shares;
     }
 
--- "all eight are set at once": a grow, a landing or a removal leaves them
+-- the shares of all houses: "all eight are set at once"
 unfoldable pub withShares : List ℕ → Nursery → Nursery
 withShares shares n = record { tables = n .tables; heads = n .heads; removals = n .removals; shares = shares }
 

@@ -108,7 +108,7 @@ unfoldable pub acceptsRest : House → ℕ → List Landing → Removed → List
 acceptsRest s d ls (removed r cs) = landedAnew (s .register .vertices) (without d (s .register .edges))
 acceptsRest s d ls (keptWith x) = ls
 
--- what a call for the house that is not refused with 25, 21 or 37 makes of the edges accepted so far: a grow forgets them
+-- what a call for the house that is not refused with 25, 21 or 37 makes of the edges accepted so far: a clearing forgets them
 unfoldable pub accepts : HouseCall → House → List Landing → List Landing
 accepts (grows bs) s ls = landedBy (s .limit) empty bs
 accepts (lands bs) s ls = ls ++ landedBy (s .limit) (s .register) bs
