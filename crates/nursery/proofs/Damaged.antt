@@ -1,15 +1,14 @@
 -- Document 02, S-10: "its 21 looks at every one, and holds too where the larger of share and pipes, summed over them, passes 4,096. A grow counts its
 -- own house as empty there, and gives 21 for the rest": when 21 holds, and when it does not.
-use mathlib.Core.Path.{_≡_, refl, sym, ap, _∙_}
+use mathlib.Core.Path.{_≡_, refl, sym, ap}
 use mathlib.Core.Logic.{_≢_, _⊎_, inl, inr}
 use Prim.Native.Nat.{ℕ, zero, suc, _+_, _≤_, _<_}
 use native.Mathlib.Omega.{arith}
-use native.Mathlib.Decide.{ℕ-discrete}
 use mathlib.Core.Bool.{Bool, true, false, not, _||_}
 use mathlib.Core.Option.{Option, none, some}
 use mathlib.Core.List.{List, [], _∷_, List·Memᴰ as Mem, List·Memᴰ·head as at-head, List·Memᴰ·tail as in-tail, List·Memᴰ·cases-cons as mem-cases, List·Memᴰ·not-nil as mem-nil}
 use lib.ListN.{set}
-use lib.Dec.{eqb, ltb}
+use lib.Dec.{eqb}
 use borrow.Author.Tests.{eqb-false, le-ltb, lt-ltb, ltb-true, ne-eqb}
 use Rattle.model.specs.Basics.{countFrom, if_then_else_, sum, upTo}
 use Rattle.model.specs.Register.{Register}

@@ -11,8 +11,8 @@ use lib.ListN.{length}
 use borrow.Author.Tests.{le-ltb, lt-ltb}
 use Rattle.model.specs.Basics.{upTo}
 use Rattle.model.specs.Register.{Register}
-use Rattle.model.specs.Tables.{Stored, Tables, fits, held, storedOf, tablesOf}
-use Rattle.model.specs.Calls.{Answer, Ask, answer}
+use Rattle.model.specs.Tables.{Tables, fits, held, tablesOf}
+use Rattle.model.specs.Calls.{Ask, answer}
 use Rattle.model.proofs.Registers.Kept.{kept-held}
 use Rattle.model.proofs.Registers.Reachable.{kept}
 use Rattle.nursery.specs.Licence.{houses, licence, overfull}
