@@ -20,12 +20,12 @@ use Rattle.nursery.specs.Calls.{Call, HouseCall, commits, fetches, finds, finds
 use Rattle.counters.specs.Answers.{listReply}
 use Rattle.counters.specs.Quotes.{asQuote, commitReply, quoteReply}
 use Rattle.tables.specs.Meaning.{tables}
-use Rattle.licence.specs.declared.heads.Heads.{Heads}
-use Rattle.licence.specs.Meaning.{lent, outcome}
+use Rattle.heads.specs.declared.heads.Heads.{Heads}
+use Rattle.heads.specs.Meaning.{lent, outcome}
 use Rattle.questions.specs.Meaning.{foundReply, listedReply, measuredReply, writtenReply}
 use Rattle.opening.specs.declared.sheets.OpenSheet.{OpenSheet}
 use Rattle.opening.specs.Meaning.{asSheet, fetchedReply, openedReply}
-use Rattle.removing.specs.Meaning.{removedReply}
+use Rattle.rest.specs.Meaning.{removedReply}
 use Rattle.sharing.specs.Meaning.{sharesReply}
 use Rattle.growing.proofs.grow.grow as grow
 use Rattle.growing.proofs.land.land as land
@@ -36,8 +36,8 @@ use Rattle.measuring.proofs.distance.distance as distance
 use Rattle.measuring.proofs.quote.quote as quote
 use Rattle.sheeting.proofs.sheet.sheet as sheet
 use Rattle.sheeting.proofs.write.write as write
-use Rattle.sheeting.proofs.opened.open as open-sheet
-use Rattle.sheeting.proofs.opened.fetch as fetch-line
+use Rattle.paging.proofs.opened.open as open-sheet
+use Rattle.paging.proofs.opened.fetch as fetch-line
 use Rattle.sharing.proofs.shares.set_shares as set-shares
 use Rattle.taking.proofs.remove.remove as remove
 

@@ -12,8 +12,8 @@ use Rattle.nursery.specs.Nursery.{removalsIn}
 use Rattle.nursery.specs.Calls.{HouseCall, commits, grows, inHouse, lands, step}
 use Rattle.admission.specs.Own as own
 use Rattle.admission.specs.Own.{ownStep}
-use Rattle.licence.specs.declared.heads.Heads.{Heads}
-use Rattle.licence.specs.Meaning.{asHeads, asRemovals, lent, nursery, outcome}
+use Rattle.heads.specs.declared.heads.Heads.{Heads}
+use Rattle.heads.specs.Meaning.{asHeads, asRemovals, lent, nursery, outcome}
 use Rattle.licence.specs.Gate.{opensWith, passOthers, scratchPassed}
 use Rattle.licence.proofs.StepLaws.{committed-step, grown-step, joined, landed-step, ownLent}
 use Rattle.licence.specs.Left.{left, putOwn}

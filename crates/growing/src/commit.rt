@@ -1,9 +1,9 @@
 // Commit for a house: the pipe of a quote landed on its register as it is.
 use counters::quotes::CommitAnswer;
 use counters::quotes::Quote;
+use heads::heads::Heads;
 use licence::gate::Passed;
 use licence::gate::pass_others;
-use licence::heads::Heads;
 use parts::commit::commit_house;
 use parts::left::Committed;
 ghost use mathlib.Core.Path.{_≡_};
@@ -11,7 +11,7 @@ ghost use mathlib.Core.List.{[]};
 ghost use Rattle.nursery.specs.Calls.{commits, inHouse, step};
 ghost use Rattle.counters.specs.Quotes.{asQuote, commitReply};
 ghost use Rattle.tables.specs.Meaning.{tables};
-ghost use Rattle.licence.specs.Meaning.{lent, outcome};
+ghost use Rattle.heads.specs.Meaning.{lent, outcome};
 
 // The heads by value: `commit` has them lent.
 pub fn commit_with(

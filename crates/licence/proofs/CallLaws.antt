@@ -14,9 +14,9 @@ use Rattle.nursery.specs.Nursery.{part, removalsIn, storedIn, tablesIn}
 use Rattle.nursery.specs.Calls.{HouseCall, asks, inHouse, sliceOf, step}
 use Rattle.admission.specs.Own.{ownStep}
 use Rattle.admission.specs.Lent as own
-use Rattle.licence.specs.declared.heads.Heads.{Heads}
-use Rattle.licence.specs.Meaning.{asHeads, asRemovals, lent, nursery, outcome}
-use Rattle.licence.specs.Others.{Long}
+use Rattle.heads.specs.declared.heads.Heads.{Heads}
+use Rattle.heads.specs.Meaning.{asHeads, asRemovals, lent, nursery, outcome}
+use Rattle.heads.specs.Others.{Long}
 use Rattle.licence.specs.Gate.{barsWith, opensWith, passOthers, scratchPassed}
 use Rattle.licence.proofs.PassLaws.{open-known}
 use Rattle.licence.proofs.StepLaws.{asked-step, isGrow, ownLent, refused-step}

@@ -9,8 +9,8 @@ use Rattle.model.specs.Tables.{Tables, noCounts}
 use Rattle.nursery.specs.Nursery.{storedIn, tablesIn}
 use Rattle.admission.specs.Own as own
 use Rattle.admission.specs.Lent as lentOf
-use Rattle.licence.specs.declared.heads.Heads.{Heads}
-use Rattle.licence.specs.Meaning.{asHeads, asRemovals, lent, nursery, outcome}
+use Rattle.heads.specs.declared.heads.Heads.{Heads}
+use Rattle.heads.specs.Meaning.{asHeads, asRemovals, lent, nursery, outcome}
 use Rattle.licence.specs.Gate.{opensWith, passOthers, scratchPassed}
 use Rattle.licence.specs.Left.{left, putOwn}
 use Rattle.licence.proofs.PassLaws.{open-known}

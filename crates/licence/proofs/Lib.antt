@@ -1,6 +1,3 @@
-pub mod HeadLaws
-pub mod ReserveLaws
-pub mod FitLaws
 pub mod OtherLaws
 pub mod PassLaws
 pub mod StepLaws

@@ -16,7 +16,7 @@ use Rattle.holding.specs.Replay.{Regrows}
 use Rattle.holding.proofs.HeldLaws.{replay-held, replay-none}
 use Rattle.admission.proofs.SizeLaws.{zeroed-cleared}
 use Rattle.nursery.specs.Nursery.{part, tablesIn}
-use Rattle.licence.specs.Others.{isHeld, othersIn, passesIn}
+use Rattle.heads.specs.Others.{isHeld, othersIn, passesIn}
 
 -- the replay in cleared scratch tells whether a register is held
 held-told : (t : Tables) (c : Counts) (s : Tables) (r : Bool) → fits s ≡ true → Regrows r t c (zeroed s) → r ≡ isHeld (stored t c)

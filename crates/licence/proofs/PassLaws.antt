@@ -23,11 +23,11 @@ use Rattle.nursery.specs.Licence.{houses, licence, limitOf, overfull, reserves}
 use Rattle.nursery.specs.Nursery.{Nursery, edgesIn, storedIn, tablesIn}
 use Rattle.nursery.specs.Calls.{anyDamaged, edgesBut, isOwn, nurseryFits}
 use Rattle.nursery.proofs.Licence.{put, reserves-long, whole}
-use Rattle.licence.specs.declared.heads.Heads.{Heads}
-use Rattle.licence.specs.Meaning.{asHeads, edgesOf, lent, nursery}
-use Rattle.licence.specs.Others.{Long, eightFit, isHeld, othersIn, passesIn, tablesFit}
+use Rattle.heads.specs.declared.heads.Heads.{Heads}
+use Rattle.heads.specs.Meaning.{asHeads, edgesOf, lent, nursery}
+use Rattle.heads.specs.Others.{Long, eightFit, isHeld, othersIn, passesIn, tablesFit}
 use Rattle.licence.specs.Gate.{PassedAs, barsWith, emptied, licenceIn, opensWith, ownReserve, passOthers, scratchPassed}
-use Rattle.licence.proofs.ReserveLaws.{edges-at, eight-edges}
+use Rattle.heads.proofs.ReserveLaws.{edges-at, eight-edges}
 
 -- ---- what the house itself keeps
 

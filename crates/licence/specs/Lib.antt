@@ -1,4 +1,2 @@
-pub mod Meaning
-pub mod Others
 pub mod Gate
 pub mod Left

@@ -1,21 +1,21 @@
 // The gate before a call for a house: 25, then 21 of the other houses and of the sum, then 37. The own house is looked at by the call itself, on
 // its part of the tables; a grow clears it instead.
-use crate::heads::Heads;
-use crate::heads::head_of;
 use crate::others::others_held;
-use crate::reserves::larger;
-use crate::reserves::others_reserve;
-use crate::sizes::houses_fit;
 use admission::sizes::sizes_fit;
 use counters::refusals::Refusal;
 use counters::sizes::MAX_EDGES;
+use heads::heads::Heads;
+use heads::heads::head_of;
+use heads::reserves::larger;
+use heads::reserves::others_reserve;
+use heads::sizes::houses_fit;
 use tables::access::at16;
 ghost use mathlib.Core.Path.{_≡_};
 ghost use Prim.Native.Nat.{_<_};
 ghost use lib.ListN.{length};
 ghost use Rattle.tables.specs.Meaning.{tables};
 ghost use Rattle.nursery.specs.Licence.{houses};
-ghost use Rattle.licence.specs.Meaning.{edgesOf, lent};
+ghost use Rattle.heads.specs.Meaning.{edgesOf, lent};
 ghost use Rattle.licence.specs.Gate.{asPassed, licenceIn, ownReserve, passOthers, scratchPassed};
 
 // The limit that the licence comes to, on the house's edges; or a refusal.

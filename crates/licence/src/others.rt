@@ -1,11 +1,11 @@
 // Refusal 21 of the other houses: each is replayed in the one set of scratch tables.
-use crate::heads::Heads;
-use crate::heads::head_of;
 use counters::counts::Counts;
 use counters::sizes::EDGES;
 use counters::sizes::ENDS;
 use counters::sizes::SIDES;
 use counters::sizes::VERTICES;
+use heads::heads::Heads;
+use heads::heads::head_of;
 use holding::held::is_held;
 use tables::whole::clear_tables;
 ghost use mathlib.Core.Path.{_≡_};
@@ -17,8 +17,8 @@ ghost use Rattle.tables.specs.Meaning.{stored, tables};
 ghost use Rattle.tables.specs.Steps.{zeroed};
 ghost use Rattle.nursery.specs.Licence.{houses};
 ghost use Rattle.nursery.specs.Nursery.{tablesIn};
-ghost use Rattle.licence.specs.Meaning.{asHeads};
-ghost use Rattle.licence.specs.Others.{Long, isHeld, passesIn, othersIn};
+ghost use Rattle.heads.specs.Meaning.{asHeads};
+ghost use Rattle.heads.specs.Others.{Long, isHeld, passesIn, othersIn};
 
 // Whether the part of house h holds a register. Scratch ends all zero.
 fn house_held(

@@ -5,9 +5,9 @@ use counters::sizes::EDGES;
 use counters::sizes::ENDS;
 use counters::sizes::SIDES;
 use counters::sizes::VERTICES;
-use licence::heads::Heads;
-use licence::heads::head_of;
-use licence::heads::with_head;
+use heads::heads::Heads;
+use heads::heads::head_of;
+use heads::heads::with_head;
 ghost use mathlib.Core.Path.{_≡_};
 ghost use Prim.Native.Nat.{ℕ, _<_};
 ghost use mathlib.Core.List.{[]};
@@ -20,8 +20,8 @@ ghost use Rattle.counters.specs.Answers.{listReply};
 ghost use Rattle.tables.specs.Meaning.{tables};
 ghost use Rattle.admission.specs.Lent as own;
 ghost use Rattle.admission.specs.Own.{ownStep};
-ghost use Rattle.licence.specs.Meaning.{asHeads, asRemovals};
-ghost use Rattle.licence.specs.Others.{Long};
+ghost use Rattle.heads.specs.Meaning.{asHeads, asRemovals};
+ghost use Rattle.heads.specs.Others.{Long};
 ghost use Rattle.licence.specs.Left.{left, putOwn};
 
 // On the part of house h, with the limit that the licence comes to.

@@ -1,7 +1,7 @@
 // What the calls that land leave of the heads, and answer.
 use counters::answers::ListAnswer;
 use counters::quotes::CommitAnswer;
-use licence::heads::Heads;
+use heads::heads::Heads;
 
 // Of a grow or a land.
 pub struct Landed {

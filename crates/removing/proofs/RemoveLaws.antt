@@ -1,16 +1,16 @@
 -- A remove on the tables of one house, from what the functions have computed to what the call is defined to leave and answer.
-use mathlib.Core.Path.{_≡_, refl, sym, ap, _∙_, subst}
-use Prim.Native.Nat.{ℕ, _*_, _≤_, _<_}
+use mathlib.Core.Path.{_≡_, refl, sym, ap, _∙_}
+use Prim.Native.Nat.{ℕ, _*_, _<_}
 use native.Mathlib.Omega.{arith}
 use mathlib.Core.Bool.{Bool, true, false, _||_}
 use mathlib.Core.Option.{none}
 use mathlib.Core.List.{List}
 use lib.ListN.{length}
 use lib.Dec.{leb, ltb}
-use borrow.Author.Tests.{leb-false, lt-ltb, le-ltb, lt-leb, ltb-false}
-use Rattle.model.specs.Basics.{if_then_else_, inFront, maxVertices}
+use borrow.Author.Tests.{leb-false, lt-leb}
+use Rattle.model.specs.Basics.{if_then_else_, maxVertices}
 use Rattle.model.specs.Register.{Register, landed}
-use Rattle.model.specs.Queries.{reported, refuses}
+use Rattle.model.specs.Queries.{refuses}
 use Rattle.model.specs.Tables.{Tables, Counts, cleared, countsOf, fits, growFrom, rightSizes, sizes, storedOf, tablesOf}
 use Rattle.model.specs.Notions.{Reachable}
 use Rattle.model.proofs.Basics.Booleans.{or-false}
@@ -22,8 +22,6 @@ use Rattle.model.proofs.Registers.Reachable.{founded}
 use Rattle.nursery.specs.Calls.{effect, removeEffect, removes}
 use Rattle.nursery.specs.Removal.{Change, changeNumbers, changesFrom, keptWith, maxRemovals, remove, removed, without}
 use Rattle.nursery.proofs.Removal.{numbers-three}
-use Rattle.text.specs.Pages.{page, write}
-use Rattle.text.proofs.PageLaws.{write-front}
 use Rattle.tables.specs.Steps.{zeroed}
 use Rattle.insertion.specs.Insertion.{AnswerIn, LandingIn, done, landingIn, refusedIn}
 use Rattle.admission.specs.Own.{Outcome, houseOf, ownStep, scratchAfter}
@@ -35,24 +33,6 @@ use Rattle.admission.proofs.OwnLaws.{outcomeOf, step-fits}
 use Rattle.rest.specs.Removing.{changesIn, removedIn, restIn, settledIn}
 use Rattle.rest.proofs.ChangeLaws.{changes-are}
 use Rattle.rest.proofs.RestLeft.{Left, rest-left}
-
--- ---- the report, or 9
-
-module _ (t s : Tables) (c c′ : Counts) (xs : List ℕ) (k : ℕ) (e : k ≡ length (changesIn (t .labels) (s .labels) maxVertices 0)) where
-  -- a slice that is too short
-  pub settle-short : (s′ : Tables) → length xs < 3 * k → s′ ≡ zeroed s → outcome t c s′ xs (refuses 9) ≡ settledIn t c s c′ xs
-  unfolding settledIn
-  settle-short s′ h z = rw (← e, lt-ltb (length xs) (3 * k) h, z)
-
-  -- one that is not
-  pub settle-done : (t′ s′ : Tables) (ys : List ℕ) → 3 * k ≤ length xs → ys ≡ (write (changeNumbers (changesIn (t .labels) (s .labels) maxVertices 0)) (page xs 0)) .slice
-      → (sizes s ≡ sizes t → t′ ≡ s) → s′ ≡ zeroed s → sizes s ≡ sizes t → outcome t′ c′ s′ ys (reported k) ≡ settledIn t c s c′ xs
-  unfolding settledIn
-  settle-done t′ s′ ys h w f z q =
-      let cs = changesIn (t .labels) (s .labels) maxVertices 0 in
-      let room : length (changeNumbers cs) ≤ length xs = omega (arith, h, e, numbers-three cs) in
-      let front : ys ≡ inFront (changeNumbers cs) xs = w ∙ write-front (changeNumbers cs) xs _ _ room refl in
-      rw (← e, le-ltb (length xs) (3 * k) h, z, f q, front)
 
 -- ---- the other edges, landed or not
 

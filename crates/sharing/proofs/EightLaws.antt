@@ -14,9 +14,9 @@ use Rattle.model.specs.Basics.{sum}
 use Rattle.model.specs.Tables.{Counts, noCounts}
 use Rattle.nursery.specs.Licence.{houses}
 use Rattle.nursery.specs.Calls.{anySome}
-use Rattle.licence.specs.declared.heads.Heads.{Heads}
-use Rattle.licence.specs.Meaning.{asHeads}
-use Rattle.licence.proofs.HeadLaws.{eight-heads}
+use Rattle.heads.specs.declared.heads.Heads.{Heads}
+use Rattle.heads.specs.Meaning.{asHeads}
+use Rattle.heads.proofs.HeadLaws.{eight-heads}
 use Rattle.sharing.specs.Meaning.{verticesOf}
 
 -- ---- sums

@@ -19,8 +19,8 @@ use Rattle.nursery.specs.Calls.{anyDamaged, anySome, barred, edgesBut, notGrown
 use Rattle.model.proofs.Basics.Booleans.{and-true}
 use Rattle.nursery.proofs.Gate.{step-barred, step-open}
 use Rattle.nursery.proofs.Parts.{fits-sized}
-use Rattle.licence.specs.declared.heads.Heads.{Heads}
-use Rattle.licence.specs.Meaning.{lent, nursery, outcome}
+use Rattle.heads.specs.declared.heads.Heads.{Heads}
+use Rattle.heads.specs.Meaning.{lent, nursery, outcome}
 use Rattle.licence.specs.Gate.{barsWith, emptied, licenceIn, opensWith, passOthers, scratchPassed}
 use Rattle.licence.proofs.PassLaws.{open-known}
 use Rattle.licence.proofs.StepLaws.{damaged-out}

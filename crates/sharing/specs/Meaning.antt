@@ -9,8 +9,8 @@ use Rattle.model.specs.Tables.{Counts}
 use Rattle.counters.specs.Refusals.{numberOf}
 use Rattle.nursery.specs.Licence.{licence}
 use Rattle.nursery.specs.Calls.{anySome}
-use Rattle.licence.specs.declared.heads.Heads.{Heads}
-use Rattle.licence.specs.Meaning.{asHeads}
+use Rattle.heads.specs.declared.heads.Heads.{Heads}
+use Rattle.heads.specs.Meaning.{asHeads}
 use Rattle.sharing.specs.declared.shares.SharesAnswer.{SharesAnswer}
 use Rattle.sharing.specs.declared.shares.SharesAnswer.the-variants.{Set, Refused}
 

@@ -1,6 +1,6 @@
 // Eight numbers, one for each house.
-use licence::heads::Heads;
-use licence::heads::head_of;
+use heads::heads::Heads;
+use heads::heads::head_of;
 use tables::access::at16;
 use tables::access::put16;
 ghost use mathlib.Core.Path.{_≡_};

@@ -4,16 +4,16 @@ use crate::eight::copy_eight;
 use crate::eight::sum_of;
 use counters::refusals::Refusal;
 use counters::sizes::MAX_EDGES;
+use heads::heads::Heads;
 use licence::gate::Passed;
 use licence::gate::pass_others;
-use licence::heads::Heads;
 ghost use mathlib.Core.Path.{_≡_};
 ghost use mathlib.Core.List.{[]};
 ghost use lib.ListN.{length};
 ghost use Rattle.tables.specs.Meaning.{tables};
 ghost use Rattle.nursery.specs.Licence.{houses};
 ghost use Rattle.nursery.specs.Calls.{setsShares, step};
-ghost use Rattle.licence.specs.Meaning.{lent, outcome};
+ghost use Rattle.heads.specs.Meaning.{lent, outcome};
 ghost use Rattle.sharing.specs.Meaning.{allotIn, answered, sharesReply, verticesOf};
 
 pub enum SharesAnswer {

@@ -14,13 +14,13 @@ use Rattle.counters.specs.Refusals.{numberOf}
 use Rattle.tables.specs.Steps.{more32}
 use Rattle.admission.specs.Own as own
 use Rattle.admission.specs.Own.{ownStep}
-use Rattle.licence.specs.declared.heads.Heads.{Heads}
-use Rattle.licence.specs.Meaning.{asHeads, asRemovals, lent, nursery, outcome}
+use Rattle.heads.specs.declared.heads.Heads.{Heads}
+use Rattle.heads.specs.Meaning.{asHeads, asRemovals, lent, nursery, outcome}
 use Rattle.licence.specs.Gate.{opensWith, passOthers, scratchPassed}
-use Rattle.licence.proofs.StepLaws.{joined, ownLent, removed-room, removed-step, unremoved-step}
-use Rattle.removing.specs.Meaning.{removedReply}
-use Rattle.removing.specs.declared.own.Removed.{Removed}
-use Rattle.removing.specs.declared.own.Removed.the-variants.{Reported, Refused}
+use Rattle.licence.proofs.StepLaws.{ownLent, removed-room, removed-step, unremoved-step}
+use Rattle.rest.specs.Meaning.{removedReply}
+use Rattle.rest.specs.declared.settling.Removed.{Removed}
+use Rattle.rest.specs.declared.settling.Removed.the-variants.{Reported, Refused}
 use Rattle.licence.specs.Left.{Left, left, putOwn}
 use Rattle.licence.proofs.JoinLaws.{all-left, own-is, ownGiven}
 use Rattle.taking.specs.Counting.{countAfter}

@@ -1,8 +1,8 @@
 -- The count of removals that a remove leaves.
 use Prim.Native.Nat.{ℕ}
 use Rattle.tables.specs.Steps.{more32}
-use Rattle.removing.specs.declared.own.Removed.{Removed}
-use Rattle.removing.specs.declared.own.Removed.the-variants.{Reported, Refused}
+use Rattle.rest.specs.declared.settling.Removed.{Removed}
+use Rattle.rest.specs.declared.settling.Removed.the-variants.{Reported, Refused}
 
 -- one more where it is reported
 abbrev pub countAfter : Removed → ℕ → ℕ

@@ -1,6 +1,6 @@
 // What a remove leaves of the heads, and answers.
-use licence::heads::Heads;
-use removing::own::Removed;
+use heads::heads::Heads;
+use rest::settling::Removed;
 
 pub struct Removal {
     pub heads: Heads,

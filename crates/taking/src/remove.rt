@@ -1,15 +1,15 @@
 // Remove for a house: a pipe taken out of its register by its number.
 use crate::house::remove_house;
 use crate::left::Removal;
+use heads::heads::Heads;
 use licence::gate::Passed;
 use licence::gate::pass_others;
-use licence::heads::Heads;
-use removing::own::Removed;
+use rest::settling::Removed;
 ghost use mathlib.Core.Path.{_≡_};
 ghost use Rattle.nursery.specs.Calls.{removes, inHouse, step};
 ghost use Rattle.tables.specs.Meaning.{tables};
-ghost use Rattle.licence.specs.Meaning.{lent, outcome};
-ghost use Rattle.removing.specs.Meaning.{removedReply};
+ghost use Rattle.heads.specs.Meaning.{lent, outcome};
+ghost use Rattle.rest.specs.Meaning.{removedReply};
 
 // The heads by value: `remove` has them lent.
 pub fn remove_with(

@@ -41,13 +41,13 @@ use denote.Triple.Call.{calls-at}
 use denote.Triple.Clauses.{Lasts, atExit, ensured, lasts}
 use denote.Triple.Table.{entered, cited}
 use denote.Triple.Walked.{says, Stays, stay-ref, walkOf, goes-ref, Walks, ends-at, walked, walk-meets}
-use Rattle.licence.specs.declared.heads.Heads.{Heads}
+use Rattle.heads.specs.declared.heads.Heads.{Heads}
 use Rattle.parts.specs.declared.left.Committed.{Committed}
 use Rattle.list.proofs.Passed.{tailOf, all-passed, all-fit, all-passed-go, gone}
 use Rattle.counters.proofs.quotes.Quote as Q
 use Rattle.counters.proofs.quotes.Quote.Laws as Q′
-use Rattle.licence.proofs.heads.Heads as T
-use Rattle.licence.proofs.heads.Heads.Laws as T′
+use Rattle.heads.proofs.heads.Heads as T
+use Rattle.heads.proofs.heads.Heads.Laws as T′
 use Rattle.parts.proofs.left.Committed as L
 use Rattle.parts.proofs.left.Committed.Laws as L′
 use Rattle.counters.proofs.quotes.CommitAnswer as O

@@ -8,8 +8,8 @@ use Rattle.model.specs.Tables.{Tables, fits}
 use Rattle.tables.specs.Meaning.{tables}
 use Rattle.tables.specs.Steps.{zeroed}
 use Rattle.nursery.specs.Licence.{houses}
-use Rattle.licence.specs.Meaning.{asHeads}
-use Rattle.licence.specs.Others.{othersIn}
+use Rattle.heads.specs.Meaning.{asHeads}
+use Rattle.heads.specs.Others.{othersIn}
 use Rattle.licence.proofs.OtherLaws.{others-end, others-off, others-on}
 use Rattle.licence.proofs.others.all_pass.Statement.{statement}
 use Rattle.licence.proofs.others.all_pass.Tie as tie

@@ -1,4 +1,4 @@
-use Rattle.licence.specs.Meaning.{asRemovals}
+use Rattle.heads.specs.Meaning.{asRemovals}
 use Rattle.taking.proofs.CountLaws.{count-on}
 use lib.Seq.{set-getD}
 use mathlib.Core.Path.{refl, sym}

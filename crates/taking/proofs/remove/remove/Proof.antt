@@ -41,15 +41,15 @@ use denote.Triple.Call.{calls-at}
 use denote.Triple.Clauses.{Lasts, atExit, ensured, lasts}
 use denote.Triple.Table.{entered, cited}
 use denote.Triple.Walked.{says, Stays, stay-ref, walkOf, goes-ref, Walks, ends-at, walked, walk-meets}
-use Rattle.licence.specs.declared.heads.Heads.{Heads}
+use Rattle.heads.specs.declared.heads.Heads.{Heads}
 use Rattle.taking.specs.declared.left.Removal.{Removal}
 use Rattle.list.proofs.Passed.{tailOf, all-passed, all-fit, all-passed-go, gone}
-use Rattle.licence.proofs.heads.Heads as T
-use Rattle.licence.proofs.heads.Heads.Laws as T′
+use Rattle.heads.proofs.heads.Heads as T
+use Rattle.heads.proofs.heads.Heads.Laws as T′
 use Rattle.taking.proofs.left.Removal as L
 use Rattle.taking.proofs.left.Removal.Laws as L′
-use Rattle.removing.proofs.own.Removed as O
-use Rattle.removing.proofs.own.Removed.Laws as O′
+use Rattle.rest.proofs.settling.Removed as O
+use Rattle.rest.proofs.settling.Removed.Laws as O′
 use Rattle.taking.proofs.remove.remove_with as callee
 use Rattle.taking.proofs.remove.remove_with.Symbol as callee-def
 use Rattle.taking.proofs.remove.remove_with.Symbol.{name as #callee}
