@@ -7,6 +7,7 @@
 use std::collections::BTreeMap;
 
 use crate::cases::Case;
+use crate::licence::Licence;
 use crate::refusal::Refusal;
 use crate::ring::Ring;
 use crate::run::{self, Run};
@@ -164,9 +165,14 @@ impl House {
         Ok(())
     }
 
-    /// Lands a pipe; a refused one changes nothing.
+    /// Lands a pipe where there is no licence; a refused one changes nothing.
     pub fn land_pipe(&mut self, pipe: Pipe) -> Result<(), Refusal> {
-        self.check(&pipe)?;
+        self.land_pipe_on(&Licence::none(), pipe)
+    }
+
+    /// The same on a licence (document 02, S-10).
+    pub fn land_pipe_on(&mut self, licence: &Licence, pipe: Pipe) -> Result<(), Refusal> {
+        self.check(licence, &pipe)?;
         let case = Case::of(self, &pipe);
         let (tags, births) = (self.tags.clone(), self.births);
         self.land_by_case(&pipe);
@@ -177,8 +183,8 @@ impl House {
         Ok(())
     }
 
-    /// Refusals 5, 6, 7, 31 and 23, in this order.
-    fn check(&self, pipe: &Pipe) -> Result<(), Refusal> {
+    /// Refusals 5, 6, 7, 31, 23 and 36, in this order.
+    fn check(&self, licence: &Licence, pipe: &Pipe) -> Result<(), Refusal> {
         if pipe.first >= self.fittings() || pipe.second >= self.fittings() {
             return Err(Refusal::NotLanded);
         }
@@ -193,6 +199,9 @@ impl House {
         }
         if self.pipes.len() == MOST_PIPES {
             return Err(Refusal::FullPipes);
+        }
+        if !licence.allows(self.pipes.len()) {
+            return Err(Refusal::OverLimit);
         }
         Ok(())
     }

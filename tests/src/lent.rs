@@ -1,19 +1,23 @@
-//! Calls over lent tables (document 01, "What may be called"; docs/TABLES.md).
+//! Calls for eight houses over lent tables (document 01, "What may be called"; document 02, S-10 and S-11;
+//! docs/TABLES.md).
 //!
 //! The tables are numbers in the caller's hands, which anyone may have written to. What they hold is
-//! worked out afresh before each call: refusal 21 is decided by growing their own fittings and pipes
-//! from empty and comparing.
+//! worked out afresh where they were written to: refusal 21 is decided by growing their own fittings and
+//! pipes from empty and comparing, house by house, and by the sum.
 
 use std::fmt;
+use std::rc::Rc;
 
 use crate::house::{Fitting, House, Pipe, PipeNumber, MOST_FITTINGS, MOST_PIPES};
+use crate::licence::{overfull, Licence, HOUSES, LICENSED_PIPES};
 use crate::list;
 use crate::opened::{self, Fetched, OpenSheet};
 use crate::queries::{self, Found};
 use crate::quote::{self, Quote};
 use crate::refusal::Refusal;
+use crate::removal;
 
-/// Numbers of degrees, sides, ends, lengths, volumes and labels.
+/// Numbers of degrees, sides, ends, lengths, volumes and labels, of one house.
 pub const SIZES: [usize; 6] = [
     MOST_FITTINGS,
     2 * MOST_FITTINGS,
@@ -22,24 +26,37 @@ pub const SIZES: [usize; 6] = [
     MOST_PIPES,
     MOST_FITTINGS,
 ];
-/// The numbers of the slice that a sheet is lent a part of, and the bytes of the one that a list is
-/// written to.
+/// What is lent, by number: the tables of all houses, those of the scratch, the shares.
+pub const LENT: usize = 13;
+/// The numbers of the slice that a sheet or a report is lent a part of, and the bytes of the one that a
+/// list is written to.
 pub const SLICE: usize = 24_586;
 pub const BYTES: usize = 57_354;
 /// What the slice holds before a call.
 const SLICE_BEFORE: u32 = 77;
-/// What the tables hold at first, and always the number behind each, which is lent only where the table
-/// is lent too large.
-const TABLES_BEFORE: u32 = 9;
+/// What the tables of one house hold at first, and always the number behind each table and behind the
+/// shares, which is lent only where that is lent too large.
+const BEFORE: u32 = 9;
+pub const NOT_CLEARED: usize = 5;
 
 const NOT_GROWN: u32 = 21;
 const WRONG_SIZE: u32 = 25;
+const OUT_OF_PLACE: u32 = 37;
 
-/// Degrees, sides, ends, lengths, volumes and labels, by their right sizes.
+/// Degrees, sides, ends, lengths, volumes and labels of one house, by their right sizes.
 pub type Tables = [Vec<u32>; 6];
 
 /// Fittings, pipes, births and the re-hung total.
 pub type Head = [u32; 4];
+
+/// The right size of what is lent.
+pub fn right_size(lent: usize) -> usize {
+    match lent {
+        0..6 => HOUSES * SIZES[lent],
+        6..12 => SIZES[lent - 6],
+        _ => HOUSES,
+    }
+}
 
 /// The tables and the head that a house leaves.
 pub fn tables_of(house: &House) -> (Tables, Head) {
@@ -85,11 +102,13 @@ fn packed(found: Found) -> (u64, u64) {
     (name << 16 | u64::from(number_of(found.coupling)), lengths)
 }
 
-/// An opened sheet in one number, below `kind`: 0 as it was opened, 1 with a line, 2 where it is done.
-fn packed_sheet(kind: u64, sheet: OpenSheet) -> u64 {
+/// An opened sheet in two numbers: below `kind`, which is 0 as it was opened, 1 with a line, 2 where it is
+/// done; and its removals above the hash of a line.
+fn packed_sheet(kind: u64, sheet: OpenSheet, line: u64) -> (u64, u64) {
     let numbers = [sheet.fittings, sheet.pipes, sheet.place];
     let one = |packed, number| packed << 16 | u64::from(number);
-    numbers.into_iter().fold(kind, one)
+    let first = numbers.into_iter().fold(kind, one);
+    (first, u64::from(sheet.removals) << 32 | line)
 }
 
 /// Whether this is the first number of an answer that a sheet is done.
@@ -100,8 +119,8 @@ pub fn is_done(first: u64) -> bool {
 /// A line by its hash.
 fn packed_fetch(fetched: Fetched) -> (u64, u64) {
     match fetched {
-        Fetched::Line(line, next) => (packed_sheet(1, next), hash(&line)),
-        Fetched::Done(sheet) => (packed_sheet(2, sheet), 0),
+        Fetched::Line(line, next) => packed_sheet(1, next, hash(&line)),
+        Fetched::Done(sheet) => packed_sheet(2, sheet, 0),
     }
 }
 
@@ -125,50 +144,73 @@ pub enum Call {
     Commit(Quote),
     Open,
     Fetch(OpenSheet),
+    /// The pipe of this number, into so many numbers.
+    Remove(u32, usize),
+    /// For all houses.
+    Shares(Vec<u16>),
 }
 
-/// What is done to the tables.
+/// What is done to what is lent.
 #[derive(Clone, Debug)]
 pub enum Command {
-    Call(Call),
-    /// Number `place` of a table of the register, or of the head (6), becomes this.
-    Set(usize, usize, u32),
-    /// A table is lent with this size from now on; 6 and up are the scratch.
+    /// For the house of this number; nobody asks for it where shares are set.
+    Call(u32, Call),
+    /// Of this house, number `place` of a table becomes this; or of its head (6), where the count of
+    /// removals is the fifth; or its share (7).
+    Set(usize, usize, usize, u32),
+    /// A table is lent with this size from now on; 6 and up are the scratch, 12 the shares.
     Lend(usize, usize),
 }
 
 impl Command {
     /// As tests/lent/main.rattle reads it.
     pub fn bytes(&self) -> Vec<u8> {
-        let (kind, numbers, rest) = match self {
-            Command::Set(table, place, number) => {
-                (b'X', [*table, *place, *number as usize], vec![])
+        let (kind, house, numbers, rest) = match self {
+            Command::Set(house, table, place, number) => {
+                let numbers = [*table, *place, *number as usize];
+                (b'X', number_of(*house), numbers, vec![])
             }
-            Command::Lend(table, size) => (b'Z', [*table, *size, 0], vec![]),
-            Command::Call(call) => match call {
-                Call::Grow(list) => (b'G', [list.len(), 0, 0], list.clone()),
-                Call::Land(list) => (b'L', [list.len(), 0, 0], list.clone()),
-                Call::Find(tag) => (b'F', [*tag as usize, 0, 0], vec![]),
-                Call::FindAt(fitting) => (b'A', [usize::from(*fitting), 0, 0], vec![]),
-                Call::Distance(from, to) => (b'D', [*from, *to, 0].map(usize::from), vec![]),
-                Call::Sheet(size) => (b'S', [*size, 0, 0], vec![]),
-                Call::Write(size) => (b'W', [*size, 0, 0], vec![]),
-                Call::Quote(pipe) => (b'Q', asked(pipe), vec![]),
-                Call::Commit(quote) => (b'C', asked(&quote.pipe), parts(quote)),
-                Call::Open => (b'O', [0; 3], vec![]),
-                Call::Fetch(sheet) => {
-                    let numbers = [sheet.fittings, sheet.pipes, sheet.place];
-                    (b'N', numbers.map(usize::from), vec![])
-                }
-            },
+            Command::Lend(table, size) => (b'Z', 0, [*table, *size, 0], vec![]),
+            Command::Call(house, call) => {
+                let (kind, numbers, rest) = call_bytes(call);
+                (kind, *house, numbers, rest)
+            }
         };
         let mut bytes = vec![kind, 0, 0, 0];
+        bytes.extend(house.to_le_bytes());
         for number in numbers {
             let number = u32::try_from(number).expect("32 bits");
             bytes.extend(number.to_le_bytes());
         }
         bytes.extend(rest);
         bytes
+    }
+}
+
+/// Its letter, three numbers, and what follows them.
+fn call_bytes(call: &Call) -> (u8, [usize; 3], Vec<u8>) {
+    match call {
+        Call::Grow(list) => (b'G', [list.len(), 0, 0], list.clone()),
+        Call::Land(list) => (b'L', [list.len(), 0, 0], list.clone()),
+        Call::Find(tag) => (b'F', [*tag as usize, 0, 0], vec![]),
+        Call::FindAt(fitting) => (b'A', [usize::from(*fitting), 0, 0], vec![]),
+        Call::Distance(from, to) => (b'D', [*from, *to, 0].map(usize::from), vec![]),
+        Call::Sheet(size) => (b'S', [*size, 0, 0], vec![]),
+        Call::Write(size) => (b'W', [*size, 0, 0], vec![]),
+        Call::Quote(pipe) => (b'Q', asked(pipe), vec![]),
+        Call::Commit(quote) => (b'C', asked(&quote.pipe), parts(quote)),
+        Call::Open => (b'O', [0; 3], vec![]),
+        Call::Fetch(sheet) => {
+            let [fittings, pipes, place] =
+                [sheet.fittings, sheet.pipes, sheet.place].map(usize::from);
+            let numbers = [fittings | pipes << 16, place, sheet.removals as usize];
+            (b'N', numbers, vec![])
+        }
+        Call::Remove(pipe, size) => (b'R', [*pipe as usize, *size, 0], vec![]),
+        Call::Shares(shares) => {
+            let bytes = shares.iter().flat_map(|share| share.to_le_bytes());
+            (b'H', [shares.len(), 0, 0], bytes.collect())
+        }
     }
 }
 
@@ -193,8 +235,12 @@ pub struct Answer {
     /// The refusal's number, or 0.
     pub refusal: u32,
     /// Numbers of the scratch that are not 0 after the call.
-    scratch: usize,
+    pub scratch: usize,
+    /// Of the house that the call was for, or of one of the eight.
     head: Head,
+    removals: u32,
+    heads: u64,
+    shares: u64,
     tables: [u64; 6],
     slice: u64,
 }
@@ -206,6 +252,7 @@ impl fmt::Display for Answer {
         for number in self.head {
             write!(f, " {number}")?;
         }
+        write!(f, " {} {} {}", self.removals, self.heads, self.shares)?;
         for hash in self.tables {
             write!(f, " {hash}")?;
         }
@@ -213,63 +260,33 @@ impl fmt::Display for Answer {
     }
 }
 
-/// The lent tables and what their caller knows.
-pub struct Lent {
+/// The part of one house in what is lent.
+struct Part {
     tables: Tables,
     head: Head,
-    /// The lent sizes, of the register and then of the scratch.
-    sizes: [usize; 12],
-    /// The last tables and head that were grown, and the house.
-    grown: Option<(Tables, Head, Option<House>)>,
+    removals: u32,
+    /// The house that the tables and the head hold, if any, once it was looked for.
+    held: Option<Option<Rc<House>>>,
 }
 
-impl Default for Lent {
-    fn default() -> Self {
-        let [a, b, c, d, e, f] = SIZES;
-        Lent {
-            tables: SIZES.map(|size| vec![TABLES_BEFORE; size]),
+impl Part {
+    fn filled(number: u32) -> Self {
+        Part {
+            tables: SIZES.map(|size| vec![number; size]),
             head: [0; 4],
-            sizes: [a, b, c, d, e, f, a, b, c, d, e, f],
-            grown: None,
-        }
-    }
-}
-
-impl Lent {
-    pub fn number(&self, table: usize, place: usize) -> u32 {
-        match self.tables.get(table) {
-            Some(table) => table[place],
-            None => self.head[place],
+            removals: 0,
+            held: None,
         }
     }
 
-    pub fn set(&mut self, table: usize, place: usize, number: u32) {
-        match self.tables.get_mut(table) {
-            Some(table) => table[place] = number,
-            None => self.head[place] = number,
+    /// Where growing their own fittings and pipes from empty leaves the tables and the head.
+    fn house(&mut self) -> Option<Rc<House>> {
+        if self.held.is_none() {
+            let house = self.grown_afresh();
+            let same = |house: &House| tables_of(house) == (self.tables.clone(), self.head);
+            self.held = Some(house.filter(same).map(Rc::new));
         }
-    }
-
-    pub fn lend(&mut self, table: usize, size: usize) {
-        self.sizes[table] = size;
-    }
-
-    pub fn has_right_sizes(&self) -> bool {
-        self.sizes == [SIZES, SIZES].concat()[..]
-    }
-
-    /// The house that the tables hold, if growing their own fittings and pipes from empty leaves them.
-    pub fn house(&mut self) -> Option<House> {
-        if let Some((tables, head, house)) = &self.grown {
-            if (tables, head) == (&self.tables, &self.head) {
-                return house.clone();
-            }
-        }
-        let house = self
-            .grown_afresh()
-            .filter(|house| tables_of(house) == (self.tables.clone(), self.head));
-        self.grown = Some((self.tables.clone(), self.head, house.clone()));
-        house
+        self.held.clone().flatten()
     }
 
     /// The tables' own fittings and pipes, grown from empty, if nothing of them is refused.
@@ -294,25 +311,176 @@ impl Lent {
         Some(house)
     }
 
-    /// Makes a call: 25, then 21 but not for grow, then its own refusals.
-    pub fn call(&mut self, call: &Call) -> Answer {
-        if !self.has_right_sizes() {
-            return self.answer(call, Err((0, WRONG_SIZE)), &[]);
+    fn keep(&mut self, house: House) {
+        (self.tables, self.head) = tables_of(&house);
+        self.held = Some(Some(Rc::new(house)));
+    }
+}
+
+/// What is lent, and what its caller knows.
+pub struct Lent {
+    parts: [Part; HOUSES],
+    shares: [u32; HOUSES],
+    sizes: [usize; LENT],
+}
+
+impl Default for Lent {
+    /// Cleared, but for one house.
+    fn default() -> Self {
+        let of_house = |house| Part::filled(if house == NOT_CLEARED { BEFORE } else { 0 });
+        Lent {
+            parts: std::array::from_fn(of_house),
+            shares: [0; HOUSES],
+            sizes: std::array::from_fn(right_size),
         }
-        if let Call::Grow(list) = call {
-            return self.land(call, House::default(), list);
+    }
+}
+
+/// What the numbers of an answer are, or the number that comes with a refusal, and the refusal.
+type Answered = Result<(u64, u64), (u32, u32)>;
+
+impl Lent {
+    pub fn number(&self, house: usize, table: usize, place: usize) -> u32 {
+        let part = &self.parts[house];
+        match (table, place) {
+            (7, _) => self.shares[house],
+            (6, 4) => part.removals,
+            (6, _) => part.head[place],
+            _ => part.tables[table][place],
         }
-        let Some(house) = self.house() else {
-            return self.answer(call, Err((0, NOT_GROWN)), &[]);
+    }
+
+    pub fn set(&mut self, house: usize, table: usize, place: usize, number: u32) {
+        let part = &mut self.parts[house];
+        match (table, place) {
+            (7, _) => self.shares[house] = number,
+            (6, 4) => part.removals = number,
+            (6, _) => part.head[place] = number,
+            _ => part.tables[table][place] = number,
+        }
+        if table < 6 || (table == 6 && place < 4) {
+            part.held = None;
+        }
+    }
+
+    pub fn lend(&mut self, table: usize, size: usize) {
+        self.sizes[table] = size;
+    }
+
+    /// The house that the part holds, if growing its own fittings and pipes from empty leaves it.
+    pub fn house(&mut self, house: usize) -> Option<Rc<House>> {
+        self.parts[house].house()
+    }
+
+    pub fn removals(&self, house: usize) -> u32 {
+        self.parts[house].removals
+    }
+
+    pub fn shares(&self) -> [usize; HOUSES] {
+        self.shares.map(|share| share as usize)
+    }
+
+    pub fn pipes(&self) -> [usize; HOUSES] {
+        self.parts.each_ref().map(|part| part.head[1] as usize)
+    }
+
+    /// What a house may land by.
+    pub fn licence(&self, house: usize) -> Licence {
+        Licence::Of {
+            house,
+            shares: self.shares(),
+            pipes: self.pipes(),
+        }
+    }
+
+    /// 25 of any table, of the shares, or of the shares that are brought.
+    fn has_wrong_size(&self, call: &Call) -> bool {
+        let brought = match call {
+            Call::Shares(shares) => shares.len(),
+            _ => HOUSES,
         };
+        let mut sizes = self.sizes.iter().enumerate();
+        brought != HOUSES || sizes.any(|(lent, &size)| size != right_size(lent))
+    }
+
+    /// 21 of any house, and of the sum; "A grow counts its own house as empty there".
+    fn is_not_grown(&mut self, own: Option<u32>) -> bool {
+        let mut pipes = self.pipes();
+        for (house, number) in (0..HOUSES).zip(0..) {
+            if own == Some(number) {
+                pipes[house] = 0;
+            } else if self.house(house).is_none() {
+                return true;
+            }
+        }
+        overfull(self.shares(), pipes)
+    }
+
+    /// 37: a house number above 7; or the sum of the shares that are brought, or a house with fittings.
+    fn is_out_of_place(&self, house: u32, call: &Call) -> bool {
+        let Call::Shares(shares) = call else {
+            return house > 7;
+        };
+        let sum: usize = shares.iter().map(|&share| usize::from(share)).sum();
+        sum > LICENSED_PIPES || self.parts.iter().any(|part| part.head[0] > 0)
+    }
+
+    /// Makes a call: 25, then 21, then 37, then its own refusals.
+    pub fn call(&mut self, house: u32, call: &Call) -> Answer {
+        let own = match call {
+            Call::Grow(_) => Some(house),
+            _ => None,
+        };
+        let barred = if self.has_wrong_size(call) {
+            Some(WRONG_SIZE)
+        } else if self.is_not_grown(own) {
+            Some(NOT_GROWN)
+        } else if self.is_out_of_place(house, call) {
+            Some(OUT_OF_PLACE)
+        } else {
+            None
+        };
+        let at = house as usize % HOUSES;
+        match barred {
+            Some(refusal) => self.answer(at, call, Err((0, refusal)), &[]),
+            None => self.make(at, call),
+        }
+    }
+
+    /// Makes a call for which neither 25 nor 21 nor 37 holds.
+    fn make(&mut self, at: usize, call: &Call) -> Answer {
+        match *call {
+            Call::Grow(ref list) => {
+                self.parts[at].removals = 0;
+                return self.land(at, call, House::default(), list);
+            }
+            Call::Shares(ref shares) => {
+                for (share, &asked) in self.shares.iter_mut().zip(shares) {
+                    *share = asked.into();
+                }
+                return self.answer(at, call, Ok((0, 0)), &[]);
+            }
+            _ => {}
+        }
+        let house = self.house(at).expect("21 does not hold");
+        let removals = self.parts[at].removals;
         let refused = |refusal: Refusal| (0, refusal.number().unsigned_abs());
         let mut numbers = Vec::new();
         let answered = match *call {
-            Call::Grow(_) => unreachable!("answered above"),
-            Call::Land(ref list) => return self.land(call, house, list),
-            Call::Commit(ref quote) => return self.commit(call, house, quote),
+            Call::Grow(_) | Call::Shares(_) => unreachable!("answered above"),
+            Call::Land(ref list) => return self.land(at, call, (*house).clone(), list),
+            Call::Commit(ref quote) => return self.commit(at, call, (*house).clone(), quote),
+            Call::Remove(pipe, size) => {
+                let removed = removal::remove(&house, removals, pipe as usize, size);
+                removed.map(|(left, report)| {
+                    self.parts[at].keep(left);
+                    self.parts[at].removals += 1;
+                    numbers = report.concat();
+                    (number_of(report.len()).into(), 0)
+                })
+            }
             Call::Quote(pipe) => {
-                let quote = quote::quote(&house, pipe);
+                let quote = quote::quote_on(&self.licence(at), &house, pipe);
                 let (case, number) = quote.terms.unwrap_or_else(|refusal| (0, refusal));
                 numbers = [pipe.first, pipe.second].map(number_of).to_vec();
                 numbers.extend([pipe.length, pipe.volume]);
@@ -331,7 +499,7 @@ impl Lent {
                 );
                 let Ok(found) = found else {
                     let refusal = Refusal::NoCoupling.number().unsigned_abs();
-                    return self.answer(call, Err((number_of(taken), refusal)), &[]);
+                    return self.answer(at, call, Err((number_of(taken), refusal)), &[]);
                 };
                 let (first, second) = packed(found);
                 Ok((u64::from(number_of(taken)) << 32 | first, second))
@@ -350,49 +518,44 @@ impl Lent {
                 numbers = bytes.into_iter().map(u32::from).collect();
                 fits(&mut numbers, size).map(|()| (count.into(), 0))
             }
-            Call::Open => Ok((packed_sheet(0, opened::open(&house)), 0)),
-            Call::Fetch(sheet) => opened::fetch(&house, sheet).map(packed_fetch),
+            Call::Open => Ok(packed_sheet(0, opened::open(&house, removals), 0)),
+            Call::Fetch(sheet) => opened::fetch(&house, removals, sheet).map(packed_fetch),
         };
-        self.answer(call, answered.map_err(refused), &numbers)
+        self.answer(at, call, answered.map_err(refused), &numbers)
     }
 
     /// Lands a list and leaves the tables of what was landed.
-    fn land(&mut self, call: &Call, mut house: House, list: &[u8]) -> Answer {
-        let result = list::land(&mut house, list);
-        let (tables, head) = tables_of(&house);
-        (self.tables, self.head) = (tables.clone(), head);
-        self.grown = Some((tables, head, Some(house)));
+    fn land(&mut self, at: usize, call: &Call, mut house: House, list: &[u8]) -> Answer {
+        let result = list::land_on(&self.licence(at), &mut house, list);
+        self.parts[at].keep(house);
         let stopped = |stop: list::Stop| {
             let refusal = stop.refusal().number().unsigned_abs();
             (number_of(stop.record()), refusal)
         };
-        self.answer(call, result.map(|()| (0, 0)).map_err(stopped), &[])
+        self.answer(at, call, result.map(|()| (0, 0)).map_err(stopped), &[])
     }
 
     /// Commits a quote and leaves the tables of what was landed.
-    fn commit(&mut self, call: &Call, mut house: House, quote: &Quote) -> Answer {
-        let result = quote::commit(&mut house, quote);
-        let (tables, head) = tables_of(&house);
-        (self.tables, self.head) = (tables.clone(), head);
-        self.grown = Some((tables, head, Some(house)));
-        self.answer(
-            call,
-            result.map(|()| (0, 0)).map_err(|number| (0, number)),
-            &[],
-        )
+    fn commit(&mut self, at: usize, call: &Call, mut house: House, quote: &Quote) -> Answer {
+        let result = quote::commit_on(&self.licence(at), &mut house, quote);
+        if result.is_ok() {
+            self.parts[at].keep(house);
+        }
+        let answered = result.map(|()| (0, 0)).map_err(|number| (0, number));
+        self.answer(at, call, answered, &[])
     }
 
     /// The answer to a call, with the state after it. 25 writes nothing, and no number of the scratch is
     /// 0 before; otherwise the scratch ends all zero. The slice begins with these numbers, and its rest
     /// is untouched.
-    fn answer(&self, call: &Call, result: Result<(u64, u64), (u32, u32)>, slice: &[u32]) -> Answer {
+    fn answer(&self, at: usize, call: &Call, result: Answered, slice: &[u32]) -> Answer {
         let (first, second, refusal) = match result {
             Ok((first, second)) => (first, second, 0),
             Err((first, refusal)) => (first.into(), 0, refusal),
         };
         let all: usize = SIZES.iter().sum();
         let room = match call {
-            Call::Sheet(_) => SLICE,
+            Call::Sheet(_) | Call::Remove(..) => SLICE,
             Call::Write(_) => BYTES,
             // What a quote has of its pipe stands for a slice.
             Call::Quote(_) => slice.len(),
@@ -400,16 +563,22 @@ impl Lent {
         };
         let mut numbers = vec![SLICE_BEFORE; room];
         numbers[..slice.len()].copy_from_slice(slice);
+        let heads = self.parts.iter();
+        let heads = heads.flat_map(|part| part.head.iter().chain([&part.removals]));
+        let table = |table: usize| {
+            let parts = self.parts.iter().flat_map(|part| &part.tables[table]);
+            sparse_hash(parts.chain(&[BEFORE]))
+        };
         Answer {
             first,
             second,
             refusal,
             scratch: if refusal == WRONG_SIZE { all } else { 0 },
-            head: self.head,
-            tables: self
-                .tables
-                .each_ref()
-                .map(|table| hash(table.iter().chain(&[TABLES_BEFORE]))),
+            head: self.parts[at].head,
+            removals: self.parts[at].removals,
+            heads: hash(heads),
+            shares: hash(self.shares.iter().chain(&[BEFORE])),
+            tables: [0, 1, 2, 3, 4, 5].map(table),
             slice: hash(&numbers),
         }
     }
@@ -424,8 +593,20 @@ fn fits(numbers: &mut Vec<u32>, size: usize) -> Result<(), Refusal> {
     Err(Refusal::TooShort)
 }
 
+/// As tests/lent/main.rattle computes it: of the numbers that are not 0, each behind its place.
+fn sparse_hash<'a>(numbers: impl IntoIterator<Item = &'a u32>) -> u64 {
+    let placed = (0..).zip(numbers).filter(|(_, &number)| number != 0);
+    let one = |hash, (place, &number): (u32, &u32)| step(step(hash, place), number);
+    placed.fold(0, one)
+}
+
+fn step(hash: u64, number: u32) -> u64 {
+    (hash * 2_147_483_629 + u64::from(number) + 1) % 4_294_967_291
+}
+
 /// As tests/lent/main.rattle computes it.
 fn hash<'a>(numbers: impl IntoIterator<Item = &'a u32>) -> u64 {
-    let one = |hash, &number| (hash * 2_147_483_629 + u64::from(number) + 1) % 4_294_967_291;
-    numbers.into_iter().fold(0, one)
+    numbers
+        .into_iter()
+        .fold(0, |hash, &number| step(hash, number))
 }

@@ -2,12 +2,14 @@
 //!
 //! - [`house`], [`run`] and [`ring`]: fittings, pipes, runs, rings and tags;
 //! - [`cases`]: what landing a pipe comes to, for counting;
+//! - [`licence`]: which of eight houses may land a pipe;
 //! - [`list`]: the list of records, read and written;
 //! - [`queries`]: find, distance and sheet;
 //! - [`quote`]: what a pipe would cost, and its commit;
 //! - [`opened`]: a sheet that is fetched line by line while landing goes on;
+//! - [`removal`]: a pipe taken out, and the report;
 //! - [`calls`]: the same as calls from C answer them;
-//! - [`lent`]: the same over lent tables, and what the tables hold;
+//! - [`lent`]: the same for eight houses over lent tables, and what the tables hold;
 //! - [`print`]: what the printing program prints;
 //! - [`judge`]: the verdict on a contractor's sheet;
 //! - [`valve`]: which recipe is at the valve;
@@ -25,6 +27,7 @@ pub mod gen;
 pub mod house;
 pub mod judge;
 pub mod lent;
+pub mod licence;
 pub mod list;
 pub mod opened;
 pub mod plan;
@@ -32,6 +35,7 @@ pub mod print;
 pub mod queries;
 pub mod quote;
 pub mod refusal;
+pub mod removal;
 pub mod ring;
 pub mod run;
 pub mod tally;
@@ -40,6 +44,10 @@ pub mod valve;
 pub mod workers;
 
 #[cfg(test)]
+mod eight;
+#[cfg(test)]
 mod invariants;
+#[cfg(test)]
+mod series;
 #[cfg(test)]
 mod values;

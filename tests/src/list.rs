@@ -5,6 +5,7 @@ pub use pnltext::records::{
 };
 
 use crate::house::{House, Pipe};
+use crate::licence::Licence;
 use crate::refusal::Refusal;
 
 /// Without volumes, and with them (document 02, S-4).
@@ -43,12 +44,18 @@ pub fn grow(list: &[u8]) -> (House, Result<(), Stop>) {
     (house, result)
 }
 
-/// Lands a list on a register. The records before a stop stand, and nothing after it is read.
+/// Lands a list on a register without a licence.
 pub fn land(house: &mut House, list: &[u8]) -> Result<(), Stop> {
+    land_on(&Licence::none(), house, list)
+}
+
+/// Lands a list on a register. The records before a stop stand, and nothing after it is read.
+pub fn land_on(licence: &Licence, house: &mut House, list: &[u8]) -> Result<(), Stop> {
     let (version, mut rest) = read_header(list).map_err(Stop::Header)?;
     let mut number = 0;
     while !rest.is_empty() {
-        rest = land_next(house, version, rest).map_err(|refusal| Stop::Record(number, refusal))?;
+        rest = land_next(licence, house, version, rest)
+            .map_err(|refusal| Stop::Record(number, refusal))?;
         number += 1;
     }
     Ok(())
@@ -66,9 +73,14 @@ fn read_header(list: &[u8]) -> Result<(u16, &[u8]), Refusal> {
 }
 
 /// Reads and lands one record; gives the bytes after it.
-fn land_next<'a>(house: &mut House, version: u16, bytes: &'a [u8]) -> Result<&'a [u8], Refusal> {
+fn land_next<'a>(
+    licence: &Licence,
+    house: &mut House,
+    version: u16,
+    bytes: &'a [u8],
+) -> Result<&'a [u8], Refusal> {
     let (record, rest) = read_record(version, bytes)?;
-    land_record(house, record)?;
+    land_record_on(licence, house, record)?;
     Ok(rest)
 }
 
@@ -101,8 +113,13 @@ fn pipe_record(body: &[u8]) -> Record {
     }
 }
 
-/// Refusal 22 for a fitting, or 5, 6, 7, 31 and 23 for a pipe.
+/// Lands a record without a licence.
 pub fn land_record(house: &mut House, record: Record) -> Result<(), Refusal> {
+    land_record_on(&Licence::none(), house, record)
+}
+
+/// Refusal 22 for a fitting, or 5, 6, 7, 31, 23 and 36 for a pipe.
+pub fn land_record_on(licence: &Licence, house: &mut House, record: Record) -> Result<(), Refusal> {
     match record {
         Record::Fitting => house.land_fitting(),
         Record::Pipe {
@@ -110,12 +127,15 @@ pub fn land_record(house: &mut House, record: Record) -> Result<(), Refusal> {
             second,
             length,
             volume,
-        } => house.land_pipe(Pipe {
-            first: first.into(),
-            second: second.into(),
-            length,
-            volume,
-        }),
+        } => {
+            let pipe = Pipe {
+                first: first.into(),
+                second: second.into(),
+                length,
+                volume,
+            };
+            house.land_pipe_on(licence, pipe)
+        }
     }
 }
 

@@ -1,6 +1,7 @@
 //! Quotes and commits (document 02, S-5).
 
 use crate::house::{House, Pipe, Standing};
+use crate::licence::Licence;
 use crate::refusal::Refusal;
 
 /// 32: a quote made now is another.
@@ -18,20 +19,30 @@ pub struct Quote {
     pub pipes: u32,
 }
 
-/// The case of a pipe and its re-hangings, or its refusal: the pipe is landed on a copy.
+/// The case of a pipe and its re-hangings, or its refusal, where there is no licence.
 pub fn terms(house: &House, pipe: Pipe) -> Result<(u32, u32), Refusal> {
+    terms_on(&Licence::none(), house, pipe)
+}
+
+/// The same on a licence: the pipe is landed on a copy.
+fn terms_on(licence: &Licence, house: &House, pipe: Pipe) -> Result<(u32, u32), Refusal> {
     let mut after = house.clone();
-    after.land_pipe(pipe)?;
+    after.land_pipe_on(licence, pipe)?;
     Ok((case(house, &pipe), after.re_hung() - house.re_hung()))
 }
 
-/// The quote of a pipe, made now.
+/// The quote of a pipe, made now, where there is no licence.
 pub fn quote(house: &House, pipe: Pipe) -> Quote {
+    quote_on(&Licence::none(), house, pipe)
+}
+
+/// The same on a licence, which is no part of it.
+pub fn quote_on(licence: &Licence, house: &House, pipe: Pipe) -> Quote {
     let counts = [house.fittings(), house.pipes().len()];
     let [fittings, pipes] = counts.map(|count| u32::try_from(count).expect("at most 4,096"));
     Quote {
         pipe,
-        terms: terms(house, pipe).map_err(number),
+        terms: terms_on(licence, house, pipe).map_err(number),
         fittings,
         pipes,
     }
@@ -57,10 +68,15 @@ fn case(house: &House, pipe: &Pipe) -> u32 {
     }
 }
 
-/// Lands the pipe of a quote that equals one made now; otherwise, and where that declines, the refusal.
+/// Commits where there is no licence.
 pub fn commit(house: &mut House, quoted: &Quote) -> Result<(), u32> {
-    if quote(house, quoted.pipe) != *quoted {
+    commit_on(&Licence::none(), house, quoted)
+}
+
+/// Lands the pipe of a quote that equals one made now; otherwise, and where that declines, the refusal.
+pub fn commit_on(licence: &Licence, house: &mut House, quoted: &Quote) -> Result<(), u32> {
+    if quote_on(licence, house, quoted.pipe) != *quoted {
         return Err(OTHER_QUOTE);
     }
-    house.land_pipe(quoted.pipe).map_err(number)
+    house.land_pipe_on(licence, quoted.pipe).map_err(number)
 }

@@ -1,6 +1,7 @@
-//! The refusals of documents 01 and 02 that a list or a question can meet.
+//! The refusals of documents 01 and 02 that a list, a question or a removal can meet.
 //!
-//! 21 and 25 are missing: they speak of lent tables, and here there are none.
+//! 21, 25 and 37 are missing: they speak of what is lent, and stand before the calls in [`crate::lent`]. So is 32, which
+//! speaks of a quote.
 
 /// A refusal under its number, where its condition stands.
 #[derive(Clone, Copy, Debug, PartialEq, Eq, PartialOrd, Ord)]
@@ -18,6 +19,9 @@ pub enum Refusal {
     FullPipes = 23,
     Volume = 31,
     Beyond = 33,
+    OverLimit = 36,
+    NotRemovable = 38,
+    Ended = 39,
 }
 
 impl Refusal {

@@ -8,11 +8,13 @@ use mathlib.Core.Option.{Option, none, some, Option·some-injective, Option·som
 use Rattle.model.specs.Register.{Register}
 use Rattle.model.specs.Queries.{Reply, refuses}
 use Rattle.model.specs.Tables.{Tables, Counts, fits, cleared, held}
-use Rattle.model.specs.Calls.{Call, Lent, allFit, bars, effect, gate, registerFor, scratchAfter, lentSlice, step}
+use Rattle.model.specs.Calls.{Ask, answer}
+use Rattle.nursery.specs.Calls.{HouseCall, asks, effect, sliceOf}
+use Rattle.admission.specs.Own.{Lent, allFit, bars, gate, houseOf, ownStep, registerFor, scratchAfter}
 use Rattle.model.proofs.Basics.Booleans.{not-both}
 use Rattle.model.specs.Notions.{HeldOf}
 use Rattle.model.proofs.Registers.OnlyHeld.{only-held}
-use Rattle.model.proofs.Series.Calls.{outcomeOf, scratch-cleared, step-fits}
+use Rattle.admission.proofs.OwnLaws.{outcomeOf, scratch-cleared, step-fits}
 use Rattle.tables.specs.Meaning.{stored}
 use Rattle.tables.specs.Steps.{zeroed}
 use Rattle.admission.specs.Lent.{lent, outcome}
@@ -70,7 +72,7 @@ module _ (t : Tables) (c : Counts) (s : Tables) where
         (held-some (o .0) (o .1), scratch-is s′ b)
 
 -- of every call but grow
-pub gate-bars : (c : Call) (l : Lent) → registerFor c l ≡ held (l .stored) → (x : ℕ) → some x ≡ barred l → gate c l ≡ bars x
+pub gate-bars : (c : HouseCall) (l : Lent) → registerFor c l ≡ held (l .stored) → (x : ℕ) → some x ≡ barred l → gate c l ≡ bars x
 unfolding barred gate
 gate-bars c l q x h = go (allFit l) refl (held (l .stored)) refl
   where
@@ -80,10 +82,10 @@ gate-bars c l q x h = go (allFit l) refl (held (l .stored)) refl
     go true e (some r) f = absurd (Option·some-ne-none x (rw (e, barred, f) at h))
 
 -- .. so it is refused before its work, and leaves register and slice
-pub query-refused : (c : Call) (l : Lent) → registerFor c l ≡ held (l .stored) → (s : Tables) (x : ℕ) → some x ≡ barred l → s ≡ scratchAfter l
-    → outcome (l .stored .tables) (l .stored .counts) s (lentSlice c) (refuses x) ≡ step c l
-unfolding step
-query-refused c l q s x h e = rw (gate-bars c l q x h, step, e)
+pub query-refused : (limit removals : ℕ) (c : HouseCall) (l : Lent) → registerFor c l ≡ held (l .stored) → (s : Tables) (x : ℕ) → some x ≡ barred l → s ≡ scratchAfter l
+    → outcome (l .stored .tables) (l .stored .counts) s (sliceOf c) (refuses x) ≡ ownStep limit removals c l
+unfolding ownStep
+query-refused limit removals c l q s x h e = rw (gate-bars c l q x h, ownStep, e)
 
 -- an open gate: the sizes are right, and the tables hold a register
 pub record Open (l : Lent) : Type 0 where
@@ -106,11 +108,11 @@ opened l h = go (allFit l) refl (held (l .stored)) refl
 pub open-cleared : (l : Lent) (s : Tables) → none ≡ barred l → s ≡ scratchAfter l → s ≡ cleared
 open-cleared l s h e = e ∙ scratch-cleared l ((opened l h) .fit)
 
--- behind an open gate a question leaves the register and is answered: what it has to give is its effect on the register that is held
-pub query-answered : (c : Call) (l : Lent) (s : Tables) (xs : List ℕ) (a : Reply) → none ≡ barred l → s ≡ scratchAfter l
-    → ((r : Register) → HeldOf (l .stored) r → effect c r ≡ record { leaves = r; slice = xs; reply = a })
-    → outcome (l .stored .tables) (l .stored .counts) s xs a ≡ step c l
-unfolding outcomeOf
-query-answered c l s xs a h e f =
+-- behind an open gate a question leaves the register and is answered: what it has to give is the answer of the house that is held
+pub query-answered : (limit removals : ℕ) (q : Ask) (l : Lent) (s : Tables) (xs : List ℕ) (a : Reply) → none ≡ barred l → s ≡ scratchAfter l
+    → ((r : Register) → HeldOf (l .stored) r → answer q (houseOf limit removals r) ≡ record { slice = xs; reply = a })
+    → outcome (l .stored .tables) (l .stored .counts) s xs a ≡ ownStep limit removals (asks q) l
+unfolding outcomeOf effect
+query-answered limit removals q l s xs a h e f =
     let o = opened l h in
-    rw (step-fits c l (o .register) (o .fit) (o .holds), outcomeOf, f (o .register) (o .is), ← o .is .stored-is, e, scratch-cleared l (o .fit))
+    rw (step-fits limit removals (asks q) l (o .register) (o .fit) (o .holds), outcomeOf, f (o .register) (o .is), ← o .is .stored-is, e, scratch-cleared l (o .fit))

@@ -4,7 +4,7 @@ use mathlib.Core.Bool.{Bool, not}
 use mathlib.Core.Option.{Option, none, some}
 use Rattle.model.specs.Basics.{if_then_else_}
 use Rattle.model.specs.Tables.{Tables, held}
-use Rattle.model.specs.Calls.{Lent, allFit}
+use Rattle.admission.specs.Own.{Lent, allFit}
 use Rattle.counters.specs.Refusals.{numberOf}
 use Rattle.tables.specs.Steps.{zeroed}
 use Rattle.admission.specs.declared.gate.Gate.{Gate}

@@ -3,7 +3,7 @@ use Prim.Native.Nat.{ℕ}
 use mathlib.Core.List.{List}
 use Rattle.model.specs.Queries.{Reply}
 use Rattle.model.specs.Tables.{Tables, Counts}
-use Rattle.model.specs.Calls.{Lent, Outcome}
+use Rattle.admission.specs.Own.{Lent, Outcome}
 
 -- tables, counts, scratch
 abbrev pub lent : Tables → Counts → Tables → Lent

@@ -1,2 +1,3 @@
+pub mod Own
 pub mod Lent
 pub mod Gate

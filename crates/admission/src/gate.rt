@@ -7,7 +7,7 @@ use tables::whole::clear_tables;
 ghost use mathlib.Core.Path.{_≡_};
 ghost use mathlib.Core.Bool.{_&&_};
 ghost use Rattle.model.specs.Tables.{fits};
-ghost use Rattle.model.specs.Calls.{scratchAfter};
+ghost use Rattle.admission.specs.Own.{scratchAfter};
 ghost use Rattle.counters.specs.Answers.{asCounts};
 ghost use Rattle.tables.specs.Meaning.{tables};
 ghost use Rattle.admission.specs.Lent.{lent};

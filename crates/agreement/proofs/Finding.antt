@@ -10,8 +10,8 @@ use Rattle.model.specs.Queries.{Reply, chainAt, find, findAt, foundAt}
 use Rattle.model.specs.Newest.{search}
 use Rattle.model.specs.Tables.{countsOf, tablesOf}
 use Rattle.model.specs.Notions.{Reachable}
-use Rattle.chains.specs.Newest.{Sought, searchIn}
-use Rattle.chains.specs.Finding.{findAtIn, findIn}
+use Rattle.holders.specs.Newest.{Sought, searchIn}
+use Rattle.holders.specs.Finding.{findAtIn, findIn}
 use Rattle.model.proofs.Registers.Labelled.{label-facts}
 use Rattle.model.proofs.Registers.Answers.{find-own}
 use Rattle.model.proofs.Registers.Newest.{search-none}

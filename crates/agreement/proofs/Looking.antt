@@ -21,8 +21,8 @@ use Rattle.model.specs.Notions.{Reachable, SameChain, SameRing, reversed}
 use Rattle.tables.specs.Steps.{more16, most32, sum32}
 use Rattle.tables.proofs.Sums.{sum32-is}
 use Rattle.chains.specs.Chains.{goesOnIn}
-use Rattle.chains.specs.Looking.{Look, Seen, look, lookAlongIn, lookIn, lookThroughIn, seen, toldIn, withEdge}
-use Rattle.chains.proofs.LookingLaws.{edge-before, edge-behind, look-on, look-stop, wearer-before, wearer-here, wearer-not}
+use Rattle.holders.specs.Looking.{Look, Seen, edgeTowards, look, lookAlongIn, lookIn, lookThroughIn, seen, toldIn, withEdge}
+use Rattle.holders.proofs.LookingLaws.{edge-before, edge-behind, look-on, look-stop, wearer-before, wearer-here, wearer-not}
 use Rattle.model.proofs.Basics.Booleans.{not-both, true-or-false}
 use Rattle.model.proofs.Basics.Lists.{mem-reverse, sum-append, sum-reverse}
 use Rattle.model.proofs.Walks.Degree.{Proper, is-two}
@@ -578,7 +578,7 @@ module _ (r : Register) (g : Reachable r) (v : ℕ) (reg : isRegular (r .edges) 
     through-is : (up : Bool) → lookThroughIn (t₃ .degrees) (t₃ .sides) (t₃ .ends) (t₃ .lengths) (t₃ .labels) (length es₃) label up v
         ≡ toldIn (t₃ .degrees) (t₃ .lengths) up (turn es₃ (onOf up) v)
         (lookAlongIn (t₃ .degrees) (t₃ .sides) (t₃ .ends) (t₃ .lengths) (t₃ .labels) label (length es₃) v (onOf up) (turn es₃ (onOf up) v))
-    unfolding lookThroughIn
+    unfolding lookThroughIn edgeTowards
     through-is up = go up
       where
         k : PairAt (t₃ .sides) v (lowEdgeOf r v) (turn es₃ (lowEdgeOf r v) v)

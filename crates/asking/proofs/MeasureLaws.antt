@@ -8,7 +8,9 @@ use lib.ListN.{length, length-replicate}
 use Rattle.model.specs.Basics.{maxVertices}
 use Rattle.model.specs.Queries.{Reply}
 use Rattle.model.specs.Tables.{Counts, Tables, cleared}
-use Rattle.model.specs.Calls.{measures, scratchAfter, step}
+use Rattle.model.specs.Calls.{measuring}
+use Rattle.nursery.specs.Calls.{measures}
+use Rattle.admission.specs.Own.{houseOf, ownStep, scratchAfter}
 use Rattle.tables.specs.Steps.{zeroed}
 use Rattle.admission.specs.Lent.{lent, outcome}
 use Rattle.admission.specs.Gate.{barred}
@@ -31,9 +33,9 @@ module _ (t : Tables) (c : Counts) (s s′ : Tables) (h : none ≡ barred (lent 
       (measurable (opened (lent t c s) h .is), omega arith)
 
   -- the search was made
-  pub open-answers : (v w : ℕ) (s″ : Tables) (a : Reply) → s″ ≡ zeroed s′ → a ≡ measureIn t c v w
-      → outcome t c s″ [] a ≡ step (measures v w) (lent t c s)
-  open-answers v w s″ a z q = query-answered (measures v w) (lent t c s) s″ [] a h (z ∙ again ∙ e) (measure-answers t c v w a q)
+  pub open-answers : (limit removals v w : ℕ) (s″ : Tables) (a : Reply) → s″ ≡ zeroed s′ → a ≡ measureIn t c v w
+      → outcome t c s″ [] a ≡ ownStep limit removals (measures v w) (lent t c s)
+  open-answers limit removals v w s″ a z q = query-answered limit removals (measuring v w) (lent t c s) s″ [] a h (z ∙ again ∙ e) (λ r k. measure-answers t c v w a q (houseOf limit removals r) k)
     where
       again : zeroed s′ ≡ s′
       again = rw scratch-is (zeroed-cleared cleared cleared-fits)

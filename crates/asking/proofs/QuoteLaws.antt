@@ -2,22 +2,24 @@
 use mathlib.Core.Path.{_≡_}
 use mathlib.Core.Bool.{true}
 use mathlib.Core.List.{[]}
-use Rattle.model.specs.Basics.{maxEdges}
+use Prim.Native.Nat.{ℕ}
 use Rattle.model.specs.Graph.{Edge}
-use Rattle.model.specs.Register.{Quote, quote}
+use Rattle.model.specs.Register.{Quote, Register, quote}
 use Rattle.model.specs.Queries.{quoted}
 use Rattle.model.specs.Tables.{Tables, Counts}
-use Rattle.model.specs.Calls.{answer, answers, effect, quotes}
+use Rattle.model.specs.Calls.{answer, answers, quoting}
+use Rattle.model.specs.Notions.{HeldOf}
+use Rattle.tables.specs.Meaning.{stored}
+use Rattle.admission.specs.Own.{houseOf}
 use Rattle.model.proofs.Registers.OnlyHeld.{held-counts, held-tables}
 use Rattle.insertion.specs.Quoting.{quoteIn}
 use Rattle.agreement.proofs.Standing.{warns-any}
 use Rattle.agreement.proofs.Quoting.{quote-agrees}
-use Rattle.questions.proofs.Answers.{Answers}
 
--- what is quoted over the tables of a register is answered
-pub quote-answers : (t : Tables) (c : Counts) (e : Edge) (q : Quote) → q ≡ quoteIn (t .degrees) (t .sides) (t .ends) (t .labels) c maxEdges true e
-    → Answers (quotes e) t c [] (quoted q)
-unfolding effect answer answers
-quote-answers t c e q h r k =
-    let f : quoteIn (t .degrees) (t .sides) (t .ends) (t .labels) c maxEdges true e ≡ quote maxEdges r e = rw (held-tables k, held-counts k) at (quote-agrees maxEdges r e true (k .reachable) (warns-any (r .edges))) in
+-- a quote within the limit that the house has
+pub quote-answers : (limit removals : ℕ) (t : Tables) (c : Counts) (e : Edge) (q : Quote) → q ≡ quoteIn (t .degrees) (t .sides) (t .ends) (t .labels) c limit true e
+    → (r : Register) → HeldOf (stored t c) r → answer (quoting e) (houseOf limit removals r) ≡ record { slice = []; reply = quoted q }
+unfolding answer answers
+quote-answers limit removals t c e q h r k =
+    let f : quoteIn (t .degrees) (t .sides) (t .ends) (t .labels) c limit true e ≡ quote limit r e = rw (held-tables k, held-counts k) at (quote-agrees limit r e true (k .reachable) (warns-any (r .edges))) in
     rw (h, f)

@@ -6,8 +6,10 @@ use counters::numbers::Vertex;
 use questions::measure::Measured;
 use questions::measure::measure;
 ghost use mathlib.Core.Path.{_≡_};
+ghost use Prim.Native.Nat.{ℕ};
 ghost use mathlib.Core.List.{[]};
-ghost use Rattle.model.specs.Calls.{measures, step};
+ghost use Rattle.nursery.specs.Calls.{measures};
+ghost use Rattle.admission.specs.Own.{ownStep};
 ghost use Rattle.counters.specs.Answers.{asCounts};
 ghost use Rattle.tables.specs.Meaning.{tables};
 ghost use Rattle.admission.specs.Lent.{lent, outcome};
@@ -30,11 +32,11 @@ pub fn distance(
     from: Vertex,
     to: Vertex,
 ) -> Measured
-    ensures { λ r. ⌜ outcome (tables (now (degrees .entry)) (now (sides .entry)) (now (ends .entry)) (now (lengths .entry)) (now (volumes .entry)) (now (labels .entry))) (asCounts counts)
+    ensures { λ r. ⌜ ((limit removals : ℕ) → outcome (tables (now (degrees .entry)) (now (sides .entry)) (now (ends .entry)) (now (lengths .entry)) (now (volumes .entry)) (now (labels .entry))) (asCounts counts)
         (tables (now (sdegrees .exit)) (now (ssides .exit)) (now (sends .exit)) (now (slengths .exit)) (now (svolumes .exit)) (now (slabels .exit))) [] (measuredReply r)
-        ≡ step (measures (from .0) (to .0))
+        ≡ ownStep limit removals (measures (from .0) (to .0))
         (lent (tables (now (degrees .entry)) (now (sides .entry)) (now (ends .entry)) (now (lengths .entry)) (now (volumes .entry)) (now (labels .entry))) (asCounts counts)
-        (tables (now (sdegrees .entry)) (now (ssides .entry)) (now (sends .entry)) (now (slengths .entry)) (now (svolumes .entry)) (now (slabels .entry)))) ⌝ }
+        (tables (now (sdegrees .entry)) (now (ssides .entry)) (now (sends .entry)) (now (slengths .entry)) (now (svolumes .entry)) (now (slabels .entry))))) ⌝ }
 {
     let passed = pass_gate(
         degrees,

@@ -9,8 +9,10 @@ use questions::find::FoundChain;
 use questions::find::find_at_cleared;
 use questions::find::find_cleared;
 ghost use mathlib.Core.Path.{_≡_};
+ghost use Prim.Native.Nat.{ℕ};
 ghost use mathlib.Core.List.{[]};
-ghost use Rattle.model.specs.Calls.{finds, findsAt, step};
+ghost use Rattle.nursery.specs.Calls.{finds, findsAt};
+ghost use Rattle.admission.specs.Own.{ownStep};
 ghost use Rattle.counters.specs.Answers.{asCounts};
 ghost use Rattle.tables.specs.Meaning.{tables};
 ghost use Rattle.admission.specs.Lent.{lent, outcome};
@@ -33,15 +35,15 @@ pub fn find(
     slabels: &mut [u32],
     label: Label,
 ) -> FoundChain
-    ensures { λ r. ⌜ outcome
+    ensures { λ r. ⌜ ((limit removals : ℕ) → outcome
         (tables (now (degrees .entry)) (now (sides .entry)) (now (ends .entry)) (now (lengths .entry)) (now (volumes .entry)) (now (labels .entry)))
         (asCounts counts)
         (tables (now (sdegrees .exit)) (now (ssides .exit)) (now (sends .exit)) (now (slengths .exit)) (now (svolumes .exit)) (now (slabels .exit)))
         [] (foundReply r)
-        ≡ step (finds (label .0))
+        ≡ ownStep limit removals (finds (label .0))
         (lent (tables (now (degrees .entry)) (now (sides .entry)) (now (ends .entry)) (now (lengths .entry)) (now (volumes .entry)) (now (labels .entry)))
         (asCounts counts)
-        (tables (now (sdegrees .entry)) (now (ssides .entry)) (now (sends .entry)) (now (slengths .entry)) (now (svolumes .entry)) (now (slabels .entry)))) ⌝ }
+        (tables (now (sdegrees .entry)) (now (ssides .entry)) (now (sends .entry)) (now (slengths .entry)) (now (svolumes .entry)) (now (slabels .entry))))) ⌝ }
 {
     let passed = pass_gate(
         degrees,
@@ -81,15 +83,15 @@ pub fn find_at(
     slabels: &mut [u32],
     vertex: Vertex,
 ) -> FoundChain
-    ensures { λ r. ⌜ outcome
+    ensures { λ r. ⌜ ((limit removals : ℕ) → outcome
         (tables (now (degrees .entry)) (now (sides .entry)) (now (ends .entry)) (now (lengths .entry)) (now (volumes .entry)) (now (labels .entry)))
         (asCounts counts)
         (tables (now (sdegrees .exit)) (now (ssides .exit)) (now (sends .exit)) (now (slengths .exit)) (now (svolumes .exit)) (now (slabels .exit)))
         [] (foundReply r)
-        ≡ step (findsAt (vertex .0))
+        ≡ ownStep limit removals (findsAt (vertex .0))
         (lent (tables (now (degrees .entry)) (now (sides .entry)) (now (ends .entry)) (now (lengths .entry)) (now (volumes .entry)) (now (labels .entry)))
         (asCounts counts)
-        (tables (now (sdegrees .entry)) (now (ssides .entry)) (now (sends .entry)) (now (slengths .entry)) (now (svolumes .entry)) (now (slabels .entry)))) ⌝ }
+        (tables (now (sdegrees .entry)) (now (ssides .entry)) (now (sends .entry)) (now (slengths .entry)) (now (svolumes .entry)) (now (slabels .entry))))) ⌝ }
 {
     let passed = pass_gate(
         degrees,

@@ -1,4 +1,4 @@
-// The questions, as outsiders ask them, over lent tables, counts and scratch (admission says which), one file each; `find` has two, by
+// The questions on the tables of one house, over lent tables, counts and scratch (admission says which), one file each; `find` has two, by
 // label and by vertex.
 // None asks anything of its caller: what is lent is tested first. Each passes the gate, `questions` answers, and the register is left as it is.
 pub mod distance;

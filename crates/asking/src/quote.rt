@@ -4,11 +4,12 @@ use admission::gate::Gate;
 use admission::gate::pass_gate;
 use counters::counts::Counts;
 use counters::quotes::QuoteAnswer;
-use counters::sizes::MAX_EDGES;
 use insertion::quoting::quote_edge;
 ghost use mathlib.Core.Path.{_≡_};
+ghost use Prim.Native.Nat.{ℕ};
 ghost use mathlib.Core.List.{[]};
-ghost use Rattle.model.specs.Calls.{quotes, step};
+ghost use Rattle.nursery.specs.Calls.{quotes};
+ghost use Rattle.admission.specs.Own.{ownStep};
 ghost use Rattle.counters.specs.Answers.{asCounts};
 ghost use Rattle.counters.specs.Quotes.{quoteReply};
 ghost use Rattle.tables.specs.Meaning.{tables};
@@ -28,20 +29,21 @@ pub fn quote(
     slengths: &mut [u32],
     svolumes: &mut [u32],
     slabels: &mut [u32],
+    limit: u16,
     first: u16,
     second: u16,
     length: u32,
     volume: u32,
 ) -> QuoteAnswer
-    ensures { λ r. ⌜ outcome
+    ensures { λ r. ⌜ ((removals : ℕ) → outcome
         (tables (now (degrees .entry)) (now (sides .entry)) (now (ends .entry)) (now (lengths .entry)) (now (volumes .entry)) (now (labels .entry)))
         (asCounts counts)
         (tables (now (sdegrees .exit)) (now (ssides .exit)) (now (sends .exit)) (now (slengths .exit)) (now (svolumes .exit)) (now (slabels .exit)))
         [] (quoteReply r)
-        ≡ step (quotes (record { first = first; second = second; len = length; volume = volume }))
+        ≡ ownStep limit removals (quotes (record { first = first; second = second; len = length; volume = volume }))
         (lent (tables (now (degrees .entry)) (now (sides .entry)) (now (ends .entry)) (now (lengths .entry)) (now (volumes .entry)) (now (labels .entry)))
         (asCounts counts)
-        (tables (now (sdegrees .entry)) (now (ssides .entry)) (now (sends .entry)) (now (slengths .entry)) (now (svolumes .entry)) (now (slabels .entry)))) ⌝ }
+        (tables (now (sdegrees .entry)) (now (ssides .entry)) (now (sends .entry)) (now (slengths .entry)) (now (svolumes .entry)) (now (slabels .entry))))) ⌝ }
 {
     let passed = pass_gate(
         degrees,
@@ -66,7 +68,7 @@ pub fn quote(
                 ends,
                 labels,
                 counts,
-                MAX_EDGES,
+                limit,
                 first,
                 second,
                 length,

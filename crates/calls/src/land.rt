@@ -1,23 +1,70 @@
 // Land: a list landed on the register as it is, once it has passed its replay.
+use crate::answered::Answered;
 use admission::gate::Gate;
 use admission::gate::pass_gate;
 use counters::answers::ListAnswer;
 use counters::counts::Counts;
-use counters::sizes::MAX_EDGES;
+use landing::records::Reading;
 use landing::records::land_list;
 ghost use mathlib.Core.Path.{_≡_};
+ghost use Prim.Native.Nat.{ℕ};
 ghost use mathlib.Core.List.{[]};
-ghost use Rattle.model.specs.Calls.{lands, step};
-ghost use Rattle.counters.specs.Answers.{counts, asCounts, listReply};
+ghost use Rattle.nursery.specs.Calls.{lands};
+ghost use Rattle.counters.specs.Answers.{asCounts, listReply};
 ghost use Rattle.tables.specs.Meaning.{tables};
+ghost use Rattle.landing.specs.Records.{landListIn};
+ghost use Rattle.landing.specs.Meaning.{asReading};
 ghost use Rattle.admission.specs.Lent.{lent, outcome};
+ghost use Rattle.admission.specs.Own.{ownStep};
 
-// The head's four numbers are lent one by one: `land` takes the caller's counts apart.
-fn land_with(
-    vertices: &mut u16,
-    edges: &mut u16,
-    blocks: &mut u16,
-    relabellings: &mut u32,
+// The list alone, without the gate. The counts lie here, and are updated at each landed record.
+pub fn land_read(
+    c: Counts,
+    limit: u16,
+    degrees: &mut [u16],
+    sides: &mut [u16],
+    ends: &mut [u16],
+    lengths: &mut [u32],
+    volumes: &mut [u32],
+    labels: &mut [u32],
+    list: &[u8],
+) -> Reading
+    ensures { λ r. ⌜ asReading (tables (now (degrees .exit)) (now (sides .exit)) (now (ends .exit)) (now (lengths .exit)) (now (volumes .exit)) (now (labels .exit))) r
+        ≡ landListIn (tables (now (degrees .entry)) (now (sides .entry)) (now (ends .entry)) (now (lengths .entry)) (now (volumes .entry)) (now (labels .entry))) (asCounts c) limit (now (list .entry)) ⌝ }
+{
+    let mut vertices = c.vertices;
+    let mut edges = c.edges;
+    let mut blocks = c.blocks;
+    let mut relabellings = c.relabellings;
+    let stop = land_list(
+        &mut vertices,
+        &mut edges,
+        &mut blocks,
+        &mut relabellings,
+        limit,
+        degrees,
+        sides,
+        ends,
+        lengths,
+        volumes,
+        labels,
+        list,
+    );
+    Reading {
+        counts: Counts {
+            vertices,
+            edges,
+            blocks,
+            relabellings,
+        },
+        stop,
+    }
+}
+
+// On the tables of one house. The register may not pass `limit` edges.
+pub fn land_own(
+    c: Counts,
+    limit: u16,
     degrees: &mut [u16],
     sides: &mut [u16],
     ends: &mut [u16],
@@ -31,21 +78,13 @@ fn land_with(
     svolumes: &mut [u32],
     slabels: &mut [u32],
     list: &[u8],
-) -> ListAnswer
-    ensures { λ r. ⌜ outcome (tables (now (degrees .exit)) (now (sides .exit)) (now (ends .exit)) (now (lengths .exit)) (now (volumes .exit)) (now (labels .exit)))
-        (counts (now (vertices .exit)) (now (edges .exit)) (now (blocks .exit)) (now (relabellings .exit)))
-        (tables (now (sdegrees .exit)) (now (ssides .exit)) (now (sends .exit)) (now (slengths .exit)) (now (svolumes .exit)) (now (slabels .exit))) [] (listReply r)
-        ≡ step (lands (now (list .entry)))
-        (lent (tables (now (degrees .entry)) (now (sides .entry)) (now (ends .entry)) (now (lengths .entry)) (now (volumes .entry)) (now (labels .entry)))
-        (counts (now (vertices .entry)) (now (edges .entry)) (now (blocks .entry)) (now (relabellings .entry)))
-        (tables (now (sdegrees .entry)) (now (ssides .entry)) (now (sends .entry)) (now (slengths .entry)) (now (svolumes .entry)) (now (slabels .entry)))) ⌝ }
+) -> Answered
+    ensures { λ r. ⌜ ((removals : ℕ) → outcome (tables (now (degrees .exit)) (now (sides .exit)) (now (ends .exit)) (now (lengths .exit)) (now (volumes .exit)) (now (labels .exit))) (asCounts (r .counts))
+        (tables (now (sdegrees .exit)) (now (ssides .exit)) (now (sends .exit)) (now (slengths .exit)) (now (svolumes .exit)) (now (slabels .exit))) [] (listReply (r .answer))
+        ≡ ownStep limit removals (lands (now (list .entry)))
+        (lent (tables (now (degrees .entry)) (now (sides .entry)) (now (ends .entry)) (now (lengths .entry)) (now (volumes .entry)) (now (labels .entry))) (asCounts c)
+        (tables (now (sdegrees .entry)) (now (ssides .entry)) (now (sends .entry)) (now (slengths .entry)) (now (svolumes .entry)) (now (slabels .entry))))) ⌝ }
 {
-    let counts = Counts {
-        vertices: *vertices,
-        edges: *edges,
-        blocks: *blocks,
-        relabellings: *relabellings,
-    };
     let passed = pass_gate(
         degrees,
         sides,
@@ -53,7 +92,7 @@ fn land_with(
         lengths,
         volumes,
         labels,
-        counts,
+        c,
         sdegrees,
         ssides,
         sends,
@@ -63,12 +102,9 @@ fn land_with(
     );
     match passed {
         Gate::Open => {
-            let stop = land_list(
-                vertices,
-                edges,
-                blocks,
-                relabellings,
-                MAX_EDGES,
+            let reading = land_read(
+                c,
+                limit,
                 degrees,
                 sides,
                 ends,
@@ -77,52 +113,16 @@ fn land_with(
                 labels,
                 list,
             );
-            ListAnswer::Read(stop)
+            let counts = reading.counts;
+            let stop = reading.stop;
+            Answered {
+                counts,
+                answer: ListAnswer::Read(stop),
+            }
         }
-        Gate::Refused(refusal) => ListAnswer::Refused(refusal),
+        Gate::Refused(refusal) => Answered {
+            counts: c,
+            answer: ListAnswer::Refused(refusal),
+        },
     }
-}
-
-// What outsiders call: the head counters are updated in the caller's copy.
-pub fn land(
-    counts: &mut Counts,
-    degrees: &mut [u16],
-    sides: &mut [u16],
-    ends: &mut [u16],
-    lengths: &mut [u32],
-    volumes: &mut [u32],
-    labels: &mut [u32],
-    sdegrees: &mut [u16],
-    ssides: &mut [u16],
-    sends: &mut [u16],
-    slengths: &mut [u32],
-    svolumes: &mut [u32],
-    slabels: &mut [u32],
-    list: &[u8],
-) -> ListAnswer
-    ensures { λ r. ⌜ outcome (tables (now (degrees .exit)) (now (sides .exit)) (now (ends .exit)) (now (lengths .exit)) (now (volumes .exit)) (now (labels .exit))) (asCounts (now (counts .exit)))
-        (tables (now (sdegrees .exit)) (now (ssides .exit)) (now (sends .exit)) (now (slengths .exit)) (now (svolumes .exit)) (now (slabels .exit))) [] (listReply r)
-        ≡ step (lands (now (list .entry)))
-        (lent (tables (now (degrees .entry)) (now (sides .entry)) (now (ends .entry)) (now (lengths .entry)) (now (volumes .entry)) (now (labels .entry))) (asCounts (now (counts .entry)))
-        (tables (now (sdegrees .entry)) (now (ssides .entry)) (now (sends .entry)) (now (slengths .entry)) (now (svolumes .entry)) (now (slabels .entry)))) ⌝ }
-{
-    land_with(
-        &mut counts.vertices,
-        &mut counts.edges,
-        &mut counts.blocks,
-        &mut counts.relabellings,
-        degrees,
-        sides,
-        ends,
-        lengths,
-        volumes,
-        labels,
-        sdegrees,
-        ssides,
-        sends,
-        slengths,
-        svolumes,
-        slabels,
-        list,
-    )
 }

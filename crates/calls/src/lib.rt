@@ -1,7 +1,6 @@
-// The calls that land, as outsiders call them, over lent tables, counts and scratch (admission says which), one file each. Those that only ask
-// stand in `asking`.
+// The calls that land, on the tables of one house (admission says which): 25 and 21 of that house, then the effect. One file each. What stands
+// before them, of the other houses and of the licence, is in `licence`; those that only ask stand in `asking`.
 // None asks anything of its caller: what is lent is tested first.
-// `grow`, `land` and `commit` are thin: they take the counts apart, and `grow_with`, `land_with` and `commit_with` do the work.
 pub mod answered;
 pub mod commit;
 pub mod grow;

@@ -3,6 +3,3 @@ pub mod WalkLaws
 pub mod VolumeLaws
 pub mod NameLaws
 pub mod SheetLaws
-pub mod LookingLaws
-pub mod NewestLaws
-pub mod OrderLaws

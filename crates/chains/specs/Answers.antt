@@ -1,30 +1,8 @@
--- What the enums and structs of this crate mean.
+-- What the struct of this crate means.
 use Prim.Native.Nat.{ℕ}
 use mathlib.Core.List.{List, [], _∷_}
-use mathlib.Core.Option.{Option, none, some}
-use Rattle.model.specs.Queries.{Reply, found}
-use Rattle.chains.specs.Looking as looking
-use Rattle.chains.specs.Newest as newest
 use Rattle.chains.specs.declared.rows.Row.{Row}
-use Rattle.chains.specs.declared.looking.Seen.{Seen}
-use Rattle.chains.specs.declared.looking.Look.{Look}
-use Rattle.chains.specs.declared.looking.Found.{Found}
-use Rattle.chains.specs.declared.looking.Found.the-variants.{Chain, Nothing}
-use Rattle.chains.specs.declared.newest.Searched.{Searched}
 
 -- "name, end with the lower number, other end, couplings, length", and the volume (S-4)
 abbrev pub rowOf : Row → List ℕ
 rowOf r = r .name .0 ∷ r .lower .0 ∷ r .other .0 ∷ r .inner ∷ r .length .0 ∷ r .volume .0 ∷ []
-
-abbrev pub asSeen : Seen → looking.Seen
-asSeen s = looking.seen (s .wearer) (s .before .0) (s .behind .0) (s .lowest .0)
-
-abbrev pub asLook : Look → looking.Look
-asLook l = looking.look (l .at .0) (asSeen (l .known))
-
-abbrev pub asFound : Found → Option Reply
-asFound (Chain name v low high) = some (found (name .0) (v .0) (low .0) (high .0))
-asFound Nothing = none
-
-abbrev pub asSought : Searched → newest.Sought
-asSought s = newest.sought (asFound (s .found)) (s .taken)

@@ -1,6 +1,2 @@
 pub mod Chains
-pub mod Looking
-pub mod Newest
-pub mod Order
-pub mod Finding
 pub mod Answers

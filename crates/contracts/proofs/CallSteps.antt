@@ -16,26 +16,30 @@ use denote.Triple.Entry.{Args, Res}
 use denote.Triple.Clauses.{AtExit, ClausesAt, Ended}
 use Rattle.model.specs.Queries.{Reply}
 use Rattle.model.specs.Tables.{Tables}
-use Rattle.model.specs.Calls.{Call, commits, fetches, finds, findsAt, grows, lands, measures, opens, quotes, sheets, step, writes}
-use Rattle.counters.specs.declared.counts.Counts.{Counts}
-use Rattle.counters.specs.Answers.{asCounts, listReply}
+use Rattle.nursery.specs.Calls.{Call, HouseCall, commits, fetches, finds, findsAt, grows, inHouse, lands, measures, opens, quotes, removes, setsShares, sheets, step, writes}
+use Rattle.counters.specs.Answers.{listReply}
 use Rattle.counters.specs.Quotes.{asQuote, commitReply, quoteReply}
 use Rattle.tables.specs.Meaning.{tables}
-use Rattle.admission.specs.Lent.{lent, outcome}
+use Rattle.heads.specs.declared.heads.Heads.{Heads}
+use Rattle.heads.specs.Meaning.{lent, outcome}
 use Rattle.questions.specs.Meaning.{foundReply, listedReply, measuredReply, writtenReply}
 use Rattle.opening.specs.declared.sheets.OpenSheet.{OpenSheet}
 use Rattle.opening.specs.Meaning.{asSheet, fetchedReply, openedReply}
-use Rattle.calls.proofs.grow.grow as grow
-use Rattle.calls.proofs.land.land as land
-use Rattle.calls.proofs.commit.commit as commit
-use Rattle.asking.proofs.find.find as find
-use Rattle.asking.proofs.find.find_at as find-at
-use Rattle.asking.proofs.sheet.sheet as sheet
-use Rattle.asking.proofs.write.write as write
-use Rattle.asking.proofs.distance.distance as distance
-use Rattle.asking.proofs.quote.quote as quote
-use Rattle.opening.proofs.sheets.OpenSheet.open as open-sheet
-use Rattle.opening.proofs.sheets.OpenSheet.fetch as fetch-line
+use Rattle.rest.specs.Meaning.{removedReply}
+use Rattle.sharing.specs.Meaning.{sharesReply}
+use Rattle.growing.proofs.grow.grow as grow
+use Rattle.growing.proofs.land.land as land
+use Rattle.growing.proofs.commit.commit as commit
+use Rattle.finding.proofs.find.find as find
+use Rattle.finding.proofs.find.find_at as find-at
+use Rattle.measuring.proofs.distance.distance as distance
+use Rattle.measuring.proofs.quote.quote as quote
+use Rattle.sheeting.proofs.sheet.sheet as sheet
+use Rattle.sheeting.proofs.write.write as write
+use Rattle.paging.proofs.opened.open as open-sheet
+use Rattle.paging.proofs.opened.fetch as fetch-line
+use Rattle.sharing.proofs.shares.set_shares as set-shares
+use Rattle.taking.proofs.remove.remove as remove
 
 -- ---- the parameters of a call
 
@@ -43,9 +47,9 @@ use Rattle.opening.proofs.sheets.OpenSheet.fetch as fetch-line
 abbrev Six : Type 0 → Type 0
 Six R = RefT (List ℕ) × (RefT (List ℕ) × (RefT (List ℕ) × (RefT (List ℕ) × (RefT (List ℕ) × (RefT (List ℕ) × R)))))
 
--- the tables, the counts, the scratch tables, then the query's own
+-- the tables, the heads, the shares, the scratch tables, the house, then the query's own
 abbrev Query : Type 0 → Type 0
-Query R = Six (Counts × Six R)
+Query R = Six (Heads × (RefT (List ℕ) × Six (ℕ × R)))
 
 -- what six slices hold
 abbrev tablesIn : {R : Type 0} → Six R → Tables
@@ -57,11 +61,19 @@ past a = a .1 .1 .1 .1 .1 .1
 
 -- a query's own parameters
 abbrev own : {R : Type 0} → Query R → R
-own a = past (past a .1)
+own a = past (past a .1 .1) .1
 
--- the parameters of a landing: the counts, the tables, the scratch tables, then its own
+-- the parameters of a landing: the heads, the tables, the shares, the scratch tables, the house, then its own
 abbrev Lands : Type 0 → Type 0
-Lands R = RefT Counts × Six (Six R)
+Lands R = RefT Heads × Six (RefT (List ℕ) × Six (ℕ × R))
+
+-- its own
+abbrev lands-own : {R : Type 0} → Lands R → R
+lands-own a = past (past (a .1) .1) .1
+
+-- the parameters of setting the shares: the tables, the heads, the shares, the scratch tables, then the shares that are asked for
+abbrev Shares : Type 0 → Type 0
+Shares R = Six (Heads × (RefT (List ℕ) × Six R))
 
 -- ---- the contracts
 
@@ -70,63 +82,82 @@ module _ {M : Type 1} (𝓤 : URA M) (H : Heap 𝓤) (A : Atoms 𝓤) (mem : Mem
   abbrev Ensures : (T : Ended) (κs : Lfts (T .signature .lifetimes)) → (Res (T .signature) κs → AtExit T κs → SProp 𝓤) → ClausesAt 𝓤 T κs
   Ensures T κs ensures = record { ghost = Unit {0}; requires = λ g. emp 𝓤; ensures = λ g r z. ensures r z }
 
-  -- with the arguments a, and z at its end, a query leaves and answers what `step` has at call c
-  abbrev Steps : {R S : Type 0} → Query R → Query S → List ℕ → Reply → Call → SProp 𝓤
+  -- with the arguments a, and z at its end, a query leaves and answers what `step` has at call c for its house
+  abbrev Steps : {R S : Type 0} → Query R → Query S → List ℕ → Reply → HouseCall → SProp 𝓤
   Steps a z slice reply c =
       let before = tablesIn a in
-      let counts = asCounts (past a .0) in
-      fact 𝓤 (outcome before counts (tablesIn (past z .1)) slice reply ≡ step c (lent before counts (tablesIn (past a .1))))
+      let heads = past a .0 in
+      let shares = now (past a .1 .0) in
+      fact 𝓤 (outcome before heads shares (tablesIn (past z .1 .1)) slice reply
+      ≡ step (inHouse (past (past a .1 .1) .0) c) (lent before heads shares (tablesIn (past a .1 .1))))
 
-  pub find-steps : (κs : Lfts 12) (a : Args find.signature κs)
+  pub find-steps : (κs : Lfts 13) (a : Args find.signature κs)
       → find.clauses 𝓤 H A mem run κs a ≡ Ensures find.ended κs (λ r z. Steps a z [] (foundReply r) (finds (own a .0 .0)))
   find-steps κs a = refl
 
-  pub find-at-steps : (κs : Lfts 12) (a : Args find-at.signature κs)
+  pub find-at-steps : (κs : Lfts 13) (a : Args find-at.signature κs)
       → find-at.clauses 𝓤 H A mem run κs a ≡ Ensures find-at.ended κs (λ r z. Steps a z [] (foundReply r) (findsAt (own a .0 .0)))
   find-at-steps κs a = refl
 
-  pub sheet-steps : (κs : Lfts 13) (a : Args sheet.signature κs)
+  pub sheet-steps : (κs : Lfts 14) (a : Args sheet.signature κs)
       → sheet.clauses 𝓤 H A mem run κs a ≡ Ensures sheet.ended κs (λ r z. Steps a z (now (own z .0)) (listedReply r) (sheets (now (own a .0))))
   sheet-steps κs a = refl
 
-  pub write-steps : (κs : Lfts 13) (a : Args write.signature κs)
+  pub write-steps : (κs : Lfts 14) (a : Args write.signature κs)
       → write.clauses 𝓤 H A mem run κs a ≡ Ensures write.ended κs (λ r z. Steps a z (now (own z .0)) (writtenReply r) (writes (now (own a .0))))
   write-steps κs a = refl
 
-  pub distance-steps : (κs : Lfts 12) (a : Args distance.signature κs)
+  pub distance-steps : (κs : Lfts 13) (a : Args distance.signature κs)
       → distance.clauses 𝓤 H A mem run κs a
       ≡ Ensures distance.ended κs (λ r z. Steps a z [] (measuredReply r) (measures (own a .0 .0) (own a .1 .0 .0)))
   distance-steps κs a = refl
 
-  pub quote-steps : (κs : Lfts 12) (a : Args quote.signature κs)
+  pub quote-steps : (κs : Lfts 13) (a : Args quote.signature κs)
       → quote.clauses 𝓤 H A mem run κs a
       ≡ Ensures quote.ended κs (λ r z. Steps a z [] (quoteReply r)
       (quotes (record { first = own a .0; second = own a .1 .0; len = own a .1 .1 .0; volume = own a .1 .1 .1 .0 })))
   quote-steps κs a = refl
 
-  pub open-steps : (κs : Lfts 12) (a : Args open-sheet.signature κs)
+  pub open-steps : (κs : Lfts 13) (a : Args open-sheet.signature κs)
       → open-sheet.clauses 𝓤 H A mem run κs a ≡ Ensures open-sheet.ended κs (λ r z. Steps a z [] (openedReply r) opens)
   open-steps κs a = refl
 
-  -- the sheet stands before the tables
-  pub fetch-steps : (κs : Lfts 12) (a : Args fetch-line.signature κs)
-      → fetch-line.clauses 𝓤 H A mem run κs a ≡ Ensures fetch-line.ended κs (λ r z. Steps (a .1) (z .1) [] (fetchedReply r) (fetches (asSheet (a .0))))
+  pub fetch-steps : (κs : Lfts 13) (a : Args fetch-line.signature κs)
+      → fetch-line.clauses 𝓤 H A mem run κs a ≡ Ensures fetch-line.ended κs (λ r z. Steps a z [] (fetchedReply r) (fetches (asSheet (own a .0))))
   fetch-steps κs a = refl
 
-  -- with the arguments a, and z at its end, a landing leaves and answers what `step` has at call c
-  abbrev LandSteps : {R S : Type 0} → Lands R → Lands S → Reply → Call → SProp 𝓤
+  -- with the arguments a, and z at its end, a landing leaves and answers what `step` has at call c for its house
+  abbrev LandSteps : {R S : Type 0} → Lands R → Lands S → Reply → HouseCall → SProp 𝓤
   LandSteps a z reply c =
-      fact 𝓤 (outcome (tablesIn (z .1)) (asCounts (now (z .0))) (tablesIn (past (z .1))) [] reply
-      ≡ step c (lent (tablesIn (a .1)) (asCounts (now (a .0))) (tablesIn (past (a .1)))))
+      let shares = now (past (a .1) .0) in
+      fact 𝓤 (outcome (tablesIn (z .1)) (now (z .0)) shares (tablesIn (past (z .1) .1)) [] reply
+      ≡ step (inHouse (past (past (a .1) .1) .0) c) (lent (tablesIn (a .1)) (now (a .0)) shares (tablesIn (past (a .1) .1))))
 
-  pub grow-steps : (κs : Lfts 14) (a : Args grow.signature κs)
-      → grow.clauses 𝓤 H A mem run κs a ≡ Ensures grow.ended κs (λ r z. LandSteps a z (listReply r) (grows (now (past (past (a .1)) .0))))
+  pub grow-steps : (κs : Lfts 15) (a : Args grow.signature κs)
+      → grow.clauses 𝓤 H A mem run κs a ≡ Ensures grow.ended κs (λ r z. LandSteps a z (listReply r) (grows (now (lands-own a .0))))
   grow-steps κs a = refl
 
-  pub land-steps : (κs : Lfts 14) (a : Args land.signature κs)
-      → land.clauses 𝓤 H A mem run κs a ≡ Ensures land.ended κs (λ r z. LandSteps a z (listReply r) (lands (now (past (past (a .1)) .0))))
+  pub land-steps : (κs : Lfts 15) (a : Args land.signature κs)
+      → land.clauses 𝓤 H A mem run κs a ≡ Ensures land.ended κs (λ r z. LandSteps a z (listReply r) (lands (now (lands-own a .0))))
   land-steps κs a = refl
 
-  pub commit-steps : (κs : Lfts 13) (a : Args commit.signature κs)
-      → commit.clauses 𝓤 H A mem run κs a ≡ Ensures commit.ended κs (λ r z. LandSteps a z (commitReply r) (commits (asQuote (past (past (a .1)) .0))))
+  pub commit-steps : (κs : Lfts 14) (a : Args commit.signature κs)
+      → commit.clauses 𝓤 H A mem run κs a ≡ Ensures commit.ended κs (λ r z. LandSteps a z (commitReply r) (commits (asQuote (lands-own a .0))))
   commit-steps κs a = refl
+
+  -- a removal has a slice, and the pipe's number before it
+  pub remove-steps : (κs : Lfts 15) (a : Args remove.signature κs)
+      → remove.clauses 𝓤 H A mem run κs a ≡ Ensures remove.ended κs (λ r z.
+      let shares = now (past (a .1) .0) in
+      fact 𝓤 (outcome (tablesIn (z .1)) (now (z .0)) shares (tablesIn (past (z .1) .1)) (now (lands-own z .1 .0)) (removedReply r)
+      ≡ step (inHouse (past (past (a .1) .1) .0) (removes (lands-own a .0) (now (lands-own a .1 .0)))) (lent (tablesIn (a .1)) (now (a .0)) shares (tablesIn (past (a .1) .1)))))
+  remove-steps κs a = refl
+
+  -- the shares
+  pub shares-steps : (κs : Lfts 14) (a : Args set-shares.signature κs)
+      → set-shares.clauses 𝓤 H A mem run κs a ≡ Ensures set-shares.ended κs (λ r z.
+      let before = tablesIn a in
+      let heads = past a .0 in
+      fact 𝓤 (outcome before heads (now (past z .1 .0)) (tablesIn (past z .1 .1)) [] (sharesReply r)
+      ≡ step (setsShares (now (past (past a .1 .1) .0))) (lent before heads (now (past a .1 .0)) (tablesIn (past a .1 .1)))))
+  shares-steps κs a = refl

@@ -1,5 +1,6 @@
 -- What is fetched over the tables of a register is what is defined to be fetched from it.
 use mathlib.Core.Path.{_≡_, refl, sym, ap, _∙_, subst}
+use mathlib.Core.Logic.{_≢_}
 use Prim.Native.Nat.{ℕ, zero, suc, _≤_}
 use native.Mathlib.Omega.{arith}
 use native.Mathlib.Nat.{not-suc-le-zero}
@@ -8,15 +9,16 @@ use mathlib.Core.List.{List, [], _∷_, map}
 use mathlib.Core.Option.{some}
 use lib.ListN.{length, take}
 use lib.Dec.{ltb}
-use borrow.Author.Tests.{ltb-false}
-use Rattle.model.specs.Basics.{countFrom, maxEdges, upTo}
+use borrow.Author.Tests.{eq-eqb, ltb-false}
+use Rattle.model.specs.Basics.{countFrom, if_then_else_, maxEdges, upTo}
 use Rattle.model.specs.Graph.{Edge}
 use Rattle.model.specs.Register.{Landed, Register, landed, refused}
-use Rattle.model.specs.Queries.{OpenSheet, Reply, sheet}
-use Rattle.model.specs.Opened.{anyBeyond, fetch, fetchLine, isBeyond, lineAt, openedEdges}
+use Rattle.model.specs.Queries.{OpenSheet, Reply, refuses, sheet}
+use Rattle.model.specs.Opened.{anyBeyond, fetch, fetchLine, isBeyond, isEnded, lineAt, openedEdges, openedLines}
 use Rattle.model.specs.Tables.{Counts, Stored, Tables, cleared, countsOf, growFrom, storedEdge, storedEdges, tablesOf}
-use Rattle.model.specs.Calls.{answer, answers, effect, fetches}
+use Rattle.model.specs.Calls.{House, answer, answers, fetching}
 use Rattle.model.specs.Notions.{HeldOf, NamedIn, Reachable}
+use Rattle.model.proofs.Registers.Fetched.{fetch-ended}
 use Rattle.model.proofs.Registers.Named.{beyond-refused, named}
 use Rattle.model.proofs.Registers.OnlyHeld.{held-counts, held-tables}
 use Rattle.model.proofs.Registers.ReadBack.{edges-read}
@@ -74,12 +76,13 @@ module _ (r : Register) (g : Reachable r) (s : OpenSheet) where
           ∙ ap (λ (rows : List (List ℕ)). fetchLine s (lineAt (s .place) rows)) (ap (λ (m : ℕ). sheetOver (tablesOf q) m maxEdges) (sym n) ∙ sheet-agrees q k maxEdges (omega arith))
       go (refusedIn x) p = absurd (none-some _ (ap (leftAs ((regrown t c) .tables)) (sym p) ∙ e))
 
-  pub fetch-agrees : fetchedOver ≡ fetch r s
-  unfolding fetchIn fetch isBeyond countsOf openedEdges
-  fetch-agrees = go _ refl _ refl _ refl
+  over-agrees : fetchedOver ≡ (if isBeyond r s then refuses 33 else fetchLine s (lineAt (s .place) (openedLines r s)))
+  unfolding fetchIn isBeyond countsOf openedEdges
+  over-agrees = go _ refl _ refl _ refl
     where
       go : (v : Bool) → ltb (r .vertices) (s .vertices) ≡ v → (e : Bool) → ltb (length (r .edges)) (s .edges) ≡ e
-          → (b : Bool) → anyBeyond (s .vertices) (openedEdges r s) ≡ b → fetchedOver ≡ fetch r s
+          → (b : Bool) → anyBeyond (s .vertices) (openedEdges r s) ≡ b
+          → fetchedOver ≡ (if isBeyond r s then refuses 33 else fetchLine s (lineAt (s .place) (openedLines r s)))
       go true p e q b w = rw p
       go false p true q b w = rw (p, q)
       go false p false q true w =
@@ -93,10 +96,21 @@ module _ (r : Register) (g : Reachable r) (s : OpenSheet) where
           let a = agrees-so (ltb-false (length (r .edges)) (s .edges) q) (landed (n .register)) (n .grown) in
           rw (p, q, w) (line-on (n .register) (n .reachable) (n .edges-counted) a ∙ ap (λ (rows : List (List ℕ)). fetchLine s (lineAt (s .place) rows)) (sym (n .lines-are)))
 
+  -- a sheet with the count of removals that the house has
+  pub fetch-agrees : (removals : ℕ) → s .removals ≡ removals → fetchedOver ≡ fetch removals r s
+  unfolding fetch isEnded
+  fetch-agrees removals e = rw (eq-eqb (s .removals) removals e) over-agrees
+
 -- so is it from tables and counts that hold a register
 pub fetch-answers : (t : Tables) (c : Counts) (s : OpenSheet) (a : Reply) → a ≡ fetchIn (t .ends) (t .lengths) (t .volumes) c s cleared
-    → (r : Register) → HeldOf (stored t c) r → effect (fetches s) r ≡ record { leaves = r; slice = []; reply = a }
-unfolding effect answer answers
-fetch-answers t c s a h r k =
-    let f : fetchIn (t .ends) (t .lengths) (t .volumes) c s cleared ≡ fetch r s = rw (held-tables k, held-counts k) at (fetch-agrees r (k .reachable) s) in
+    → (o : House) → HeldOf (stored t c) (o .register) → s .removals ≡ o .removals → answer (fetching s) o ≡ record { slice = []; reply = a }
+unfolding answer answers
+fetch-answers t c s a h o k e =
+    let r = o .register in
+    let f : fetchIn (t .ends) (t .lengths) (t .volumes) c s cleared ≡ fetch (o .removals) r s = rw (held-tables k, held-counts k) at (fetch-agrees r (k .reachable) s (o .removals) e) in
     rw (h, f)
+
+-- and a sheet with another one is ended
+pub ended-answers : (s : OpenSheet) (o : House) → s .removals ≢ o .removals → answer (fetching s) o ≡ record { slice = []; reply = refuses 39 }
+unfolding answer answers
+ended-answers s o d = rw (fetch-ended (o .removals) (o .register) s d)

@@ -28,13 +28,13 @@ line-behind f [] rest e = refl
 line-behind f (d ∷ found) rest e = line-behind f found rest e
 
 module _ (ds ss es ls vs : List ℕ) (n : ℕ) (ms₀ : List ℕ) (e : ℕ) (ms found : List ℕ) (s : Sweeps ds ss es n ms₀ e ms found)
-    (vertices place before : ℕ) (past : length found + before ≡ place) where
+    (vertices removals place before : ℕ) (past : length found + before ≡ place) where
   abbrev rows : List (List ℕ)
   rows = sheetIn ds ss es ls vs n ms₀
 
   -- the chain of edge e is the one at the place
   pub line-here : (row : List ℕ) → e < n → before ≡ 0 → row ≡ rowIn ds ss es ls vs n e
-      → fetched row (openSheet vertices n (place + 1)) ≡ fetchLine (openSheet vertices n place) (lineAt place rows)
+      → fetched row (openSheet vertices n (place + 1) removals) ≡ fetchLine (openSheet vertices n place removals) (lineAt place rows)
   unfolding fetchLine movedOn sheetIn rowsIn sweepIn
   line-here row h z q =
       let f : ℕ → List ℕ = rowIn ds ss es ls vs n in
@@ -44,15 +44,15 @@ module _ (ds ss es ls vs : List ℕ) (n : ℕ) (ms₀ : List ℕ) (e : ℕ) (ms 
       let names : found ++ (e ∷ rest) ≡ namesIn ds ss es n ms₀ = rw (more, eq-eqb _ _ (s .unmarked h), sweepIn) at (s .whole) in
       let p : place ≡ length found = omega arith in
       let here : lineAt place rows ≡ some (f e) = ap (λ (m : ℕ). lineAt m rows) p ∙ ap (λ (ds : List ℕ). lineAt (length found) (map f ds)) (sym names) ∙ line-behind f found rest e in
-      ap (λ (ns : List ℕ). fetched ns (openSheet vertices n (place + 1))) q ∙ sym (ap (fetchLine (openSheet vertices n place)) here)
+      ap (λ (ns : List ℕ). fetched ns (openSheet vertices n (place + 1) removals)) q ∙ sym (ap (fetchLine (openSheet vertices n place removals)) here)
 
   -- all chains are passed over
-  pub line-past : n ≤ e → finished (openSheet vertices n place) ≡ fetchLine (openSheet vertices n place) (lineAt place rows)
+  pub line-past : n ≤ e → finished (openSheet vertices n place removals) ≡ fetchLine (openSheet vertices n place removals) (lineAt place rows)
   unfolding fetchLine
   line-past h =
       let all : found ≡ namesIn ds ss es n ms₀ = sweep-end ds ss es n ms₀ e ms found h s in
       let few : length rows ≤ place = omega (arith, sheet-count ds ss es ls vs n ms₀, ap length all) in
-      sym (ap (fetchLine (openSheet vertices n place)) (line-none place rows few))
+      sym (ap (fetchLine (openSheet vertices n place removals)) (line-none place rows few))
 
 -- ---- 33, and the line behind it
 

@@ -4,6 +4,7 @@ use crate::named::line_named;
 use counters::counts::Counts;
 use tables::whole::clear_tables;
 ghost use mathlib.Core.Path.{_≡_};
+ghost use Prim.Native.Nat.{ℕ};
 ghost use Rattle.counters.specs.Answers.{asCounts};
 ghost use Rattle.tables.specs.Meaning.{tables};
 ghost use Rattle.tables.specs.Steps.{zeroed};
@@ -25,8 +26,8 @@ pub fn line_cleared(
     edges: u16,
     place: u16,
 ) -> Line
-    ensures { λ r. ⌜ (lineReply (openSheet vertices edges place) r
-        ≡ fetchIn (now (ends .entry)) (now (lengths .entry)) (now (volumes .entry)) (asCounts counts) (openSheet vertices edges place)
+    ensures { λ r. ⌜ ((removals : ℕ) → lineReply (openSheet vertices edges place removals) r
+        ≡ fetchIn (now (ends .entry)) (now (lengths .entry)) (now (volumes .entry)) (asCounts counts) (openSheet vertices edges place removals)
         (tables (now (sdegrees .entry)) (now (ssides .entry)) (now (sends .entry)) (now (slengths .entry)) (now (svolumes .entry)) (now (slabels .entry))))
         × (tables (now (sdegrees .exit)) (now (ssides .exit)) (now (sends .exit)) (now (slengths .exit)) (now (svolumes .exit)) (now (slabels .exit))
         ≡ zeroed (tables (now (sdegrees .entry)) (now (ssides .entry)) (now (sends .entry)) (now (slengths .entry)) (now (svolumes .entry)) (now (slabels .entry)))) ⌝ }

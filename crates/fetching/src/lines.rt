@@ -27,8 +27,8 @@ pub fn line_at(
     edges: u16,
     place: u16,
 ) -> Line
-    ensures { λ r. ⌜ ((vertices : ℕ) → lineReply (openSheet vertices edges place) r
-        ≡ fetchLine (openSheet vertices edges place) (lineAt place
+    ensures { λ r. ⌜ ((vertices removals : ℕ) → lineReply (openSheet vertices edges place removals) r
+        ≡ fetchLine (openSheet vertices edges place removals) (lineAt place
         (sheetIn (now (degrees .entry)) (now (sides .entry)) (now (ends .entry)) (now (lengths .entry)) (now (volumes .entry)) edges (now (marks .entry))))) ⌝ }
 {
     let mut before = place;

@@ -6,6 +6,7 @@ use counters::sizes::EDGES;
 use holding::replay::regrow;
 use insertion::edges::Inserted;
 ghost use mathlib.Core.Path.{_≡_};
+ghost use Prim.Native.Nat.{ℕ};
 ghost use Rattle.counters.specs.Answers.{asCounts};
 ghost use Rattle.tables.specs.Meaning.{tables};
 ghost use Rattle.fetching.specs.Meaning.{lineReply, openSheet};
@@ -28,9 +29,9 @@ pub fn line_named(
     edges: u16,
     place: u16,
 ) -> Line
-    ensures { λ r. ⌜ lineReply (openSheet vertices edges place) r
-        ≡ fetchIn (now (ends .entry)) (now (lengths .entry)) (now (volumes .entry)) (asCounts counts) (openSheet vertices edges place)
-        (tables (now (sdegrees .entry)) (now (ssides .entry)) (now (sends .entry)) (now (slengths .entry)) (now (svolumes .entry)) (now (slabels .entry))) ⌝ }
+    ensures { λ r. ⌜ ((removals : ℕ) → lineReply (openSheet vertices edges place removals) r
+        ≡ fetchIn (now (ends .entry)) (now (lengths .entry)) (now (volumes .entry)) (asCounts counts) (openSheet vertices edges place removals)
+        (tables (now (sdegrees .entry)) (now (ssides .entry)) (now (sends .entry)) (now (slengths .entry)) (now (svolumes .entry)) (now (slabels .entry)))) ⌝ }
 {
     if counts.vertices < vertices {
         return Line::Beyond;

@@ -14,8 +14,8 @@ ghost use Rattle.insertion.specs.Insertion.{landingIn};
 ghost use Rattle.insertion.specs.Committing.{commitIn};
 ghost use Rattle.insertion.specs.Meaning.{asAnswer};
 
-// A quote with a refusal that still holds is the same as one made now, and landing its edge gives that refusal. `rings` may be false only
-// where no ring stands.
+// A quote with a refusal that still holds is the same as one made now, and landing its edge gives that refusal. The quote made now is of a
+// register that may not pass `limit` edges. `rings` may be false only where no ring stands.
 pub fn commit_quote(
     degrees: &mut [u16],
     sides: &mut [u16],

@@ -133,8 +133,8 @@ fn commit_edge(
     }
 }
 
-// Document 02, S-5: a quote and its commit. Every refusal in its order; a refused edge leaves the tables. `rings` may be false only where
-// no ring stands; the answer's is then false only where none stands after the edge.
+// Document 02, S-5: a quote and its commit, in a register that may not pass `limit` edges. Every refusal in its order; a refused edge leaves
+// the tables. `rings` may be false only where no ring stands; the answer's is then false only where none stands after the edge.
 pub fn land_edge(
     degrees: &mut [u16],
     sides: &mut [u16],

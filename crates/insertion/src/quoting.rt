@@ -126,7 +126,7 @@ fn quote_with(
     }
 }
 
-// The quote and what its commit does, decided together: nothing is walked twice.
+// The quote and what its commit does, in a register that may not pass `limit` edges, decided together: nothing is walked twice.
 pub fn prepare_edge(
     degrees: &[u16],
     sides: &[u16],

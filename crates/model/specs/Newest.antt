@@ -8,7 +8,7 @@ use lib.Dec.{eqb, ltb}
 use Rattle.model.specs.Basics.{least, upTo}
 use Rattle.model.specs.Graph.{chainOf, nameOf}
 use Rattle.model.specs.Register.{Register, labelOf}
-use Rattle.model.specs.Queries.{Reply, read, found, measured, listed, wrote, quoted, committed, opened, fetched, finished, refuses}
+use Rattle.model.specs.Queries.{Reply, read, found, measured, listed, wrote, quoted, committed, opened, fetched, finished, reported, allotted, refuses}
 
 -- the labels on the chain or ring named d
 unfoldable pub innerLabels : Register → ℕ → List ℕ
@@ -73,4 +73,6 @@ chainIn committed = none
 chainIn (opened s) = none
 chainIn (fetched ns s) = none
 chainIn (finished s) = none
+chainIn (reported n) = none
+chainIn allotted = none
 chainIn (refuses n) = none

@@ -4,19 +4,19 @@ use mathlib.Core.Bool.{Bool, false, not, _&&_, _||_}
 use mathlib.Core.List.{List, [], _∷_}
 use mathlib.Core.Option.{Option, none, some}
 use lib.ListN.{length, take}
-use lib.Dec.{ltb}
+use lib.Dec.{eqb, ltb}
 use Rattle.model.specs.Basics.{if_then_else_, upTo}
 use Rattle.model.specs.Graph.{Edge}
 use Rattle.model.specs.Register.{Register}
 use Rattle.model.specs.Queries.{Reply, OpenSheet, fetched, finished, refuses, rowsOf}
 
--- "A sheet is opened": the register's counts, and the place of the first line
-unfoldable pub openingOf : Register → OpenSheet
-openingOf r = record { vertices = r .vertices; edges = length (r .edges); place = 0 }
+-- "A sheet is opened": the register's counts, the place of the first line, and the count of removals
+unfoldable pub openingOf : ℕ → Register → OpenSheet
+openingOf removals r = record { vertices = r .vertices; edges = length (r .edges); place = 0; removals = removals }
 
 -- "moves on by one"
 unfoldable pub movedOn : OpenSheet → OpenSheet
-movedOn s = record { vertices = s .vertices; edges = s .edges; place = s .place + 1 }
+movedOn s = record { vertices = s .vertices; edges = s .edges; place = s .place + 1; removals = s .removals }
 
 -- the first edges, as many as there were at the opening
 unfoldable pub openedEdges : Register → OpenSheet → List Edge
@@ -47,5 +47,13 @@ unfoldable pub fetchLine : OpenSheet → Option (List ℕ) → Reply
 fetchLine s (some ns) = fetched ns (movedOn s)
 fetchLine s none = finished s
 
-unfoldable pub fetch : Register → OpenSheet → Reply
-fetch r s = if isBeyond r s then refuses 33 else fetchLine s (lineAt (s .place) (openedLines r s))
+-- S-11: an open sheet "is ended when it differs", that is, when its count is not that of the removals
+unfoldable pub isEnded : ℕ → OpenSheet → Bool
+isEnded removals s = not (eqb (s .removals) removals)
+
+-- "39 sheet so ended, just before 33"
+unfoldable pub fetch : ℕ → Register → OpenSheet → Reply
+fetch removals r s =
+    if isEnded removals s then refuses 39
+    else if isBeyond r s then refuses 33
+    else fetchLine s (lineAt (s .place) (openedLines r s))

@@ -8,9 +8,9 @@ use Rattle.opening.specs.declared.sheets.Opened.the-variants as opened
 use Rattle.opening.specs.declared.sheets.Fetched.{Fetched}
 use Rattle.opening.specs.declared.sheets.Fetched.the-variants as fetched
 
--- the opening counts and the place
+-- the opening counts, the place and the count of removals
 abbrev pub asSheet : OpenSheet → Q.OpenSheet
-asSheet s = record { vertices = s .vertices; edges = s .edges; place = s .place }
+asSheet s = record { vertices = s .vertices; edges = s .edges; place = s .place; removals = s .removals }
 
 abbrev pub openedReply : Opened → Q.Reply
 openedReply (opened.Sheet s) = Q.opened (asSheet s)

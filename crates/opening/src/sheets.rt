@@ -8,19 +8,23 @@ use fetching::cleared::line_cleared;
 use fetching::lines::Line;
 ghost use mathlib.Core.Path.{_≡_};
 ghost use mathlib.Core.List.{[]};
-ghost use Rattle.model.specs.Calls.{fetches, opens, step};
+ghost use Prim.Native.Nat.{ℕ};
+ghost use Rattle.nursery.specs.Calls.{fetches, opens};
+ghost use Rattle.admission.specs.Own.{ownStep};
 ghost use Rattle.counters.specs.Answers.{asCounts};
 ghost use Rattle.tables.specs.Meaning.{tables};
 ghost use Rattle.fetching.specs.Meaning.{lineReply};
 ghost use Rattle.admission.specs.Lent.{lent, outcome};
 ghost use Rattle.opening.specs.Meaning.{asSheet, fetchedReply, openedReply};
 
-// The counts of vertices and edges (document 01: fittings and pipes) at the opening, and the place of the next line. It is its caller's to
-// keep, and no part of the register: landing goes on meanwhile, and any number of sheets may be open.
+// The counts of vertices and edges (document 01: fittings and pipes) at the opening, the place of the next line, and the house's count of
+// removals at the opening (document 02, S-11). It is its caller's to keep, and no part of the register: landing goes on meanwhile, and any
+// number of sheets may be open.
 pub struct OpenSheet {
     pub vertices: u16,
     pub edges: u16,
     pub place: u16,
+    pub removals: u32,
 }
 
 pub enum Opened {
@@ -51,16 +55,17 @@ impl OpenSheet {
         slengths: &mut [u32],
         svolumes: &mut [u32],
         slabels: &mut [u32],
+        removals: u32,
     ) -> Opened
-        ensures { λ r. ⌜ outcome
+        ensures { λ r. ⌜ ((limit : ℕ) → outcome
             (tables (now (degrees .entry)) (now (sides .entry)) (now (ends .entry)) (now (lengths .entry)) (now (volumes .entry)) (now (labels .entry)))
             (asCounts counts)
             (tables (now (sdegrees .exit)) (now (ssides .exit)) (now (sends .exit)) (now (slengths .exit)) (now (svolumes .exit)) (now (slabels .exit)))
             [] (openedReply r)
-            ≡ step opens
+            ≡ ownStep limit removals opens
             (lent (tables (now (degrees .entry)) (now (sides .entry)) (now (ends .entry)) (now (lengths .entry)) (now (volumes .entry)) (now (labels .entry)))
             (asCounts counts)
-            (tables (now (sdegrees .entry)) (now (ssides .entry)) (now (sends .entry)) (now (slengths .entry)) (now (svolumes .entry)) (now (slabels .entry)))) ⌝ }
+            (tables (now (sdegrees .entry)) (now (ssides .entry)) (now (sends .entry)) (now (slengths .entry)) (now (svolumes .entry)) (now (slabels .entry))))) ⌝ }
     {
         let passed = pass_gate(
             degrees,
@@ -82,6 +87,7 @@ impl OpenSheet {
                 vertices: counts.vertices,
                 edges: counts.edges,
                 place: 0,
+                removals,
             }),
             Gate::Refused(refusal) => Opened::Refused(refusal),
         }
@@ -98,6 +104,7 @@ impl OpenSheet {
                     vertices: self.vertices,
                     edges: self.edges,
                     place: next,
+                    removals: self.removals,
                 },
             ),
             Line::Past => Fetched::Done(self),
@@ -105,7 +112,7 @@ impl OpenSheet {
         }
     }
 
-    // 25, 21, then 33.
+    // 25, 21, 39, then 33.
     pub fn fetch(
         self,
         degrees: &[u16],
@@ -121,16 +128,17 @@ impl OpenSheet {
         slengths: &mut [u32],
         svolumes: &mut [u32],
         slabels: &mut [u32],
+        removals: u32,
     ) -> Fetched
-        ensures { λ r. ⌜ outcome
+        ensures { λ r. ⌜ ((limit : ℕ) → outcome
             (tables (now (degrees .entry)) (now (sides .entry)) (now (ends .entry)) (now (lengths .entry)) (now (volumes .entry)) (now (labels .entry)))
             (asCounts counts)
             (tables (now (sdegrees .exit)) (now (ssides .exit)) (now (sends .exit)) (now (slengths .exit)) (now (svolumes .exit)) (now (slabels .exit)))
             [] (fetchedReply r)
-            ≡ step (fetches (asSheet self))
+            ≡ ownStep limit removals (fetches (asSheet self))
             (lent (tables (now (degrees .entry)) (now (sides .entry)) (now (ends .entry)) (now (lengths .entry)) (now (volumes .entry)) (now (labels .entry)))
             (asCounts counts)
-            (tables (now (sdegrees .entry)) (now (ssides .entry)) (now (sends .entry)) (now (slengths .entry)) (now (svolumes .entry)) (now (slabels .entry)))) ⌝ }
+            (tables (now (sdegrees .entry)) (now (ssides .entry)) (now (sends .entry)) (now (slengths .entry)) (now (svolumes .entry)) (now (slabels .entry))))) ⌝ }
     {
         let passed = pass_gate(
             degrees,
@@ -149,6 +157,9 @@ impl OpenSheet {
         );
         match passed {
             Gate::Open => {
+                if self.removals != removals {
+                    return Fetched::Refused(Refusal::Ended);
+                }
                 let line = line_cleared(
                     ends,
                     lengths,

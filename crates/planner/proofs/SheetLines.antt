@@ -10,7 +10,7 @@ use Rattle.model.specs.Basics.{inFront, upTo}
 use Rattle.model.specs.Graph.{Edge, nameOf, chainVolume}
 use Rattle.model.specs.Register.{Register}
 use Rattle.model.specs.Queries.{listed, refuses, row, rowsOf, sheet, sheetNumbers}
-use Rattle.model.specs.Calls.{sheeting, fills, answer}
+use Rattle.model.specs.Calls.{House, sheeting, fills, answer}
 use Rattle.planner.specs.Windows.{Window}
 use Rattle.planner.specs.Planning.{plan}
 use Rattle.planner.specs.Lines.{lineVolume}
@@ -51,13 +51,16 @@ sheet-line r slice i h =
     line-of-row (sheet r) slice i (rows-wide (r .edges) (upTo (length (r .edges)))) h ∙ rows-volume (r .edges) (upTo (length (r .edges))) i h
 
 -- so of every sheet that is answered: a slice that was too short is refused, and no line is read from it
-pub answered-line : (r : Register) (slice : List ℕ) (n i : ℕ) → (answer (sheeting slice) r) .reply ≡ listed n → i < n
-    → lineVolume ((answer (sheeting slice) r) .slice) i ≡ chainVolume (r .edges) (getD (getD (sheet r) i []) 0 0)
+pub answered-line : (s : House) (slice : List ℕ) (n i : ℕ) → (answer (sheeting slice) s) .reply ≡ listed n → i < n
+    → lineVolume ((answer (sheeting slice) s) .slice) i ≡ chainVolume (s .register .edges) (getD (getD (sheet (s .register)) i []) 0 0)
 unfolding answer fills
-answered-line r slice n i e h = go (ltb (length slice) (length (sheetNumbers r))) refl
+answered-line s slice n i e h = go (ltb (length slice) (length (sheetNumbers r))) refl
   where
+    r : Register
+    r = s .register
+
     go : (b : Bool) → ltb (length slice) (length (sheetNumbers r)) ≡ b
-        → lineVolume ((answer (sheeting slice) r) .slice) i ≡ chainVolume (r .edges) (getD (getD (sheet r) i []) 0 0)
+        → lineVolume ((answer (sheeting slice) s) .slice) i ≡ chainVolume (r .edges) (getD (getD (sheet r) i []) 0 0)
     go true q = let z : refuses 9 ≡ listed n = rw q at e in absurd (let y : _≡_ {A = ℕ} 0 1 = cc in omega arith)
     go false q =
         let z : listed (length (sheet r)) ≡ listed n = rw q at e in
@@ -65,7 +68,7 @@ answered-line r slice n i e h = go (ltb (length slice) (length (sheetNumbers r))
         rw q (sheet-line r slice i (omega arith))
 
 -- so a plan with the volume that is read from a line is the plan of the run or ring that the line names
-pub planned-line : (r : Register) (slice : List ℕ) (n i : ℕ) → (answer (sheeting slice) r) .reply ≡ listed n → i < n
+pub planned-line : (s : House) (slice : List ℕ) (n i : ℕ) → (answer (sheeting slice) s) .reply ≡ listed n → i < n
     → (flow given : ℕ) (ws : List Window)
-    → plan (lineVolume ((answer (sheeting slice) r) .slice) i) flow given ws ≡ plan (chainVolume (r .edges) (getD (getD (sheet r) i []) 0 0)) flow given ws
-planned-line r slice n i e h flow given ws = ap (λ (v : ℕ). plan v flow given ws) (answered-line r slice n i e h)
+    → plan (lineVolume ((answer (sheeting slice) s) .slice) i) flow given ws ≡ plan (chainVolume (s .register .edges) (getD (getD (sheet (s .register)) i []) 0 0)) flow given ws
+planned-line s slice n i e h flow given ws = ap (λ (v : ℕ). plan v flow given ws) (answered-line s slice n i e h)

@@ -10,13 +10,13 @@ use Rattle.model.specs.Register.{Register}
 use Rattle.model.specs.Format.{Stop, whole, stopped, growList}
 use Rattle.model.specs.FromC.{Returned, fromC, returnsNumbers, returnsRefusal, returnsReply}
 use Rattle.model.specs.Queries.{Reply, listed, find, measure, sheet, sheetNumbers, concat}
-use Rattle.model.specs.Calls.{Effect, answer, answers, effect}
+use Rattle.model.specs.Calls.{Answer, alone, answer, answers}
 use Rattle.model.specs.Tables.{Tables, Counts, cleared, noCounts, storedOf}
 use Rattle.model.specs.Notions.{HeldOf}
 use Rattle.model.proofs.Registers.OnlyHeld.{held-counts, held-tables}
 use Rattle.model.proofs.Series.Landings.{reachable-grown}
 use Rattle.tables.specs.Meaning.{stored, tables}
-use Rattle.chains.specs.Finding.{findIn}
+use Rattle.holders.specs.Finding.{findIn}
 use Rattle.agreement.proofs.Sheeting.{sheet-agrees, sheetOver}
 use Rattle.landing.specs.Records.{ReadingIn, readingIn, landListIn}
 use Rattle.landing.proofs.ListAgrees.{shownRead}
@@ -67,10 +67,10 @@ module _ (d s e l u lb : List ℕ) (c : Counts) (r : Register) (h : HeldOf (stor
 
   pub find-question : (label : ℕ) (a : Reply) → a ≡ findIn (tables d s e l u lb) (c .vertices) (c .edges) label → z ≡ returnsReply r slice a
       → z ≡ returnsReply r slice (find r label)
-  unfolding effect answer answers
+  unfolding answer answers
   find-question label a p q =
-      let k = find-answers (tables d s e l u lb) c label a p r h in
-      q ∙ ap (returnsReply r slice) (ap (λ (x : Effect). x .reply) (sym k))
+      let k = find-answers (tables d s e l u lb) c label a p (alone r) h in
+      q ∙ ap (returnsReply r slice) (ap (λ (x : Answer). x .reply) (sym k))
 
   pub distance-question : (v w : ℕ) (a : Reply) → a ≡ measureIn (tables d s e l u lb) c v w → z ≡ returnsReply r slice a
       → z ≡ returnsReply r slice (measure r v w)

@@ -18,7 +18,7 @@ ghost use Rattle.model.specs.Queries.{findAt};
 ghost use Rattle.model.specs.Notions.{HeldOf};
 ghost use Rattle.counters.specs.Answers.{asCounts};
 ghost use Rattle.tables.specs.Meaning.{stored, tables};
-ghost use Rattle.chains.specs.Finding.{findIn};
+ghost use Rattle.holders.specs.Finding.{findIn};
 ghost use Rattle.questions.specs.Meaning.{foundReply, measuredReply};
 ghost use Rattle.questions.specs.Measure.{Measurable, measureIn};
 

@@ -7,7 +7,7 @@ ghost use mathlib.Core.Path.{_≡_};
 ghost use mathlib.Core.List.{List};
 ghost use Prim.Native.Nat.{ℕ};
 ghost use Rattle.tables.specs.Meaning.{tables};
-ghost use Rattle.chains.specs.Finding.{findIn};
+ghost use Rattle.holders.specs.Finding.{findIn};
 ghost use Rattle.questions.specs.Meaning.{foundReply};
 
 // The array is the scratch of the search. Two numbers of the head are enough: the others need not be kept for it (docs/SPEED.md).

@@ -11,17 +11,17 @@ use Rattle.model.specs.Basics.{maxEdges, maxVertices, inFront, rowSize}
 use Rattle.model.specs.Register.{Register}
 use Rattle.model.specs.Queries.{Reply, concat, find, findAt, refuses, sheet, sheetNumbers}
 use Rattle.model.specs.Tables.{Tables, Counts}
-use Rattle.model.specs.Calls.{Answer, answer, answers, effect, fills, finds, findsAt, sheets}
+use Rattle.model.specs.Calls.{Answer, findingAt, answer, answers, fills, finding, sheeting}
 use Rattle.model.specs.Notions.{HeldOf}
 use Rattle.model.proofs.Chains.Sheet.{sheet-length}
 use Rattle.model.proofs.Registers.Answers.{find-not-landed}
 use Rattle.model.proofs.Registers.Labelled.{label-facts}
 use Rattle.model.proofs.Registers.OnlyHeld.{held-counts, held-tables}
 use Rattle.model.proofs.Registers.Reachable.{founded}
-use Rattle.tables.specs.Meaning.{stored, tables}
+use Rattle.tables.specs.Meaning.{stored}
 use Rattle.text.proofs.PageLaws.{write-front}
 use Rattle.chains.specs.Chains.{namesIn, sheetIn}
-use Rattle.chains.specs.Finding.{findAtIn, findIn}
+use Rattle.holders.specs.Finding.{findAtIn, findIn}
 use Rattle.agreement.proofs.Finding.{find-agrees, find-at-agrees}
 use Rattle.agreement.proofs.Sheeting.{names-counted, sheet-agrees}
 use Rattle.questions.specs.Answering.{answered, sheetedIn}
@@ -29,15 +29,17 @@ use Rattle.questions.proofs.Answers.{Answers}
 use Rattle.questions.proofs.TableLaws.{find-at-law}
 
 -- what is found over the tables of a register is answered, by a label and by a vertex
-pub find-answers : (t : Tables) (c : Counts) (label : ℕ) (a : Reply) → a ≡ findIn t (c .vertices) (c .edges) label → Answers (finds label) t c [] a
-unfolding effect answer answers
-find-answers t c label a h r k =
+pub find-answers : (t : Tables) (c : Counts) (label : ℕ) (a : Reply) → a ≡ findIn t (c .vertices) (c .edges) label → Answers (finding label) t c [] a
+unfolding answer answers
+find-answers t c label a h s k =
+    let r = s .register in
     let f : findIn t (c .vertices) (c .edges) label ≡ find r label = rw (held-tables k, held-counts k) at (find-agrees r (k .reachable) label) in
     rw (h, f)
 
-pub find-at-answers : (t : Tables) (c : Counts) (v : ℕ) (a : Reply) → a ≡ findAtIn t (c .vertices) (c .edges) v → Answers (findsAt v) t c [] a
-unfolding effect answer answers
-find-at-answers t c v a h r k =
+pub find-at-answers : (t : Tables) (c : Counts) (v : ℕ) (a : Reply) → a ≡ findAtIn t (c .vertices) (c .edges) v → Answers (findingAt v) t c [] a
+unfolding answer answers
+find-at-answers t c v a h s k =
+    let r = s .register in
     let f : findAtIn t (c .vertices) (c .edges) v ≡ findAt r v = rw (held-tables k, held-counts k) at (find-at-agrees r (k .reachable) v) in
     rw (h, f)
 
@@ -61,10 +63,13 @@ numbers-are r = refl
 
 -- the sheet put over the tables of a register is answered
 pub sheet-answers : (t : Tables) (c : Counts) (m n : ℕ) (counting marks xs ys : List ℕ) (a : Reply) → maxEdges ≤ m → maxEdges ≤ n
-    → counting ≡ replicate m 0 → marks ≡ replicate n 0 → answered ys a ≡ sheetedIn t c counting marks xs → Answers (sheets xs) t c ys a
-unfolding effect answer fills sheetedIn
-sheet-answers t c m n counting marks xs ys a l o p q h r k = go (ltb (length xs) (rowSize * length (sheet r))) refl
+    → counting ≡ replicate m 0 → marks ≡ replicate n 0 → answered ys a ≡ sheetedIn t c counting marks xs → Answers (sheeting xs) t c ys a
+unfolding answer fills sheetedIn
+sheet-answers t c m n counting marks xs ys a l o p q h s k = go (ltb (length xs) (rowSize * length (sheet r))) refl
   where
+    r : Register
+    r = s .register
+
     rows-are : sheetIn (t .degrees) (t .sides) (t .ends) (t .lengths) (t .volumes) (c .edges) marks ≡ sheet r
     rows-are = rw (← q, held-tables k, held-counts k) at (sheet-agrees r (k .reachable) n o)
 
@@ -72,7 +77,7 @@ sheet-answers t c m n counting marks xs ys a l o p q h r k = go (ltb (length xs)
     count = rw (← p, held-tables k, held-counts k) at (names-counted r (k .reachable) m l)
 
     go : (b : Bool) → ltb (length xs) (rowSize * length (sheet r)) ≡ b
-        → effect (sheets xs) r ≡ record { leaves = r; slice = ys; reply = a }
+        → answer (sheeting xs) s ≡ record { slice = ys; reply = a }
     go true e =
         let q = rw (count, e) at h in
         rw (sheet-length r, e, ap (λ (x : Answer). x .slice) q, ap (λ (x : Answer). x .reply) q)

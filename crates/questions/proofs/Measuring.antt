@@ -9,7 +9,7 @@ use Rattle.model.specs.Distance.{Distance, distance}
 use Rattle.model.specs.Queries.{Reply, measure, measured, refuses}
 use Rattle.model.specs.Register.{Register}
 use Rattle.model.specs.Tables.{Tables, Counts, countsOf, storedEdges, tablesOf}
-use Rattle.model.specs.Calls.{answer, answers, effect, measures}
+use Rattle.model.specs.Calls.{answer, answers, measuring}
 use Rattle.model.proofs.Registers.OnlyHeld.{held-counts, held-tables}
 use Rattle.model.proofs.Registers.ReadBack.{edges-read}
 use Rattle.questions.specs.Measure.{measureIn}
@@ -35,8 +35,9 @@ unfolding measureIn measure countsOf
 measure-agrees r v w = rw (edges-read r)
 
 -- a measurement over the tables of a register is answered
-pub measure-answers : (t : Tables) (c : Counts) (v w : ℕ) (a : Reply) → a ≡ measureIn t c v w → Answers (measures v w) t c [] a
-unfolding effect answer answers
-measure-answers t c v w a q r k =
+pub measure-answers : (t : Tables) (c : Counts) (v w : ℕ) (a : Reply) → a ≡ measureIn t c v w → Answers (measuring v w) t c [] a
+unfolding answer answers
+measure-answers t c v w a q s k =
+    let r = s .register in
     let f : measureIn t c v w ≡ measure r v w = rw (held-tables k, held-counts k) at (measure-agrees r v w) in
     rw (q, f)

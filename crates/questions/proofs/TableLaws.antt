@@ -12,8 +12,8 @@ use Rattle.model.specs.Basics.{rowSize}
 use Rattle.model.specs.Queries.{Reply, concat, listed, refuses}
 use Rattle.model.specs.Tables.{Tables, Counts}
 use Rattle.chains.specs.Chains.{namesIn, sheetIn}
-use Rattle.chains.specs.Newest.{Sought, searchIn}
-use Rattle.chains.specs.Finding.{findAtIn, findIn}
+use Rattle.holders.specs.Newest.{Sought, searchIn}
+use Rattle.holders.specs.Finding.{findAtIn, findIn}
 use Rattle.chains.proofs.SheetLaws.{sheet-count}
 use Rattle.text.specs.Pages.{page, write}
 use Rattle.questions.specs.Answering.{answered, sheetedIn}

@@ -8,7 +8,7 @@ use borrow.Author.Tests.{lt-ltb, le-ltb}
 use Rattle.model.specs.Format.{written}
 use Rattle.model.specs.Queries.{Reply, refuses, wrote}
 use Rattle.model.specs.Tables.{Counts}
-use Rattle.model.specs.Calls.{answer, effect, fills, writes}
+use Rattle.model.specs.Calls.{answer, fills, writing}
 use Rattle.model.proofs.Registers.OnlyHeld.{held-counts, held-tables}
 use Rattle.tables.specs.Meaning.{tables}
 use Rattle.text.specs.Pages.{page, write}
@@ -39,9 +39,10 @@ module _ (ends lengths volumes : List ℕ) (c : Counts) (xs : List ℕ) (k : ℕ
 
 -- the list put over the tables of a register is answered
 pub write-answers : (d s e l v labels : List ℕ) (c : Counts) (xs ys : List ℕ) (a : Reply) → answered ys a ≡ writtenIn e l v c xs
-    → Answers (writes xs) (tables d s e l v labels) c ys a
-unfolding effect answer writtenIn
-write-answers d s e l v labels c xs ys a h r k =
+    → Answers (writing xs) (tables d s e l v labels) c ys a
+unfolding answer writtenIn
+write-answers d s e l v labels c xs ys a h o k =
+    let r = o .register in
     let bs : listIn e l v c ≡ written r = list-written r (tables d s e l v labels) c (sym (held-tables k)) (sym (held-counts k)) in
     let q : answered ys a ≡ fills xs (written r) (wrote (length (written r))) = rw bs at h in
-    λ i. record { leaves = r; slice = (sym q i) .slice; reply = (sym q i) .reply }
+    λ i. record { slice = (sym q i) .slice; reply = (sym q i) .reply }

@@ -1,13 +1,13 @@
 // Find (document 02, S-7): a label (document 01: tag) gives the name of its chain (run), the regular vertex (coupling) that wears it, and
 // the lengths from there to the low and the high end of the chain, in a ring 0 and its length; or 8. A vertex is asked for through its label.
-use chains::looking::Found;
-use chains::newest::search_label;
 use counters::counts::Counts;
 use counters::numbers::Edge;
 use counters::numbers::Label;
 use counters::numbers::Millimetres;
 use counters::numbers::Vertex;
 use counters::refusals::Refusal;
+use holders::looking::Found;
+use holders::newest::search_label;
 use tables::kinds::label_of;
 use tables::whole::clear16;
 ghost use mathlib.Core.Path.{_≡_};
@@ -16,7 +16,7 @@ ghost use Prim.Native.Nat.{ℕ};
 ghost use lib.ListN.{length, replicate};
 ghost use Rattle.counters.specs.Answers.{asCounts};
 ghost use Rattle.tables.specs.Meaning.{tables};
-ghost use Rattle.chains.specs.Finding.{findAtIn, findIn};
+ghost use Rattle.holders.specs.Finding.{findAtIn, findIn};
 ghost use Rattle.questions.specs.Meaning.{foundReply};
 
 // The name of a chain, which is the lowest number of an edge there; the vertex; the lengths, to the low end first.

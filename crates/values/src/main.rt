@@ -2,12 +2,13 @@
 // where the list stopped (record and refusal, or 0 0).
 mod lists;
 
-use calls::grow::grow_from;
+use calls::grow::grow_own;
 use counters::answers::ListAnswer;
 use counters::answers::Stop;
 use counters::counts::Counts;
 use counters::sizes::EDGES;
 use counters::sizes::ENDS;
+use counters::sizes::MAX_EDGES;
 use counters::sizes::SIDES;
 use counters::sizes::VERTICES;
 use lists::put_edges;
@@ -53,8 +54,9 @@ fn put_result(out: &mut [u8], at: usize, bytes: &[u8], n: usize) -> usize {
     let mut slengths = [0u32; EDGES];
     let mut svolumes = [0u32; EDGES];
     let mut slabels = [0u32; VERTICES];
-    let answered = grow_from(
+    let answered = grow_own(
         Counts::none(),
+        MAX_EDGES,
         &mut degrees,
         &mut sides,
         &mut ends,

@@ -1,5 +1,5 @@
-//! `lent DIR [COUNT] [SEED]`: writes so many random series of calls over lent tables to DIR/0.stdin and
-//! so on, and what their calls are to answer to DIR/0.stdout and so on (tests/lent).
+//! `lent DIR [COUNT] [SEED]`: writes so many random series of calls for eight houses over lent tables to
+//! DIR/0.stdin and so on, and what their calls are to answer to DIR/0.stdout and so on (tests/lent).
 
 use std::collections::{BTreeMap, BTreeSet};
 use std::env;
@@ -11,62 +11,75 @@ use reference::arguments::count_and_seed;
 use reference::gen::random::Random;
 use reference::gen::series::{self, Source};
 use reference::lent::{self, Answer, Call, Command, Lent};
+use reference::licence::HOUSES;
 use reference::tally::{verdict, Cases, Quotes};
 
-const DEFAULT_COUNT: usize = 6;
+const DEFAULT_COUNT: usize = 9;
 /// How often a series is led on, by some commands each time. Its calls have to be answered within the
 /// time that a program has for one run.
-const TURNS: usize = 200;
+const TURNS: usize = 120;
 
-/// Calls by their kind and refusal, those that leave a ring of two or of more pipes standing, the
-/// cases of the pipes landed, and the quotes that were committed while they held.
+/// Calls by their kind and refusal, those that leave a ring of two or of more pipes standing in their house,
+/// the cases of the pipes landed, and the quotes that were committed while they held.
 #[derive(Default)]
 struct Tally {
     calls: BTreeMap<(&'static str, u32), usize>,
     rings: BTreeMap<bool, usize>,
     cases: Cases,
     committed: Quotes,
+    /// Quotes that name refusal 36.
+    turned_away: usize,
+    /// Removals that reported nothing, and something.
+    reports: [usize; 2],
 }
 
 /// The refusals of each call, 0 for an answer.
-const OUTCOMES: [(&str, &[u32]); 12] = [
-    ("grow", &[0, 1, 3, 4, 5, 7, 22, 23, 25, 31]),
-    ("land", &[0, 1, 2, 3, 4, 5, 6, 7, 21, 25, 31]),
-    ("find", &[0, 8, 21, 25]),
-    ("find_at", &[0, 8, 21, 25]),
-    ("distance", &[0, 5, 21, 25]),
-    ("sheet", &[0, 9, 21, 25]),
-    ("write", &[0, 9, 21, 25]),
-    ("quote", &[0, 21, 25]),
-    ("commit", &[0, 5, 6, 7, 21, 23, 25, 31, 32]),
-    ("open", &[0, 21, 25]),
-    ("fetch", &[0, 21, 25, 33]),
+const OUTCOMES: [(&str, &[u32]); 14] = [
+    ("grow", &[0, 1, 3, 4, 5, 7, 21, 22, 23, 25, 31, 36, 37]),
+    ("land", &[0, 1, 2, 3, 4, 5, 6, 7, 21, 25, 31, 36, 37]),
+    ("find", &[0, 8, 21, 25, 37]),
+    ("find_at", &[0, 8, 21, 25, 37]),
+    ("distance", &[0, 5, 21, 25, 37]),
+    ("sheet", &[0, 9, 21, 25, 37]),
+    ("write", &[0, 9, 21, 25, 37]),
+    ("quote", &[0, 21, 25, 37]),
+    ("commit", &[0, 5, 6, 7, 21, 23, 25, 31, 32, 36, 37]),
+    ("open", &[0, 21, 25, 37]),
+    ("fetch", &[0, 21, 25, 33, 37, 39]),
     ("fetch done", &[0]),
+    ("remove", &[0, 9, 21, 25, 37, 38]),
+    ("shares", &[0, 21, 25, 37]),
 ];
 
 impl Tally {
-    fn count_call(&mut self, call: &Call, answer: &Answer, lent: &mut Lent) {
+    fn count_call(&mut self, house: u32, call: &Call, answer: &Answer, lent: &mut Lent) {
         let name = match call {
             Call::Fetch(_) if lent::is_done(answer.first) => "fetch done",
             _ => name(call),
         };
         *self.calls.entry((name, answer.refusal)).or_default() += 1;
         match call {
-            Call::Commit(quote) if ![21, 25, 32].contains(&answer.refusal) => {
+            Call::Commit(quote) if ![21, 25, 32, 37].contains(&answer.refusal) => {
                 self.committed.count(quote.terms);
+            }
+            Call::Quote(_) if answer.refusal == 0 && answer.first == 36 => self.turned_away += 1,
+            Call::Remove(..) if answer.refusal == 0 => {
+                let reports = if answer.first == 0 { 0 } else { 1 };
+                self.reports[reports] += 1;
             }
             _ => {}
         }
-        let house = lent.house().unwrap_or_default();
-        let of_two = house.rings().iter().map(|ring| ring.pipes().len() == 2);
+        let held = lent.house(house as usize % HOUSES);
+        let rings = held.iter().flat_map(|house| house.rings());
+        let of_two = rings.map(|ring| ring.pipes().len() == 2);
         for of_two in of_two.collect::<BTreeSet<bool>>() {
             *self.rings.entry(of_two).or_default() += 1;
         }
     }
 
-    /// Before the register is cleared, the cases of its pipes.
-    fn count_cases(&mut self, lent: &mut Lent) {
-        if let Some(house) = lent.house() {
+    /// Before a register is cleared, the cases of its pipes.
+    fn count_cases(&mut self, house: usize, lent: &mut Lent) {
+        if let Some(house) = lent.house(house) {
             self.cases.count(&house);
         }
     }
@@ -80,6 +93,12 @@ impl Tally {
         missing.extend(self.committed.missing());
         if self.rings.len() < 2 {
             missing.push("a standing ring of two, or of more".to_string());
+        }
+        if self.turned_away == 0 {
+            missing.push("a quote that names 36".to_string());
+        }
+        if self.reports.contains(&0) {
+            missing.push("a removal that reports nothing, or something".to_string());
         }
         missing
     }
@@ -98,6 +117,8 @@ fn name(call: &Call) -> &'static str {
         Call::Commit(_) => "commit",
         Call::Open => "open",
         Call::Fetch(_) => "fetch",
+        Call::Remove(..) => "remove",
+        Call::Shares(_) => "shares",
     }
 }
 
@@ -119,6 +140,7 @@ fn main() -> ExitCode {
             random,
             number,
             lists,
+            busy: 0,
             sheets: Vec::new(),
         };
         let (asked, expected) = series(source, &mut tally);
@@ -131,7 +153,7 @@ fn main() -> ExitCode {
         }
     }
     let calls: usize = tally.calls.values().sum();
-    print!("{calls} calls over lent tables in {count} series, seed {seed}:");
+    print!("{calls} calls for eight houses in {count} series, seed {seed}:");
     for ((name, refusal), count) in &tally.calls {
         match refusal {
             0 => print!(" {name} answered {count}"),
@@ -152,19 +174,23 @@ fn series(mut source: Source, tally: &mut Tally) -> (Vec<u8>, String) {
         for command in series::next(&mut source, turn, &mut lent) {
             asked.extend(command.bytes());
             match command {
-                Command::Set(table, place, number) => lent.set(table, place, number),
+                Command::Set(house, table, place, number) => {
+                    lent.set(house, table, place, number);
+                }
                 Command::Lend(table, size) => lent.lend(table, size),
-                Command::Call(call) => {
-                    if matches!(call, Call::Grow(_)) {
-                        tally.count_cases(&mut lent);
+                Command::Call(house, call) => {
+                    if matches!(call, Call::Grow(_)) && house < 8 {
+                        tally.count_cases(house as usize, &mut lent);
                     }
-                    let answer = lent.call(&call);
+                    let answer = lent.call(house, &call);
                     expected += &format!("{answer}\n");
-                    tally.count_call(&call, &answer, &mut lent);
+                    tally.count_call(house, &call, &answer, &mut lent);
                 }
             }
         }
     }
-    tally.count_cases(&mut lent);
+    for house in 0..HOUSES {
+        tally.count_cases(house, &mut lent);
+    }
     (asked, expected)
 }

@@ -1,21 +1,20 @@
 -- Document 02, S-5: "A quote must equal what the commit then does."
 use mathlib.Core.Path.{_≡_, refl, sym, ap, _∙_, subst}
-use Prim.Native.Nat.{ℕ, _+_}
+use Prim.Native.Nat.{ℕ}
 use native.Mathlib.Omega.{arith}
-use mathlib.Core.Bool.{true}
 use mathlib.Core.List.{[], _∷_, _++_}
 use mathlib.Core.Option.{Option, none, some}
 use lib.ListN.{length}
 use Rattle.model.specs.Graph.{Edge, edgeOnRing}
 use Rattle.model.specs.Cases.{Case, caseAt, closes, closesRing, extends, merges, newChain, splitBoth, splitExtends, splitNew}
-use Rattle.model.specs.Labels.{labelEdge, relabelCount}
-use Rattle.model.specs.Register.{Landed, Quote, Register, Terms, caseNumber, commit, declines, edgeRefusal, landEdge, landed, marksOf, offers, quote, refused, relabelsOf, withEdge}
+use Rattle.model.specs.Labels.{labelEdge}
+use Rattle.model.specs.Register.{Quote, Register, caseNumber, commit, declines, edgeRefusal, landed, marksOf, offers, quote, refused, relabelsOf, withEdge}
 use Rattle.model.specs.Notions.{Admissible, LandedAs}
 use Rattle.model.proofs.Walks.Degree.{Proper}
 use Rattle.model.proofs.Walks.Ring.{ring-decides}
 use Rattle.model.proofs.Labels.Closings.{case-closing, closing-case}
 use Rattle.model.proofs.Registers.Accepted.{accepted-within, no-refusal}
-use Rattle.model.proofs.Registers.Quotes.{termsFor, terms-by, commit-lands, commit-same, land-edge-by, not-refused, unlessRefused}
+use Rattle.model.proofs.Registers.Quotes.{termsFor, terms-by, commit-lands, commit-same, land-edge-by, unlessRefused}
 
 -- ---- the terms of a quote
 

@@ -222,20 +222,20 @@ module _ (r r′ : Register) (l : LandedSince r r′) (s : OpenSheet) (h : isBey
 
 -- ---- a sheet that was opened just now
 
-all-edges : (r : Register) → openedEdges r (openingOf r) ≡ r .edges
+all-edges : (removals : ℕ) (r : Register) → openedEdges r (openingOf removals r) ≡ r .edges
 unfolding openedEdges openingOf
-all-edges r = take-length (r .edges)
+all-edges removals r = take-length (r .edges)
 
 -- 33 does not hold of a sheet opened just now, and its lines are those of the register
-pub opened-within : (r : Register) → Reachable r → isBeyond r (openingOf r) ≡ false
+pub opened-within : (removals : ℕ) (r : Register) → Reachable r → isBeyond r (openingOf removals r) ≡ false
 unfolding openingOf
-opened-within r k =
-    not-beyond r (openingOf r) (record {
+opened-within removals r k =
+    not-beyond r (openingOf removals r) (record {
       vertices = omega arith;
       edges = omega arith;
-      among = ap (anyBeyond (r .vertices)) (all-edges r) ∙ lawful-not-beyond (r .vertices) (r .edges) ((founded r k) .lawful);
+      among = ap (anyBeyond (r .vertices)) (all-edges removals r) ∙ lawful-not-beyond (r .vertices) (r .edges) ((founded r k) .lawful);
     })
 
-pub opened-sheet : (r : Register) → openedLines r (openingOf r) ≡ sheet r
+pub opened-sheet : (removals : ℕ) (r : Register) → openedLines r (openingOf removals r) ≡ sheet r
 unfolding openedLines sheet
-opened-sheet r = ap (λ (es : List Edge). rowsOf es (upTo (length es))) (all-edges r)
+opened-sheet removals r = ap (λ (es : List Edge). rowsOf es (upTo (length es))) (all-edges removals r)

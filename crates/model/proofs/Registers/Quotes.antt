@@ -2,18 +2,16 @@
 -- goes through the pair, lands exactly if no refusal holds of it.
 use mathlib.Core.Path.{_≡_, refl, sym, ap, _∙_, subst}
 use mathlib.Core.Logic.{_≢_, _⊎_, inl, inr}
-use Prim.Native.Nat.{ℕ, _+_, _≤_}
+use Prim.Native.Nat.{ℕ}
 use native.Mathlib.Omega.{arith}
 use mathlib.Core.Bool.{Bool, true, false, not, _&&_, _||_}
-use mathlib.Core.List.{_∷_, [], _++_}
-use mathlib.Core.Option.{Option, none, some, Option·none-ne-some}
+use mathlib.Core.Option.{Option, none, some}
 use lib.ListN.{length}
 use lib.Dec.{eqb, leb, ltb}
 use borrow.Author.Tests.{eq-eqb, eqb-true}
 use Rattle.model.specs.Basics.{if_then_else_, maxEdges, maxLength, maxVolume}
 use Rattle.model.specs.Graph.{Edge}
 use Rattle.model.specs.Cases.{caseAt}
-use Rattle.model.specs.Labels.{relabelCount}
 use Rattle.model.specs.Register.{Landed, Quote, Register, Terms, caseNumber, commit, commitMade, declines, edgeRefusal, eqEdge, eqQuote, eqTerms, landEdgeWithin, landed, offers, quote, refused, relabelsOf, withEdge}
 use Rattle.model.proofs.Basics.Booleans.{and-true, if-either, not-both, true-or-false}
 

@@ -8,7 +8,7 @@ use mathlib.Core.Bool.{Bool, true, false}
 use mathlib.Core.Option.{Option, none, some, Option·some-injective, Option·none-ne-some}
 use lib.ListN.{length}
 use lib.Dec.{leb}
-use borrow.Author.Tests.{eqb-false, le-leb, le-ltb, leb-true, lt-leb, lt-ltb, ne-eqb}
+use borrow.Author.Tests.{le-leb, le-ltb, leb-true, lt-leb, lt-ltb, ne-eqb}
 use Rattle.model.specs.Basics.{if_then_else_, maxEdges, maxLength, maxVolume}
 use Rattle.model.specs.Graph.{Edge}
 use Rattle.model.specs.Register.{Register, edgeRefusal, landEdge, landEdgeWithin}
@@ -22,16 +22,19 @@ once : (b : Bool) → _≡_ {A = Option ℕ} (if b then some 23 else if b then s
 once true = refl
 once false = refl
 
+-- an edge has the refusal that it has without the limit
 pub refusal-below : (limit : ℕ) (r : Register) (e : Edge) → length (r .edges) < limit → edgeRefusal limit r e ≡ edgeRefusal maxEdges r e
 unfolding edgeRefusal
 refusal-below limit r e l = rw (lt-leb limit (length (r .edges)) l, once (leb maxEdges (length (r .edges))))
 
+-- so it lands as it does without one
 pub below-limit : (limit : ℕ) (r : Register) (e : Edge) → length (r .edges) < limit → landEdgeWithin limit r e ≡ landEdge r e
 unfolding landEdge
 below-limit limit r e l = land-edge-by limit r e ∙ ap (unlessRefused r e) (refusal-below limit r e l) ∙ sym (land-edge-by maxEdges r e)
 
 -- ---- at the limit
 
+-- 36 holds of an edge that could land
 pub at-limit : (limit : ℕ) (r : Register) (e : Edge) → Admissible r e → limit ≤ length (r .edges) → edgeRefusal limit r e ≡ some 36
 unfolding edgeRefusal
 at-limit limit r e a l =
@@ -50,6 +53,7 @@ at-limit limit r e a l =
 other : (m n : ℕ) → m ≢ n → some m ≢ some n
 other m n d e = d (Option·some-injective m n e)
 
+-- and of no other, nor before the limit is reached
 pub only-at-limit : (limit : ℕ) (r : Register) (e : Edge) → edgeRefusal limit r e ≡ some 36 → Admissible r e × (limit ≤ length (r .edges))
 only-at-limit limit r e h =
     let p = past-23 limit r e (some 36) (other 5 36 (λ z. omega arith)) (other 6 36 (λ z. omega arith)) (other 7 36 (λ z. omega arith))

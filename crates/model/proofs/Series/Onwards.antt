@@ -1,4 +1,4 @@
--- A call that does not clear leaves the vertices and edges that were there, and lands more behind them.
+-- A list leaves the vertices and edges that were there, and lands more behind them; so does a commit.
 use mathlib.Core.Path.{_≡_, refl, sym, ap, _∙_, subst}
 use Prim.Native.Nat.{ℕ, zero, suc, _+_}
 use native.Mathlib.Omega.{arith}
@@ -6,24 +6,22 @@ use mathlib.Core.Bool.{Bool, true, false}
 use mathlib.Core.List.{List, [], _∷_, _++_, append-assoc, append-nil}
 use mathlib.Core.Option.{Option, none, some}
 use lib.ListN.{length, drop}
-use Rattle.model.specs.Basics.{if_then_else_, maxEdges}
+use Rattle.model.specs.Basics.{if_then_else_}
 use Rattle.model.specs.Graph.{Edge}
 use Rattle.model.specs.Register.{Landed, Quote, Register, commit, landEdgeWithin, landVertex, landed, refused, withEdge, withVertex}
 use Rattle.model.specs.Format.{Record, bad, edge, firstRecord, headerRefusal, landList, landRecords, versionOf, vertex}
-use Rattle.model.specs.Tables.{fits}
-use Rattle.model.specs.Calls.{Call, asks, commitEffect, commits, effect, grows, lands, readEffect}
-use Rattle.model.specs.Series.{Made, after, afterCall}
 use Rattle.model.specs.Notions.{LandedSince}
 use Rattle.model.proofs.Registers.Accepted.{accepted-within, added}
 use Rattle.model.proofs.Registers.Quotes.{commit-lands}
-use Rattle.model.proofs.Series.Clearing.{IsGrow, NoneClears}
 
 -- ---- one record
 
-since-none : (r : Register) → LandedSince r r
+-- since a register itself nothing has landed
+pub since-none : (r : Register) → LandedSince r r
 since-none r = record { vertices-stay = omega arith; later = []; edges-are = sym (append-nil (r .edges)) }
 
-since-both : {q r s : Register} → LandedSince q r → LandedSince r s → LandedSince q s
+-- what landed since, and then more, landed since the first
+pub since-both : {q r s : Register} → LandedSince q r → LandedSince r s → LandedSince q s
 since-both {q} {r} {s} a b =
     record {
       vertices-stay = omega (arith, a .vertices-stay, b .vertices-stay);
@@ -72,7 +70,8 @@ since-records limit version (suc n) k r (kind ∷ bs) = go (firstRecord version 
     go (edge c rest) e ih = on-edge c rest e (landEdgeWithin limit r c) refl ih
     go (bad x) e ih = rw (e, landRecords) (since-none r)
 
-since-list : (limit : ℕ) (r : Register) (bs : List ℕ) → LandedSince r ((landList limit r bs) .register)
+-- stopped or not, it leaves what was there, with more behind it
+pub since-list : (limit : ℕ) (r : Register) (bs : List ℕ) → LandedSince r ((landList limit r bs) .register)
 unfolding landList
 since-list limit r bs = go (headerRefusal bs) refl
   where
@@ -80,33 +79,8 @@ since-list limit r bs = go (headerRefusal bs) refl
     go (some x) e = rw (e, landList) (since-none r)
     go none e = rw (e, landList) (since-records limit (versionOf bs) (length bs) 0 r (drop 5 bs))
 
--- ---- a call, and a series
+-- ---- a commit that lands
 
-since-commit : (limit : ℕ) (q : Quote) (r : Register) → LandedSince r ((commitEffect r (commit limit r q)) .leaves)
-unfolding commitEffect
-since-commit limit q r = go (commit limit r q) refl
-  where
-    go : (l : Landed) → commit limit r q ≡ l → LandedSince r ((commitEffect r l) .leaves)
-    go (landed r′) h = edge-since limit r (q .asked) r′ ((commit-lands limit r q r′ h) .1)
-    go (refused x) h = since-none r
-
-since-effect : (c : Call) (r : Register) → (IsGrow c → ⊥) → LandedSince r ((effect c r) .leaves)
-unfolding effect readEffect
-since-effect (grows bs) r n = absurd (n tt)
-since-effect (lands bs) r n = since-list maxEdges r bs
-since-effect (commits q) r n = since-commit maxEdges q r
-since-effect (asks q) r n = since-none r
-
-since-call : (m : Made) (r : Register) → (fits (m .scratch) ≡ true → IsGrow (m .call) → ⊥) → LandedSince r (afterCall m r)
-unfolding afterCall
-since-call m r n = go (fits (m .scratch)) refl
-  where
-    go : (b : Bool) → fits (m .scratch) ≡ b → LandedSince r (if b then (effect (m .call) r) .leaves else r)
-    go true f = since-effect (m .call) r (n f)
-    go false f = since-none r
-
--- a series in which no call clears lands more behind what was there
-pub since-after : (ms : List Made) (r : Register) → NoneClears ms → LandedSince r (after ms r)
-unfolding after
-since-after [] r n = since-none r
-since-after (m ∷ ms) r n = since-both (since-call m r (n .0)) (since-after ms (afterCall m r) (n .1))
+-- so does a commit
+pub since-commit : (limit : ℕ) (q : Quote) (r r′ : Register) → commit limit r q ≡ landed r′ → LandedSince r r′
+since-commit limit q r r′ h = edge-since limit r (q .asked) r′ ((commit-lands limit r q r′ h) .1)

@@ -5,8 +5,8 @@ use borrow.Author.Needs.{needs}
 use Rattle.values.proofs.put_result.Statement.{statement}
 use Rattle.values.proofs.put_result.Tie as tie
 
-slice-aggregate-grow-from-13 : tie.Need-slice-aggregate-grow-from-13
-slice-aggregate-grow-from-13 c =
+slice-aggregate-grow-own-13 : tie.Need-slice-aggregate-grow-own-13
+slice-aggregate-grow-own-13 c =
     let at-if1 = c .before .before .before .before .before .before .before .before .before .before .before .before .before .before in
     sym (length-take-le _ _ (omega (arith, at-if1 .if1 .left)))
 
@@ -29,7 +29,7 @@ put-result-spec =
     (λ c. search needs)
     (λ c. search needs)
     (λ c. search needs)
-    slice-aggregate-grow-from-13
+    slice-aggregate-grow-own-13
     (λ c κs. search needs)
     (λ c. search needs)
     (λ c. search needs)

@@ -6,40 +6,22 @@ use Rattle.costs.proofs.QuoteLaws.{beyond, second-beyond, terms-read}
 use borrow.Author.Needs.{needs}
 use Rattle.costs.proofs.terms.terms_to.Statement.{statement}
 use Rattle.costs.proofs.terms.terms_to.Tie as tie
-use Rattle.costs.proofs.terms.terms_to.Reads as reads
-use Rattle.costs.proofs.terms.terms_to.Lts as lts
-use Rattle.counters.proofs.numbers.Vertex.new.Reads as new-reads
-use Rattle.insertion.proofs.quoting.quote_edge.Reads as quote-edge-reads
 
--- src/quoted.rt:37:9
-new-requires : tie.Need-new-requires
-new-requires c κs = search needs
-
--- src/quoted.rt:39:27
-enum-known-checked : tie.Need-enum-known-checked
-enum-known-checked c = search needs
-
--- src/quoted.rt:40:17
-quote-edge-requires : tie.Need-quote-edge-requires
-quote-edge-requires c κs = search needs
-
--- src/quoted.rt:54:54
 enum-told : tie.Need-enum-told
 enum-told c = search needs
 
--- src/quoted.rt:22:1
 returns : tie.Need-returns
 returns c =
     let at-new = c .before .before .before .before in
     λ lengths volumes register h. terms-read _ _ _ _ _ _ _ register h _ _ _ _ _ _ _ refl (within-is _ _ _ _ (ap asVertex (sym (c .before .before .checked .given .1)) ∙ at-new .new .ensures)) (c .quote-edge .ensures)
 
--- src/quoted.rt:22:1
 returns-2 : tie.Need-returns-2
 returns-2 c =
     let large = within-none _ _ (ap asVertex (sym (c .enum-told .given .1)) ∙ c .before .before .new .ensures) in
     λ lengths volumes register h. second-beyond register _ (beyond _ _ _ _ _ _ _ register h _ (omega (arith, large)))
 
+-- the needs in the order of the code
 pub terms-to-spec : {M : Type 1} → statement M
 terms-to-spec =
     tie.close
-    (tie.spec new-requires enum-known-checked quote-edge-requires enum-told returns returns-2)
+    (tie.spec (λ c κs. search needs) (λ c. search needs) (λ c κs. search needs) enum-told returns returns-2)

@@ -36,7 +36,7 @@ returns : tie.Need-returns Inv-loop μ-loop
 returns c =
     let at-loop-test = c .before .before .before .before .before in
     let at-loop = at-loop-test .before in
-    λ vertices. line-here _ _ _ _ _ _ _ _ _ _ (at-loop .loop .inv .1 .0) vertices _ _ (at-loop .loop .inv .1 .1) _ (at-loop-test .loop-test .taken) (c .if1 .taken) (c .before .before .before .take-row .ensures .0)
+    λ vertices removals. line-here _ _ _ _ _ _ _ _ _ _ (at-loop .loop .inv .1 .0) vertices removals _ _ (at-loop .loop .inv .1 .1) _ (at-loop-test .loop-test .taken) (c .if1 .taken) (c .before .before .before .take-row .ensures .0)
 
 sub-before : tie.Need-sub-before Inv-loop μ-loop
 sub-before c = omega (arith, c .if1 .left)
@@ -66,7 +66,7 @@ same-length-2 : tie.Need-same-length-2 Inv-loop μ-loop
 same-length-2 c = c .before .loop .inv .1 .0 .as-long
 
 returns-2 : tie.Need-returns-2 Inv-loop μ-loop
-returns-2 c = λ vertices. line-past _ _ _ _ _ _ _ _ _ _ (c .before .loop .inv .1 .0) vertices _ _ (c .before .loop .inv .1 .1) (c .loop-test .left)
+returns-2 c = λ vertices removals. line-past _ _ _ _ _ _ _ _ _ _ (c .before .loop .inv .1 .0) vertices removals _ _ (c .before .loop .inv .1 .1) (c .loop-test .left)
 
 -- the needs in the order of the code
 pub line-at-spec : {M : Type 1} → statement M

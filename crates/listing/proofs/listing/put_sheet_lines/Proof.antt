@@ -20,39 +20,19 @@ Inv-loop out₀ at degrees sides ends lengths volumes marks₀ edges next₀ edg
 abbrev μ-loop : tie.MeasureT-loop
 μ-loop out₀ at degrees sides ends lengths volumes marks₀ edges next₀ edge₀ out marks next edge = edges - edge
 
--- src/listing.rt:71:9
-next-unmarked-requires : tie.Need-next-unmarked-requires Inv-loop μ-loop
-next-unmarked-requires c κs = search needs
-
--- src/listing.rt:72:5
 loop-holds : tie.Need-loop-holds Inv-loop μ-loop
 loop-holds c = ((refl, omega arith), ([], (sweep-start _ _ _ _ _ _ (c .next-unmarked .ensures), put-none _ _ _ _ _ _ _ _ row-lines _)))
 
--- src/listing.rt:73:13
-take-row-requires : tie.Need-take-row-requires Inv-loop μ-loop
-take-row-requires c κs = search needs
-
--- src/listing.rt:74:9
-put-chain-line-requires : tie.Need-put-chain-line-requires Inv-loop μ-loop
-put-chain-line-requires c κs = search needs
-
--- src/listing.rt:75:37
 add-next-unmarked : tie.Need-add-next-unmarked Inv-loop μ-loop
 add-next-unmarked c =
     let at-loop-test = c .before .before .before .before .before .before .before .before .before in
     omega (arith, at-loop-test .loop-test .taken)
 
--- src/listing.rt:75:9
-next-unmarked-requires-2 : tie.Need-next-unmarked-requires-2 Inv-loop μ-loop
-next-unmarked-requires-2 c κs = search needs
-
--- src/listing.rt:72:5
 loop-less : tie.Need-loop-less Inv-loop μ-loop
 loop-less c =
     let at-loop-test = c .before .before .before .before .before .before .before .before .before .before in
     unmarked-less _ _ _ _ (at-loop-test .loop-test .taken) (c .next-unmarked2 .ensures)
 
--- src/listing.rt:72:5
 loop-again : tie.Need-loop-again Inv-loop μ-loop
 loop-again c =
     let at-put-chain-line = c .before .before .before .before in
@@ -65,33 +45,31 @@ loop-again c =
     let less = unmarked-less _ _ _ _ (at-loop-test .loop-test .taken) (c .next-unmarked2 .ensures) in
     ((at-put-chain-line .put-chain-line .kept .0 ∙ at-loop .loop .inv .0 .0, omega (arith, less, at-loop .loop .inv .0 .1, at-put-chain-line .put-chain-line .ensures .1)), (found ++ (e ∷ []), (sweep-on _ _ _ _ _ _ _ _ _ _ (at-loop-test .loop-test .taken) (inv .1 .0) (at-take-row .take-row .ensures .1) (at-take-row .take-row .kept .1 .1 .1 .1 .1 .0) (c .next-unmarked2 .ensures), put-on _ _ _ _ _ _ _ _ row-lines _ _ _ _ _ _ (inv .1 .1) (at-take-row .take-row .ensures .0) (at-put-chain-line .put-chain-line .ensures .0))))
 
--- src/listing.rt:56:1
 same-length : tie.Need-same-length Inv-loop μ-loop
 same-length c = c .before .loop .inv .0 .0
 
--- src/listing.rt:56:1
 same-length-2 : tie.Need-same-length-2 Inv-loop μ-loop
 same-length-2 c = c .before .loop .inv .1 .1 .0 .as-long
 
--- src/listing.rt:56:1
 returns : tie.Need-returns Inv-loop μ-loop
 returns c =
     let inv = c .before .loop .inv .1 in
     let all = sweep-end _ _ _ _ _ _ _ _ (c .loop-test .left) (inv .1 .0) in
     (put-all _ _ _ _ _ _ _ _ row-lines _ _ _ _ all (inv .1 .1), omega (arith, c .before .loop .inv .0 .1, inv .1 .0 .within))
 
+-- the needs in the order of the code
 pub put-sheet-lines-spec : {M : Type 1} → statement M
 put-sheet-lines-spec =
     tie.close
     (tie.spec
     Inv-loop
     μ-loop
-    next-unmarked-requires
+    (λ c κs. search needs)
     loop-holds
-    take-row-requires
-    put-chain-line-requires
+    (λ c κs. search needs)
+    (λ c κs. search needs)
     add-next-unmarked
-    next-unmarked-requires-2
+    (λ c κs. search needs)
     loop-less
     loop-again
     same-length

@@ -1,6 +1,6 @@
 use Rattle.counters.proofs.Within.{within-is, within-none}
 use native.Mathlib.Omega.{arith}
-use Rattle.chains.specs.Finding.{findIn}
+use Rattle.holders.specs.Finding.{findIn}
 use Rattle.counters.specs.Numbers.{asLabel}
 use mathlib.Core.Path.{sym, ap, _∙_}
 use borrow.Author.Needs.{needs}

@@ -1,5 +1,4 @@
 use Rattle.questions.proofs.TableLaws.{find-at-law}
-use mathlib.Core.Path.{sym, ap, _∙_}
 use borrow.Author.Needs.{needs}
 use Rattle.questions.proofs.find.find_at_cleared.Statement.{statement}
 use Rattle.questions.proofs.find.find_at_cleared.Tie as tie

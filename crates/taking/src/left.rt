@@ -1,0 +1,8 @@
+// What a remove leaves of the heads, and answers.
+use heads::heads::Heads;
+use rest::settling::Removed;
+
+pub struct Removal {
+    pub heads: Heads,
+    pub answer: Removed,
+}
