@@ -387,7 +387,17 @@ fn remove(random: &mut Random, now: &Now) -> Call {
     let any = random.below(count + 1);
     // The last two are a pipe's number where only 16 bits of them are looked at.
     let last = count.saturating_sub(1);
-    let pipe = random.pick(&[any, any, any, any, any, 0, last, 65_536 + any, 4_294_901_760]);
+    let pipe = random.pick(&[
+        any,
+        any,
+        any,
+        any,
+        any,
+        0,
+        last,
+        65_536 + any,
+        4_294_901_760,
+    ]);
     let report = removal::remove(&now.house, 0, pipe, usize::MAX);
     let needs = report.map_or(0, |(_, report)| 3 * report.len());
     Call::Remove(number_of(pipe), room(random, needs, SLICE))
