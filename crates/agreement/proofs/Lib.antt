@@ -1,6 +1,6 @@
 -- Landing, in the order of the argument: Lists .. Tables on the tables, Placing, Cases and Inserting for one edge, Landing with the refusals.
 -- Quotes: Reading and Renewing (counts that are read), Offering for one edge, Quoting with the refusals.
--- Queries: Chaining (a walk), Rounds and Ends (a chain from one edge), Lowest (a name), Marking (marks), Sheeting, Finding.
+-- Queries: Chaining (a walk), Rounds and Ends (a chain from one edge), Lowest (a name), Marking (marks), Sheeting, Turning (sides in either order), Finding.
 pub mod Lists
 pub mod Relabelled
 pub mod Linked
@@ -34,6 +34,7 @@ pub mod Ends
 pub mod Lowest
 pub mod Marking
 pub mod Sheeting
+pub mod Turning
 pub mod Looking
 pub mod Newest
 pub mod Finding
