@@ -47,6 +47,25 @@ ringsAfter r rings e = rings || closesRing (r .edges) (e .first) (e .second)
 
 -- ---- an edge that passed the first refusals
 
+-- it is written down behind the others
+module _ (r : Register) (e : Edge) (rm : length (r .edges) < maxEdges) where
+  -- the ends, the lengths and the volumes with the edge, and the number of edges
+  pub ends-new : setPair ((tablesOf r) .ends) ((countsOf r) .edges) (e .first) (e .second) ≡ (tablesOf (withEdge r e)) .ends
+  unfolding withEdge tablesOf countsOf
+  ends-new = ends-stored (r .edges) e rm
+
+  pub lengths-new : set ((tablesOf r) .lengths) ((countsOf r) .edges) (e .len) ≡ (tablesOf (withEdge r e)) .lengths
+  unfolding withEdge tablesOf countsOf
+  lengths-new = lengths-stored (r .edges) e rm
+
+  pub volumes-new : set ((tablesOf r) .volumes) ((countsOf r) .edges) (e .volume) ≡ (tablesOf (withEdge r e)) .volumes
+  unfolding withEdge tablesOf countsOf
+  volumes-new = volumes-stored (r .edges) e rm
+
+  pub edges-new : more16 ((countsOf r) .edges) ≡ (countsOf (withEdge r e)) .edges
+  unfolding withEdge countsOf
+  edges-new = omega (arith, more16-is (length (r .edges)) (omega arith), length-new (r .edges) e)
+
 module _ (r : Register) (e : Edge) (rings : Bool) (g : Reachable r) (warns : Warns rings (r .edges)) (fa : e .first < r .vertices) (fb : e .second < r .vertices) (df : e .first ≢ e .second) (rm : length (r .edges) < maxEdges) where
   abbrev p : Placed
   p = placedBy (tablesOf r) (countsOf r) rings e
@@ -65,25 +84,9 @@ module _ (r : Register) (e : Edge) (rings : Bool) (g : Reachable r) (warns : War
   unfolding withEdge
   sides-new = linked-sides r′ (p .sides) (st .holds .kept .sides-long) (λ v l. st .holds .kept .links v l tt)
 
-  ends-new : setPair ((tablesOf r) .ends) ((countsOf r) .edges) (e .first) (e .second) ≡ (tablesOf r′) .ends
-  unfolding withEdge tablesOf countsOf
-  ends-new = ends-stored (r .edges) e rm
-
-  lengths-new : set ((tablesOf r) .lengths) ((countsOf r) .edges) (e .len) ≡ (tablesOf r′) .lengths
-  unfolding withEdge tablesOf countsOf
-  lengths-new = lengths-stored (r .edges) e rm
-
-  volumes-new : set ((tablesOf r) .volumes) ((countsOf r) .edges) (e .volume) ≡ (tablesOf r′) .volumes
-  unfolding withEdge tablesOf countsOf
-  volumes-new = volumes-stored (r .edges) e rm
-
   labels-new : p .labels ≡ (tablesOf r′) .labels
   unfolding withEdge tablesOf
   labels-new = st .holds .kept .labels-are
-
-  edges-new : more16 ((countsOf r) .edges) ≡ (countsOf r′) .edges
-  unfolding withEdge countsOf
-  edges-new = omega (arith, more16-is (length (r .edges)) (omega arith), length-new (r .edges) e)
 
   blocks-new : p .blocks ≡ (countsOf r′) .blocks
   unfolding withEdge countsOf
@@ -104,8 +107,8 @@ module _ (r : Register) (e : Edge) (rings : Bool) (g : Reachable r) (warns : War
   unfolding insertIn
   inserts-agree =
       ap₂ {C = LandingIn} (λ (t : Tables) (c : Counts). landingIn t (done c (rings || p .ring)))
-      (tables-parts degrees-new sides-new ends-new lengths-new volumes-new labels-new)
-      (counts-parts vertices-new edges-new blocks-new relabellings-new)
+      (tables-parts degrees-new sides-new (ends-new r e rm) (lengths-new r e rm) (volumes-new r e rm) labels-new)
+      (counts-parts vertices-new (edges-new r e rm) blocks-new relabellings-new)
       ∙ ap (λ (t : Bool). landingIn (tablesOf r′) (done (countsOf r′) (rings || t))) (st .ring-is)
 
 -- ---- with every refusal, in its order

@@ -27,20 +27,19 @@ pub record Linked (es : List Edge) (sides lows : List ℕ) (v : ℕ) : Type 0 wh
 
 -- ---- reading
 
--- a turn by the sides is the turn at the vertex
-pub turn-agrees : (es : List Edge) (sides lows : List ℕ) (v d : ℕ) → Proper es → Linked es sides lows v → degree es v ≡ 2 → At es v d
+-- a turn by the sides is the turn at the vertex, whichever of its two edges stands on the low side
+pub turn-by : (es : List Edge) (sides : List ℕ) (v low d : ℕ) → Proper es → degree es v ≡ 2 → At es v low → PairAt sides v low (turn es low v) → At es v d
     → turnIn sides d v ≡ turn es d v
 unfolding turnIn
-turn-agrees es sides lows v d pr k two a = go (ℕ-discrete (getD lows v 0) d)
+turn-by es sides v low d pr two l p a = go (ℕ-discrete low d)
   where
-    low : getD sides (2 * v) 0 ≡ getD lows v 0
-    low = (k .regular two) .0
+    go : Dec (low ≡ d) → (if eqb (getD sides (2 * v) 0) d then getD sides (2 * v + 1) 0 else getD sides (2 * v) 0) ≡ turn es d v
+    go (yes e) = rw (eq-eqb (getD sides (2 * v) 0) d (p .0 ∙ e)) (p .1 ∙ rw e)
+    go (no n) = rw (ne-eqb (getD sides (2 * v) 0) d (λ e. n (sym (p .0) ∙ e))) (p .0 ∙ sym (turn-between es v d low (two-edges es v pr two) a l (λ e. n (sym e))))
 
-    go : Dec (getD lows v 0 ≡ d) → (if eqb (getD sides (2 * v) 0) d then getD sides (2 * v + 1) 0 else getD sides (2 * v) 0) ≡ turn es d v
-    go (yes e) = rw (eq-eqb (getD sides (2 * v) 0) d (low ∙ e)) ((k .regular two) .1 ∙ rw e)
-    go (no n) =
-        rw (ne-eqb (getD sides (2 * v) 0) d (λ e. n (sym low ∙ e)))
-        (low ∙ sym (turn-between es v d (getD lows v 0) (two-edges es v pr two) a (k .low-at two) (λ e. n (sym e))))
+pub turn-agrees : (es : List Edge) (sides lows : List ℕ) (v d : ℕ) → Proper es → Linked es sides lows v → degree es v ≡ 2 → At es v d
+    → turnIn sides d v ≡ turn es d v
+turn-agrees es sides lows v d pr k two a = turn-by es sides v (getD lows v 0) d pr two (k .low-at two) (k .regular two) a
 
 -- a far end by the table of ends is the edge's
 pub far-agrees : (es : List Edge) (ends : List ℕ) (d v : ℕ) → PairAt ends d ((edgeAt es d) .first) ((edgeAt es d) .second)
@@ -95,10 +94,11 @@ off-ends n x y v df ox oy xy a b = go (zero-or-one (endsAt v n) (endsAt-le v n d
     go (inr o) = which (two-ends n x y v ox oy xy o)
 
 module _ (es : List Edge) (n : Edge) (pr : Proper es) (v : ℕ) (z : endsAt v n ≡ 0) where
-  degree-old : degree (es ++ (n ∷ [])) v ≡ degree es v
+  -- its degree stays, and so does its only edge
+  pub degree-old : degree (es ++ (n ∷ [])) v ≡ degree es v
   degree-old = omega (arith, degree-snoc es n v)
 
-  onlyEdge-old : onlyEdge (es ++ (n ∷ [])) v ≡ onlyEdge es v
+  pub onlyEdge-old : onlyEdge (es ++ (n ∷ [])) v ≡ onlyEdge es v
   unfolding onlyEdge incident
   onlyEdge-old = rw (incidentFrom-old 0 es n v pr z)
 

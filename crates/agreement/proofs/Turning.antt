@@ -1,5 +1,5 @@
--- The sheet reads of the table of sides only how it turns at regular vertices: whichever of a vertex's two edges stands first, the rows
--- are the same.
+-- The sheet reads of the table of sides only how it turns at regular vertices: whichever of a vertex's two edges stands first, and whatever
+-- stands at the others, the rows are the same.
 use mathlib.Core.Path.{_≡_, refl, sym, ap, _∙_}
 use Prim.Native.Nat.{ℕ, zero, suc, _+_, _*_, _≤_, _<_}
 use native.Mathlib.Omega.{arith}
@@ -8,7 +8,7 @@ use mathlib.Core.List.{List, _∷_}
 use lib.ListN.{length, getD, replicate}
 use lib.Dec.{eqb}
 use Rattle.model.specs.Basics.{maxEdges, maxVertices}
-use Rattle.model.specs.Graph.{Edge, far, turn}
+use Rattle.model.specs.Graph.{Edge, degree, far, turn}
 use Rattle.model.specs.Register.{Register}
 use Rattle.model.specs.Queries.{sheet}
 use Rattle.model.specs.Tables.{Tables, countsOf, tablesOf}
@@ -22,8 +22,7 @@ use Rattle.chains.proofs.SheetLaws.{sheet-count}
 use Rattle.model.proofs.Walks.Degree.{is-two}
 use Rattle.model.proofs.Walks.Turn.{At}
 use Rattle.model.proofs.Registers.ReadBack.{first-read, second-read}
-use Rattle.agreement.proofs.Linked.{Linked, turn-agrees}
-use Rattle.agreement.proofs.Registers.{landed-below, proper}
+use Rattle.agreement.proofs.Registers.{landed-below}
 use Rattle.agreement.proofs.Chaining.{First, at-end, at-home, onward, Step, at-first, at-second, first-step, goes-home, goes-not, goes-on, steps}
 use Rattle.agreement.proofs.Sheeting.{sheet-agrees}
 
@@ -101,10 +100,11 @@ module _ (ds ss ts es ls vs : List ℕ) (n : ℕ) (first : (home e : ℕ) → e 
           (ap (λ (rows : List (List ℕ)). rowIn ds ts es ls vs n d ∷ rows) (ih (markChainIn ds ts es n ms d)))
       go false e ih = rw (e, sweepIn) (ih ms)
 
--- ---- the sides of a register, in either order
+-- ---- the sides of a register, in any order
 
--- a table of sides in which every vertex is linked, whichever of its two edges stands first
-module _ (r : Register) (g : Reachable r) (sides lows : List ℕ) (links : (v : ℕ) → v < maxVertices → Linked (r .edges) sides lows v) where
+-- a table of sides that turns at every regular vertex as the edges do
+module _ (r : Register) (g : Reachable r) (sides : List ℕ)
+    (turns : (v d : ℕ) → v < maxVertices → degree (r .edges) v ≡ 2 → At (r .edges) v d → turnIn sides d v ≡ turn (r .edges) d v) where
   alike : (home n d v : ℕ) → At (r .edges) v d → Alike ((tablesOf r) .degrees) sides ((tablesOf r) .sides) ((tablesOf r) .ends) home n d v
   alike home zero d v a = no-steps
   alike home (suc n) d v a = go (first-step r home v) (λ c at. alike home n c (far es c v) at)
@@ -121,7 +121,7 @@ module _ (r : Register) (g : Reachable r) (sides lows : List ℕ) (links : (v : 
       go (at-home q e) ih = stays (goes-home r g home d v a e)
       go (onward q e) ih =
           let x : Step r d v = steps r g d v a q in
-          passes (goes-on r g home d v a q e) (turn-agrees es sides lows v d (proper r g) (links v (landed-below r g v d a)) (is-two es v q) a) (x .turns)
+          passes (goes-on r g home d v a q e) (turns v d (landed-below r g v d a) (is-two es v q) a) (x .turns)
           (x .arrives) (ih (turn es d v) (x .at))
 
   -- over such sides the sheet is that of the definitions

@@ -30,7 +30,7 @@ pub enum Inserted {
 }
 
 // Edge e is written down, and nothing that another edge wrote is touched.
-fn record_edge(
+pub fn record_edge(
     ends: &mut [u16],
     lengths: &mut [u32],
     volumes: &mut [u32],

@@ -11,7 +11,8 @@ use Rattle.model.proofs.Registers.Reachable.{reachable-empty}
 use Rattle.landing.specs.Records.{landListIn}
 use Rattle.landing.proofs.ListAgrees.{list-agrees, shownRead}
 
-empty-tables : tablesOf empty ≡ cleared
+-- the empty register has cleared tables and no counts
+pub empty-tables : tablesOf empty ≡ cleared
 unfolding computing
 empty-tables = refl
 

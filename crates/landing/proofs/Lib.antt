@@ -1,3 +1,4 @@
 pub mod RecordLaws
+pub mod Following
 pub mod ListAgrees
 pub mod Growing

@@ -37,7 +37,7 @@ pub struct Reading {
 }
 
 // A landed record goes on at the next one, a refused one stops.
-fn step_of(inserted: Inserted, next: Cursor) -> Step
+pub fn step_of(inserted: Inserted, next: Cursor) -> Step
     ensures { λ r. ⌜ asStep r ≡ stepOf (asPlace next) (asAnswer inserted) ⌝ }
 {
     match inserted {

@@ -10,10 +10,10 @@ returns c =
     let at-land-records = c .before .before .before .before .before .before .before .before .before .before .before .before in
     let at-header = at-land-records .before .before .before .before .before .before .before .before .before .before .before .before in
     let at-read-header = at-header .before .before in
-    list-records _ _ _ _ _ _ (ap asHeader (sym (at-header .header .given .1)) ∙ at-read-header .read-header .ensures) (at-land-records .land-records .ensures)
+    list-records _ _ _ _ _ _ _ (ap asHeader (sym (at-header .header .given .1)) ∙ at-read-header .read-header .ensures) (at-land-records .land-records .ensures)
 
 returns-2 : tie.Need-returns-2
-returns-2 c = list-bad _ _ _ _ _ (ap asHeader (sym (c .before .header2 .given .1)) ∙ c .before .before .before .read-header .ensures)
+returns-2 c = list-bad _ _ _ _ _ _ (ap asHeader (sym (c .before .header2 .given .1)) ∙ c .before .before .before .read-header .ensures)
 
 -- the needs in the order of the code
 pub land-list-spec : {M : Type 1} → statement M

@@ -66,7 +66,7 @@ returns c =
     let at-land-record = c .before .before .before .before .before .before .before .before .before .before .before .before .before .before in
     let at-loop-test = at-land-record .before .before .before .before .before .before .before .before .before .before .before in
     let at-loop = at-loop-test .before in
-    records-end _ _ _ _ _ _ _ _ _ (at-loop-test .loop-test .taken) (ap (steppedIn _) (ap asStep (sym (c .enum-told .given .1))) ∙ at-land-record .land-record .ensures) ∙ at-loop .loop .inv .1 .1
+    records-end _ _ _ _ _ _ _ _ _ _ (at-loop-test .loop-test .taken) (ap (steppedIn _) (ap asStep (sym (c .enum-told .given .1))) ∙ at-land-record .land-record .ensures) ∙ at-loop .loop .inv .1 .1
 
 same-length-7 : tie.Need-same-length-7 Inv-loop μ-loop
 same-length-7 c =
@@ -109,7 +109,7 @@ returns-2 c =
     let at-land-record = c .before .before .before .before .before .before .before .before .before .before .before .before .before .before .before in
     let at-loop-test = at-land-record .before .before .before .before .before .before .before .before .before .before .before in
     let at-loop = at-loop-test .before in
-    records-stop _ _ _ _ _ _ _ _ _ _ (at-loop-test .loop-test .taken) (ap (steppedIn _) (ap asStep (sym (c .before .step2 .given .1))) ∙ at-land-record .land-record .ensures) ∙ at-loop .loop .inv .1 .1
+    records-stop _ _ _ _ _ _ _ _ _ _ _ (at-loop-test .loop-test .taken) (ap (steppedIn _) (ap asStep (sym (c .before .step2 .given .1))) ∙ at-land-record .land-record .ensures) ∙ at-loop .loop .inv .1 .1
 
 add-number : tie.Need-add-number Inv-loop μ-loop
 add-number c =
@@ -132,7 +132,7 @@ loop-again c =
     let at-land-record = c .before .before .before .before .before .before .before .before .before .before .before .before .before .before .before in
     let at-loop-test = at-land-record .before .before .before .before .before .before .before .before .before .before .before in
     let at-loop = at-loop-test .before in
-    (omega (arith, at-loop .loop .inv .0, at-loop-test .loop-test .taken), (same-on (at-land-record .land-record .kept) (at-loop .loop .inv .1 .0), sym (records-on _ _ _ _ _ _ _ _ _ _ _ _ (at-loop-test .loop-test .taken) (ap (steppedIn _) (ap asStep (sym (c .before .step .given .1))) ∙ at-land-record .land-record .ensures)) ∙ at-loop .loop .inv .1 .1))
+    (omega (arith, at-loop .loop .inv .0, at-loop-test .loop-test .taken), (same-on (at-land-record .land-record .kept) (at-loop .loop .inv .1 .0), sym (records-on _ _ _ _ _ _ _ _ _ _ _ _ _ (at-loop-test .loop-test .taken) (ap (steppedIn _) (ap asStep (sym (c .before .step .given .1))) ∙ at-land-record .land-record .ensures)) ∙ at-loop .loop .inv .1 .1))
 
 same-length-13 : tie.Need-same-length-13 Inv-loop μ-loop
 same-length-13 c = c .before .loop .inv .1 .0 .degrees
@@ -153,7 +153,7 @@ same-length-18 : tie.Need-same-length-18 Inv-loop μ-loop
 same-length-18 c = c .before .loop .inv .1 .0 .labels
 
 returns-3 : tie.Need-returns-3 Inv-loop μ-loop
-returns-3 c = records-none _ _ _ _ _ _ _ _ (c .loop-test .left) ∙ c .before .loop .inv .1 .1
+returns-3 c = records-none _ _ _ _ _ _ _ _ _ (c .loop-test .left) ∙ c .before .loop .inv .1 .1
 
 -- the needs in the order of the code
 pub land-records-spec : {M : Type 1} → statement M

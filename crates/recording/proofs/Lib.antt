@@ -1,0 +1,3 @@
+pub mod UnlabelledLaws
+pub mod Noting
+pub mod Recorded
