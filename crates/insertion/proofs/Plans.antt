@@ -13,10 +13,11 @@ use Rattle.labels.specs.declared.merging.Keeper.the-variants.{Neither}
 use Rattle.labels.specs.declared.merging.Merger.{Merger}
 use Rattle.labels.specs.declared.splitting.Rounds.{Rounds}
 use Rattle.labels.specs.declared.splitting.Splits.{Splits}
+use Rattle.checking.specs.Checks.{CheckIn, checkIn, failed, passed}
 use Rattle.counting.specs.Counting.{estimated}
 use Rattle.counting.proofs.Laws.{merger-counts, rounds-count}
 use Rattle.insertion.specs.Placing.{Placed, goesOnIn, mergedIn, openedIn, workFor, workIn}
-use Rattle.insertion.specs.Insertion.{CheckIn, LandingIn, checkIn, failed, insertIn, landChecked, landIn, passed}
+use Rattle.insertion.specs.Insertion.{LandingIn, insertIn, landChecked, landIn}
 use Rattle.insertion.specs.Quoting.{caseIn, workCountIn}
 use Rattle.insertion.specs.Planning.{committedIn, insertPlanned, intentFor, intentIn, mergedBy, openedBy, plan, planFor, plannedCount, plannedIn}
 use Rattle.insertion.specs.Meaning.{asIntent}

@@ -10,14 +10,14 @@ use Rattle.model.specs.Tables.{Counts}
 use Rattle.counters.specs.declared.numbers.Millilitres.{Millilitres}
 use Rattle.counters.specs.declared.numbers.Millimetres.{Millimetres}
 use Rattle.counters.specs.declared.numbers.Vertex.{Vertex}
+use Rattle.checking.specs.Checks.{checkIn}
+use Rattle.checking.specs.Meaning.{asChecked}
+use Rattle.checking.specs.declared.checks.Checked.{Checked}
+use Rattle.checking.specs.declared.checks.Checked.the-variants.{Passed}
 use Rattle.counting.specs.Counting.{Estimated, estimated}
 use Rattle.insertion.specs.Placing.{workFor}
-use Rattle.insertion.specs.Insertion.{checkIn}
 use Rattle.insertion.specs.Quoting.{caseIn, offerIn, quoteIn, termsIn, workCountIn}
 use Rattle.insertion.specs.Planning.{IntentIn, place, intentFor, intentIn, planFor, plannedCount}
-use Rattle.insertion.specs.Meaning.{asChecked}
-use Rattle.insertion.specs.declared.checks.Checked.{Checked}
-use Rattle.insertion.specs.declared.checks.Checked.the-variants.{Passed}
 use Rattle.insertion.specs.declared.placing.Work.{Work}
 use Rattle.insertion.specs.declared.planning.Plan.{Plan}
 use Rattle.insertion.proofs.Plans.{planned-counts}

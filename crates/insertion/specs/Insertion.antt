@@ -1,16 +1,15 @@
--- One vertex or one edge into the six tables: its refusals in their order, what it leaves and its answer.
+-- One vertex or one edge into the six tables: what it leaves and its answer.
 use Prim.Native.Nat.{ℕ}
-use mathlib.Core.Bool.{Bool, not, _&&_, _||_}
-use mathlib.Core.Option.{Option, none, some}
+use mathlib.Core.Bool.{Bool, _||_}
 use lib.ListN.{set}
-use lib.Dec.{eqb, leb, ltb}
-use Rattle.model.specs.Basics.{if_then_else_, maxEdges, maxLength, maxVertices, maxVolume}
+use lib.Dec.{leb}
+use Rattle.model.specs.Basics.{if_then_else_, maxVertices}
 use Rattle.model.specs.Graph.{Edge}
 use Rattle.model.specs.Tables.{Tables, Counts}
 use Rattle.counters.specs.Answers.{counts}
-use Rattle.counters.specs.Numbers.{Volume, known, unknown, outOfRange, isLanded}
 use Rattle.tables.specs.Meaning.{tables}
 use Rattle.tables.specs.Steps.{setPair, more16, sum32}
+use Rattle.checking.specs.Checks.{CheckIn, checkIn, passed, failed}
 use Rattle.insertion.specs.Placing.{placedBy}
 
 -- the counts after a landing and whether a ring may stand then, or its refusal
@@ -41,27 +40,6 @@ insertIn t c rings e =
     (tables (p .degrees) (p .sides) (setPair (t .ends) new (e .first) (e .second)) (set (t .lengths) new (e .len))
     (set (t .volumes) new (e .volume)) (p .labels))
     (done (counts (c .vertices) (more16 new) (p .blocks) (sum32 (c .relabellings) (p .relabellings))) (rings || p .ring))
-
--- "0 means unknown in the register"
-abbrev pub storedVolume : Volume → Option ℕ
-storedVolume (known v) = some v
-storedVolume unknown = some 0
-storedVolume outOfRange = none
-
--- the ends, the length and the volume of an edge that passed, or the first of refusals 5, 6, 7, 31, 23 and 36 that holds of it
-pub data CheckIn : Type 0 where
-  passed : ℕ → ℕ → ℕ → ℕ → CheckIn
-  failed : ℕ → CheckIn
-
-unfoldable pub checkIn : Counts → ℕ → Edge → CheckIn
-checkIn c limit e =
-    if not (isLanded (c .vertices) (e .first) && isLanded (c .vertices) (e .second)) then failed 5
-    else if eqb (e .first) (e .second) then failed 6
-    else if eqb (e .len) 0 || ltb maxLength (e .len) then failed 7
-    else if ltb maxVolume (e .volume) then failed 31
-    else if leb maxEdges (c .edges) then failed 23
-    else if leb limit (c .edges) then failed 36
-    else passed (e .first) (e .second) (e .len) (e .volume)
 
 -- what landing comes to, once the edge was checked; a refused edge leaves the tables
 abbrev pub landChecked : Tables → Counts → Bool → Edge → CheckIn → LandingIn

@@ -9,6 +9,7 @@ use Rattle.model.specs.Tables.{Tables, Counts}
 use Rattle.counters.specs.Answers.{counts}
 use Rattle.tables.specs.Meaning.{tables}
 use Rattle.tables.specs.Steps.{setPair, raiseBothIn, more16, sum32}
+use Rattle.checking.specs.Checks.{CheckIn, checkIn, passed, failed}
 use Rattle.labels.specs.Merging.{merger, mergerFor, mergeBy}
 use Rattle.labels.specs.Splitting.{noRounds, roundsFor, endsBy}
 use Rattle.labels.specs.declared.merging.Keeper.the-variants.{Neither}
@@ -17,7 +18,7 @@ use Rattle.labels.specs.declared.splitting.Splits.{Splits}
 use Rattle.labels.specs.declared.splitting.Rounds.{Rounds}
 use Rattle.counting.specs.Counting.{Estimated, estimated, mergerCount, roundsCount}
 use Rattle.insertion.specs.Placing.{meetIn, Placed, placed, goesOnIn, workFor}
-use Rattle.insertion.specs.Insertion.{LandingIn, landingIn, done, refusedIn, CheckIn, checkIn, passed, failed}
+use Rattle.insertion.specs.Insertion.{LandingIn, landingIn, done, refusedIn}
 use Rattle.insertion.specs.Quoting.{caseIn}
 use Rattle.insertion.specs.declared.placing.Extension.{Extension}
 use Rattle.insertion.specs.declared.placing.Extension.the-variants.{Nothing, Leaf}

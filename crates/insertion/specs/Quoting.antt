@@ -8,9 +8,9 @@ use Rattle.model.specs.Graph.{Edge}
 use Rattle.model.specs.Cases.{Case, classOf, caseOf}
 use Rattle.model.specs.Register.{Quote, Terms, offers, declines, caseNumber}
 use Rattle.model.specs.Tables.{Counts}
+use Rattle.checking.specs.Checks.{CheckIn, checkIn, passed, failed}
 use Rattle.counting.specs.Counting.{Estimated, estimated, mergeCountIn, splitCountIn}
 use Rattle.insertion.specs.Placing.{workFor}
-use Rattle.insertion.specs.Insertion.{CheckIn, checkIn, passed, failed}
 use Rattle.insertion.specs.declared.placing.Work.{Work}
 use Rattle.insertion.specs.declared.placing.Work.the-variants.{Merge, Open}
 

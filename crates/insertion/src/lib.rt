@@ -1,9 +1,6 @@
 // One record of a list into the six lent tables.
-// vertices: a vertex, which changes the counts alone; edges: an edge, by a quote and its commit, and what is written down; checks: its
-// refusals; cases: which of document 01's cases it is; placing: case by case; planning: what is decided by reading, before it is done;
-// quoting, committing: document 02's quote, and the commit of any quote.
-pub mod cases;
-pub mod checks;
+// vertices: a vertex, which changes the counts alone; edges: an edge, by a quote and its commit, and what is written down; placing: case by
+// case; planning: what is decided by reading, before it is done; quoting, committing: document 02's quote, and the commit of any quote.
 pub mod committing;
 pub mod edges;
 pub mod placing;

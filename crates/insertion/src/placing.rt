@@ -1,6 +1,6 @@
 // What an edge does to the degrees, the sides and the labels, once it is known what lies about its ends. e edges were landed before, which
 // is fuel enough for every walk.
-use crate::cases::Case;
+use checking::cases::Case;
 use counters::numbers::Edge;
 use counters::numbers::Vertex;
 use labels::labelling::extend_chain;
@@ -14,9 +14,9 @@ use tables::kinds::degree_of;
 use tables::kinds::put_sides;
 use tables::steps::raise_both;
 ghost use mathlib.Core.Path.{_≡_};
+ghost use Rattle.checking.specs.Meaning.{asCase};
 ghost use Rattle.insertion.specs.Placing.{meetIn, placed, workFor};
 ghost use Rattle.insertion.specs.Planning.{openedBy, openBy, mergedBy};
-ghost use Rattle.insertion.specs.Meaning.{asCase};
 
 // The leaf whose chain goes on over the edge, if one does.
 pub enum Extension {

@@ -1,9 +1,9 @@
 // The quote of an edge (document 02, S-5), made together with what its commit does. Nothing is written.
-use crate::cases::Case;
-use crate::cases::case_of;
-use crate::cases::class_of;
-use crate::checks::Checked;
-use crate::checks::check_edge;
+use checking::cases::Case;
+use checking::cases::case_of;
+use checking::cases::class_of;
+use checking::checks::Checked;
+use checking::checks::check_edge;
 use crate::placing::work_of;
 use crate::planning::Plan;
 use crate::planning::count_planned;
@@ -22,11 +22,12 @@ ghost use mathlib.Core.Path.{_≡_};
 ghost use Rattle.model.specs.Register.{caseNumber};
 ghost use Rattle.counters.specs.Answers.{asCounts};
 ghost use Rattle.counters.specs.Quotes.{numberOfCase, asTerms, asQuote};
+ghost use Rattle.checking.specs.Meaning.{asCase};
 ghost use Rattle.counting.specs.Counting.{estimated};
 ghost use Rattle.insertion.specs.Placing.{workFor};
 ghost use Rattle.insertion.specs.Planning.{planFor, intentIn};
 ghost use Rattle.insertion.specs.Quoting.{caseIn, offerIn, workCountIn, quoteIn};
-ghost use Rattle.insertion.specs.Meaning.{asCase, asIntent};
+ghost use Rattle.insertion.specs.Meaning.{asIntent};
 
 // What the commit of a quote does: the edge is placed as planned, or refused.
 pub enum Intent {

@@ -1,7 +1,7 @@
 use Rattle.model.specs.Cases.{classOf}
-use Rattle.insertion.proofs.Classes.{class-branch}
-use Rattle.insertion.proofs.cases.class_of.Statement.{statement}
-use Rattle.insertion.proofs.cases.class_of.Tie as tie
+use Rattle.checking.proofs.Classes.{class-branch}
+use Rattle.checking.proofs.cases.class_of.Statement.{statement}
+use Rattle.checking.proofs.cases.class_of.Tie as tie
 
 returns : tie.Need-returns
 unfolding classOf

@@ -1,9 +1,9 @@
-use Rattle.insertion.specs.Insertion.{storedVolume}
+use Rattle.checking.specs.Checks.{storedVolume}
 use Rattle.counters.specs.Numbers.{asMillilitres}
 use mathlib.Core.Path.{ap, sym, _∙_}
 use borrow.Author.Needs.{needs}
-use Rattle.insertion.proofs.checks.check_volume.Statement.{statement}
-use Rattle.insertion.proofs.checks.check_volume.Tie as tie
+use Rattle.checking.proofs.checks.check_volume.Statement.{statement}
+use Rattle.checking.proofs.checks.check_volume.Tie as tie
 
 returns : tie.Need-returns
 returns c = ap storedVolume (ap asMillilitres (sym (c .before .known .given .1)) ∙ c .before .before .before .new .ensures)

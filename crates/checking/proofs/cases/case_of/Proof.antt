@@ -1,9 +1,9 @@
 use mathlib.Core.Path.{_∙_}
 use Rattle.model.specs.Cases.{classOf}
-use Rattle.insertion.proofs.Classes.{case-singular}
+use Rattle.checking.proofs.Classes.{case-singular}
 use borrow.Author.Needs.{needs}
-use Rattle.insertion.proofs.cases.case_of.Statement.{statement}
-use Rattle.insertion.proofs.cases.case_of.Tie as tie
+use Rattle.checking.proofs.cases.case_of.Statement.{statement}
+use Rattle.checking.proofs.cases.case_of.Tie as tie
 
 case-of-leaf-requires : tie.Need-case-of-leaf-requires
 case-of-leaf-requires c κs = search needs

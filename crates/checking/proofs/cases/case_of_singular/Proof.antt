@@ -1,7 +1,7 @@
 use borrow.Author.Needs.{needs}
 use Rattle.model.specs.Cases.{caseOf}
-use Rattle.insertion.proofs.cases.case_of_singular.Statement.{statement}
-use Rattle.insertion.proofs.cases.case_of_singular.Tie as tie
+use Rattle.checking.proofs.cases.case_of_singular.Statement.{statement}
+use Rattle.checking.proofs.cases.case_of_singular.Tie as tie
 
 enum-told : tie.Need-enum-told
 enum-told c = search needs

@@ -1,7 +1,7 @@
 // The case of an insertion, by the degrees of the two ends before it.
 ghost use mathlib.Core.Path.{_≡_};
 ghost use Rattle.model.specs.Cases.{isolated, leaf, regular, classOf, caseOf};
-ghost use Rattle.insertion.specs.Meaning.{asClass, asCase};
+ghost use Rattle.checking.specs.Meaning.{asClass, asCase};
 
 // Degrees 0, 1, 2, 3 and up. Document 01 calls a regular vertex a coupling, every other one a junction, and a leaf free.
 pub enum Class {

@@ -11,8 +11,8 @@ use counters::sizes::MAX_EDGES;
 ghost use mathlib.Core.Path.{_≡_};
 ghost use Rattle.counters.specs.Answers.{asCounts};
 ghost use Rattle.counters.specs.Numbers.{volumeOf};
-ghost use Rattle.insertion.specs.Insertion.{storedVolume, checkIn};
-ghost use Rattle.insertion.specs.Meaning.{asChecked, asVolume};
+ghost use Rattle.checking.specs.Checks.{storedVolume, checkIn};
+ghost use Rattle.checking.specs.Meaning.{asChecked, asVolume};
 
 // A volume as the register has it, if it is within its bounds.
 pub enum CheckedVolume {

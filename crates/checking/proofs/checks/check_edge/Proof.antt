@@ -1,11 +1,11 @@
-use Rattle.insertion.proofs.Answers.{check-first, check-second, check-same, check-length, check-volume, check-edges, check-limit, check-passed}
-use Rattle.insertion.specs.Meaning.{asVolume}
+use Rattle.checking.proofs.Refusals.{check-first, check-second, check-same, check-length, check-volume, check-edges, check-limit, check-passed}
+use Rattle.checking.specs.Meaning.{asVolume}
 use Rattle.counters.proofs.Within.{landed-is, landed-none}
 use Rattle.counters.specs.Numbers.{asMillimetres, asVertex}
 use mathlib.Core.Path.{ap, sym, _∙_}
 use borrow.Author.Needs.{needs}
-use Rattle.insertion.proofs.checks.check_edge.Statement.{statement}
-use Rattle.insertion.proofs.checks.check_edge.Tie as tie
+use Rattle.checking.proofs.checks.check_edge.Statement.{statement}
+use Rattle.checking.proofs.checks.check_edge.Tie as tie
 
 returns : tie.Need-returns
 returns c = check-first _ _ _ _ _ _ (landed-none _ _ (ap asVertex (sym (c .enum-told .given .1)) ∙ c .before .before .landed .ensures))
