@@ -1,4 +1,3 @@
 pub mod Returns
 pub mod Bytes
-pub mod Rows
 pub mod CallLaws

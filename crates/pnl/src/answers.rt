@@ -2,8 +2,6 @@
 use chains::numbers::wide;
 use counters::refusals::Refusal;
 use questions::find::FoundChain;
-use questions::measure::Measured;
-use search::shortest::Distance;
 use tables::access::at32;
 use text::bytes::put_word;
 ghost use mathlib.Core.Path.{_≡_};
@@ -13,7 +11,7 @@ ghost use lib.ListN.{length};
 ghost use Rattle.model.specs.Register.{Register};
 ghost use Rattle.model.specs.FromC.{bytesOf, returnsNumbers, returnsReply};
 ghost use Rattle.counters.specs.Refusals.{numberOf};
-ghost use Rattle.questions.specs.Meaning.{foundReply, measuredReply};
+ghost use Rattle.questions.specs.Meaning.{foundReply};
 ghost use Rattle.text.specs.Pages.{page, write};
 ghost use Rattle.pnl.specs.FromC.{returned};
 
@@ -67,20 +65,5 @@ pub fn answer_found(answer: &mut [u8], found: FoundChain) -> i32
             answer_numbers(answer, &[run, coupling, low.0, high.0])
         }
         FoundChain::Refused(refusal) => refused(refusal),
-    }
-}
-
-// What stands for a distance where there is no way.
-const NOT_JOINED: u32 = 4294967295;
-
-pub fn answer_distance(answer: &mut [u8], measured: Measured) -> i32
-    ensures { λ r. ⌜ ((register : Register) → returned (now (answer .exit)) r ≡ returnsReply register (now (answer .entry)) (measuredReply measured)) ⌝ }
-{
-    match measured {
-        Measured::Distance(distance) => match distance {
-            Distance::Joined(millimetres) => answer_numbers(answer, &[millimetres.0]),
-            Distance::NotJoined => answer_numbers(answer, &[NOT_JOINED]),
-        },
-        Measured::Refused(refusal) => refused(refusal),
     }
 }

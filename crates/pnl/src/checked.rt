@@ -1,5 +1,4 @@
-// Labels and vertices as C gives them, of 32 bits. A number above the largest vertex is never landed: 8 for a find, 5 for a distance.
-use crate::distances::distance_in;
+// Labels and vertices as C gives them, of 32 bits. A number above the largest vertex is never landed, which is 8.
 use crate::finding::find_from;
 use counters::counts::Counts;
 use counters::numbers::CheckedLabel;
@@ -8,7 +7,6 @@ use counters::numbers::Label;
 use counters::numbers::Vertex;
 use counters::refusals::Refusal;
 use questions::find::FoundChain;
-use questions::measure::Measured;
 use tables::kinds::label_of;
 ghost use mathlib.Core.Path.{_≡_};
 ghost use mathlib.Core.List.{List};
@@ -19,8 +17,7 @@ ghost use Rattle.model.specs.Notions.{HeldOf};
 ghost use Rattle.counters.specs.Answers.{asCounts};
 ghost use Rattle.tables.specs.Meaning.{stored, tables};
 ghost use Rattle.holders.specs.Finding.{findIn};
-ghost use Rattle.questions.specs.Meaning.{foundReply, measuredReply};
-ghost use Rattle.questions.specs.Measure.{Measurable, measureIn};
+ghost use Rattle.questions.specs.Meaning.{foundReply};
 
 // Every number of 32 bits is a label.
 pub fn find_checked(
@@ -79,36 +76,5 @@ pub fn find_at_checked(
             )
         }
         CheckedVertex::OutOfRange => FoundChain::Refused(Refusal::NotRegular),
-    }
-}
-
-// The first is checked.
-fn measure_to(ends: &[u16], lengths: &[u32], counts: Counts, from: Vertex, to: u32) -> Measured
-    requires { ⌜ Measurable (now ends) (now lengths) (asCounts counts) ⌝ }
-    ensures { λ r. ⌜ ((degrees sides volumes labels : List ℕ) → measuredReply r
-        ≡ measureIn (tables degrees sides (now (ends .entry)) (now (lengths .entry)) volumes labels) (asCounts counts) (from .0) to) ⌝ }
-{
-    let checked = Vertex::new(to);
-    match checked {
-        CheckedVertex::Is(v) => distance_in(ends, lengths, counts, from, v),
-        CheckedVertex::OutOfRange => Measured::Refused(Refusal::NotLanded),
-    }
-}
-
-pub fn measure_checked(
-    ends: &[u16],
-    lengths: &[u32],
-    counts: Counts,
-    from: u32,
-    to: u32,
-) -> Measured
-    requires { ⌜ Measurable (now ends) (now lengths) (asCounts counts) ⌝ }
-    ensures { λ r. ⌜ ((degrees sides volumes labels : List ℕ) → measuredReply r
-        ≡ measureIn (tables degrees sides (now (ends .entry)) (now (lengths .entry)) volumes labels) (asCounts counts) from to) ⌝ }
-{
-    let checked = Vertex::new(from);
-    match checked {
-        CheckedVertex::Is(v) => measure_to(ends, lengths, counts, v, to),
-        CheckedVertex::OutOfRange => Measured::Refused(Refusal::NotLanded),
     }
 }

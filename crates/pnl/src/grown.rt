@@ -1,11 +1,8 @@
 // A list grown in arrays of its own, and the answer to a question about the register that it leaves.
-use crate::answers::answer_distance;
 use crate::answers::answer_found;
 use crate::answers::refused;
 use crate::checked::find_at_checked;
 use crate::checked::find_checked;
-use crate::checked::measure_checked;
-use crate::sheet::answer_sheet;
 use counters::answers::Stop;
 use counters::counts::Counts;
 use counters::sizes::EDGES;
@@ -14,21 +11,20 @@ use counters::sizes::SIDES;
 use counters::sizes::VERTICES;
 use landing::records::grow_list;
 ghost use mathlib.Core.Path.{_≡_};
+ghost use mathlib.Core.List.{List};
+ghost use Prim.Native.Nat.{ℕ};
 ghost use Rattle.model.specs.Register.{Register};
 ghost use Rattle.model.specs.FromC.{fromC, returnsReply};
 ghost use Rattle.model.specs.Notions.{HeldOf};
 ghost use Rattle.counters.specs.Answers.{asCounts};
 ghost use Rattle.tables.specs.Meaning.{stored, tables};
-ghost use Rattle.questions.specs.Measure.{Measurable};
 ghost use Rattle.pnl.specs.Questions.{asQuestion};
 ghost use Rattle.pnl.specs.FromC.{returned};
 
-// What may be asked from C.
+// What may be asked of the tags.
 pub enum Question {
-    Sheet,
     Find(u32),
     FindAt(u32),
-    Distance(u32, u32),
 }
 
 // The tables are a register's, so there is no gate to pass.
@@ -38,26 +34,15 @@ fn answer_question(
     sides: &[u16],
     ends: &[u16],
     lengths: &[u32],
-    volumes: &[u32],
     labels: &[u32],
     counts: Counts,
     question: Question,
 ) -> i32
-    requires { ⌜ Measurable (now ends) (now lengths) (asCounts counts) ⌝ }
-    ensures { λ r. ⌜ ((register : Register)
-        → HeldOf (stored (tables (now (degrees .entry)) (now (sides .entry)) (now (ends .entry)) (now (lengths .entry)) (now (volumes .entry)) (now (labels .entry))) (asCounts counts)) register
+    ensures { λ r. ⌜ ((volumes : List ℕ) (register : Register)
+        → HeldOf (stored (tables (now (degrees .entry)) (now (sides .entry)) (now (ends .entry)) (now (lengths .entry)) volumes (now (labels .entry))) (asCounts counts)) register
         → returned (now (answer .exit)) r ≡ returnsReply register (now (answer .entry)) (asQuestion question register)) ⌝ }
 {
     match question {
-        Question::Sheet => answer_sheet(
-            answer,
-            degrees,
-            sides,
-            ends,
-            lengths,
-            volumes,
-            counts.edges,
-        ),
         Question::Find(label) => {
             let found = find_checked(degrees, sides, ends, lengths, labels, counts, label);
             answer_found(answer, found)
@@ -65,10 +50,6 @@ fn answer_question(
         Question::FindAt(vertex) => {
             let found = find_at_checked(degrees, sides, ends, lengths, labels, counts, vertex);
             answer_found(answer, found)
-        }
-        Question::Distance(from, to) => {
-            let measured = measure_checked(ends, lengths, counts, from, to);
-            answer_distance(answer, measured)
         }
     }
 }
@@ -101,7 +82,6 @@ pub fn answer_call(list: &[u8], question: Question, answer: &mut [u8]) -> i32
             &sides,
             &ends,
             &lengths,
-            &volumes,
             &labels,
             counts,
             question,

@@ -52,8 +52,7 @@ module _ (degrees sides : List ℕ) (x e : ℕ) where
   unfolding noteIn
   note-other v n =
       let p : ℕ = placeFor (getD degrees x 0) in
-      let m : p ≤ 1 = place-most (getD degrees x 0) in
-      (
+      let m : p ≤ 1 = place-most (getD degrees x 0) in (
         getD-set-other sides (2 * x + p) (2 * v) e 0 (λ q. n (omega arith)),
         getD-set-other sides (2 * x + p) (2 * v + 1) e 0 (λ q. n (omega arith)),
       )

@@ -23,7 +23,8 @@ use Rattle.model.proofs.Registers.Accepted.{unrefused}
 use Rattle.model.proofs.Registers.Quotes.{land-edge-by, unlessRefused}
 use Rattle.model.proofs.Registers.Reachable.{reachable-empty}
 use Rattle.model.proofs.Walks.Turn.{At}
-use Rattle.insertion.specs.Insertion.{checkIn, done, landVertexIn, refusedIn}
+use Rattle.checking.specs.Checks.{checkIn}
+use Rattle.insertion.specs.Insertion.{done, landVertexIn, refusedIn}
 use Rattle.agreement.proofs.Landing.{check-agrees, checkedAs, edges-new, ends-new, lengths-new, volumes-new}
 use Rattle.agreement.proofs.Registers.{few, proper, room}
 use Rattle.agreement.proofs.Tables.{degrees-are, degrees-long, degrees-read, length-raised, raised}

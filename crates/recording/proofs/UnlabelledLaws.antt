@@ -9,7 +9,8 @@ use Rattle.model.specs.Tables.{Tables, Counts}
 use Rattle.counters.specs.Answers.{counts}
 use Rattle.tables.specs.Meaning.{tables}
 use Rattle.tables.specs.Steps.{setPair, more16, raiseBothIn}
-use Rattle.insertion.specs.Insertion.{AnswerIn, landingIn, done, refusedIn, passed, failed, checkIn}
+use Rattle.checking.specs.Checks.{passed, failed, checkIn}
+use Rattle.insertion.specs.Insertion.{AnswerIn, landingIn, done, refusedIn}
 use Rattle.recording.specs.Unlabelled.{noteBothIn, noteEdgeIn, recordIn}
 
 -- the edge written down, its ends raised and noted

@@ -10,7 +10,8 @@ use Rattle.model.specs.Tables.{Tables, Counts}
 use Rattle.counters.specs.Answers.{counts}
 use Rattle.tables.specs.Meaning.{tables}
 use Rattle.tables.specs.Steps.{setPair, more16, raiseBothIn}
-use Rattle.insertion.specs.Insertion.{LandingIn, landingIn, done, refusedIn, CheckIn, passed, failed, checkIn}
+use Rattle.checking.specs.Checks.{CheckIn, passed, failed, checkIn}
+use Rattle.insertion.specs.Insertion.{LandingIn, landingIn, done, refusedIn}
 
 -- the side on which the next edge stands at a vertex of this degree: 0 is low, 1 is high
 unfoldable pub placeFor : ℕ → ℕ

@@ -97,7 +97,10 @@ fn note_records(
         );
         match step {
             Step::End => {
-                return Reading { counts: head, stop: Stop::Whole };
+                return Reading {
+                    counts: head,
+                    stop: Stop::Whole,
+                };
             }
             Step::Landed(counts, then, next) => {
                 head = counts;
@@ -105,13 +108,19 @@ fn note_records(
                 at = next;
             }
             Step::Refused(refusal) => {
-                return Reading { counts: head, stop: Stop::Stopped(number, refusal) };
+                return Reading {
+                    counts: head,
+                    stop: Stop::Stopped(number, refusal),
+                };
             }
         }
         number += 1;
         left -= 1;
     }
-    Reading { counts: head, stop: Stop::Whole }
+    Reading {
+        counts: head,
+        stop: Stop::Whole,
+    }
 }
 
 // A whole list from empty, on tables that come cleared.

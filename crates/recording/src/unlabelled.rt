@@ -1,12 +1,12 @@
 // One edge without labels: its refusals, and then the edge itself, the degrees of its ends, and where it stands at them.
+use checking::checks::Checked;
+use checking::checks::check_edge;
 use counters::counts::Counts;
 use counters::numbers::Edge;
 use counters::numbers::Millilitres;
 use counters::numbers::Millimetres;
 use counters::numbers::Vertex;
 use counters::sizes::MAX_EDGES;
-use insertion::checks::Checked;
-use insertion::checks::check_edge;
 use insertion::edges::Inserted;
 use insertion::edges::record_edge;
 use tables::access::one_more16;

@@ -166,15 +166,20 @@ loop-again c =
     let at-loop-test = at-note-record .before .before .before .before .before .before in
     let at-loop = at-loop-test .before in
     let k = at-note-record .note-record .kept in
-    let same = at-loop .loop .inv .1 .0 in
-    (omega (arith, at-loop .loop .inv .0, at-loop-test .loop-test .taken), (record {
-      degrees = k .0 ∙ same .degrees;
-      sides = k .1 .0 ∙ same .sides;
-      ends = k .1 .1 .0 ∙ same .ends;
-      lengths = k .1 .1 .1 .0 ∙ same .lengths;
-      volumes = k .1 .1 .1 .1 .0 ∙ same .volumes;
-      labels = refl;
-    }, sym (records-on _ _ _ _ _ _ _ _ _ _ _ _ _ (at-loop-test .loop-test .taken) (ap (steppedIn _) (ap asStep (sym (c .before .step .given .1))) ∙ at-note-record .note-record .ensures)) ∙ at-loop .loop .inv .1 .1))
+    let same = at-loop .loop .inv .1 .0 in (
+      omega (arith, at-loop .loop .inv .0, at-loop-test .loop-test .taken),
+      (
+        record {
+          degrees = k .0 ∙ same .degrees;
+          sides = k .1 .0 ∙ same .sides;
+          ends = k .1 .1 .0 ∙ same .ends;
+          lengths = k .1 .1 .1 .0 ∙ same .lengths;
+          volumes = k .1 .1 .1 .1 .0 ∙ same .volumes;
+          labels = refl;
+        },
+        sym (records-on _ _ _ _ _ _ _ _ _ _ _ _ _ (at-loop-test .loop-test .taken) (ap (steppedIn _) (ap asStep (sym (c .before .step .given .1))) ∙ at-note-record .note-record .ensures)) ∙ at-loop .loop .inv .1 .1,
+      ),
+    )
 
 -- src/lists.rt:67:1
 same-length-11 : tie.Need-same-length-11 Inv-loop μ-loop

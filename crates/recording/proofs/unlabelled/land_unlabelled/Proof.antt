@@ -1,12 +1,12 @@
 use Rattle.recording.proofs.UnlabelledLaws.{record-passed, record-failed}
-use Rattle.insertion.specs.Meaning.{asChecked}
+use Rattle.checking.specs.Meaning.{asChecked}
 use mathlib.Core.Path.{ap, sym, _∙_}
 use borrow.Author.Needs.{needs}
 use Rattle.recording.proofs.unlabelled.land_unlabelled.Statement.{statement}
 use Rattle.recording.proofs.unlabelled.land_unlabelled.Tie as tie
 use Rattle.recording.proofs.unlabelled.land_unlabelled.Reads as reads
 use Rattle.recording.proofs.unlabelled.land_unlabelled.Lts as lts
-use Rattle.insertion.proofs.checks.check_edge.Reads as check-edge-reads
+use Rattle.checking.proofs.checks.check_edge.Reads as check-edge-reads
 use Rattle.recording.proofs.unlabelled.note_edge.Reads as note-edge-reads
 
 -- src/unlabelled.rt:108:9

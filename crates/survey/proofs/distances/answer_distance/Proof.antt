@@ -1,8 +1,8 @@
 use Rattle.model.specs.FromC.{returnsReply, returnsRefusal, distanceNumber}
 use Rattle.pnl.proofs.Returns.{value-kept, handed}
 use borrow.Author.Needs.{needs}
-use Rattle.pnl.proofs.answers.answer_distance.Statement.{statement}
-use Rattle.pnl.proofs.answers.answer_distance.Tie as tie
+use Rattle.survey.proofs.distances.answer_distance.Statement.{statement}
+use Rattle.survey.proofs.distances.answer_distance.Tie as tie
 
 returns : tie.Need-returns
 unfolding returnsReply distanceNumber

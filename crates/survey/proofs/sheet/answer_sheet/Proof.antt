@@ -1,10 +1,10 @@
-use Rattle.pnl.proofs.Rows.{sheet-short, sheet-whole}
+use Rattle.survey.proofs.Rows.{sheet-short, sheet-whole}
 use Rattle.pnl.proofs.Returns.{value-kept}
 use borrow.Author.Tests.{not-true, not-false}
 use mathlib.Core.Path.{_∙_}
 use borrow.Author.Needs.{needs}
-use Rattle.pnl.proofs.sheet.answer_sheet.Statement.{statement}
-use Rattle.pnl.proofs.sheet.answer_sheet.Tie as tie
+use Rattle.survey.proofs.sheet.answer_sheet.Statement.{statement}
+use Rattle.survey.proofs.sheet.answer_sheet.Tie as tie
 
 returns : tie.Need-returns
 returns c = sheet-short _ _ _ _ _ _ _ _ _ (c .before .before .before .has-room .ensures) _ (not-true _ (c .before .if1 .taken)) (value-kept (c .refused .ok) ∙ c .refused .ensures)

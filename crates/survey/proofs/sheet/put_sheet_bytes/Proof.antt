@@ -1,4 +1,4 @@
-use Rattle.pnl.proofs.Rows.{row-bytes}
+use Rattle.survey.proofs.Rows.{row-bytes}
 use Rattle.chains.proofs.SheetLaws.{put-none, put-on, put-all}
 use Rattle.chains.proofs.NameLaws.{Sweeps, sweep-start, sweep-on, sweep-end, unmarked-less}
 use Rattle.chains.specs.Chains.{rowsIn}
@@ -11,8 +11,8 @@ use Prim.Native.Nat.{ℕ, _-_}
 use mathlib.Core.List.{List, [], _∷_, _++_}
 use mathlib.Core.Path.{_≡_, refl, ap, _∙_}
 use borrow.Author.Needs.{needs}
-use Rattle.pnl.proofs.sheet.put_sheet_bytes.Statement.{statement}
-use Rattle.pnl.proofs.sheet.put_sheet_bytes.Tie as tie
+use Rattle.survey.proofs.sheet.put_sheet_bytes.Statement.{statement}
+use Rattle.survey.proofs.sheet.put_sheet_bytes.Tie as tie
 
 abbrev Inv-loop : tie.InvT-loop
 Inv-loop out₀ degrees sides ends lengths volumes marks₀ edges next₀ count₀ edge₀ out marks next count edge = (length out ≡ length out₀) × ((found : List ℕ) × (Sweeps degrees sides ends edges marks₀ edge marks found × ((count ≡ length found) × (page out next ≡ write (bytesOf (concat (rowsIn degrees sides ends lengths volumes edges found))) (page out₀ 0)))))

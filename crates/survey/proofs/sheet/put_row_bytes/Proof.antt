@@ -1,6 +1,6 @@
 use borrow.Author.Needs.{needs}
-use Rattle.pnl.proofs.sheet.put_row_bytes.Statement.{statement}
-use Rattle.pnl.proofs.sheet.put_row_bytes.Tie as tie
+use Rattle.survey.proofs.sheet.put_row_bytes.Statement.{statement}
+use Rattle.survey.proofs.sheet.put_row_bytes.Tie as tie
 
 wide-requires : tie.Need-wide-requires
 wide-requires c κs = search needs

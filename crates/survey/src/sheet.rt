@@ -1,7 +1,4 @@
 // The sheet as a call's answer: six numbers a chain, by rising name.
-use crate::answers::byte_count;
-use crate::answers::put_words;
-use crate::answers::refused;
 use chains::marks::next_unmarked;
 use chains::names::has_room;
 use chains::numbers::wide;
@@ -11,6 +8,9 @@ use chains::rows::take_row;
 use counters::numbers::Edge;
 use counters::refusals::Refusal;
 use counters::sizes::EDGES;
+use pnl::answers::byte_count;
+use pnl::answers::put_words;
+use pnl::answers::refused;
 ghost use mathlib.Core.Path.{_≡_};
 ghost use lib.ListN.{length, replicate};
 ghost use Rattle.model.specs.Basics.{maxEdges};
