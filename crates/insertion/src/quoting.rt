@@ -1,13 +1,13 @@
 // The quote of an edge (document 02, S-5), made together with what its commit does. Nothing is written.
+use crate::placing::work_of;
+use crate::planning::Plan;
+use crate::planning::count_planned;
+use crate::planning::plan_work;
 use checking::cases::Case;
 use checking::cases::case_of;
 use checking::cases::class_of;
 use checking::checks::Checked;
 use checking::checks::check_edge;
-use crate::placing::work_of;
-use crate::planning::Plan;
-use crate::planning::count_planned;
-use crate::planning::plan_work;
 use counters::counts::Counts;
 use counters::numbers::Millilitres;
 use counters::numbers::Millimetres;
