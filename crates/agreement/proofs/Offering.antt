@@ -15,9 +15,9 @@ use Rattle.model.specs.Register.{Register, Terms, caseNumber, offers, relabelsO
 use Rattle.model.specs.Tables.{countsOf, tablesOf}
 use Rattle.model.specs.Notions.{Reachable}
 use Rattle.counters.specs.Numbers.{vertexOf}
-use Rattle.labels.specs.Splitting.{splitEndsIn, splitIn}
-use Rattle.labels.specs.declared.splitting.Splits.{Splits}
-use Rattle.labels.specs.declared.splitting.Splits.the-variants.{Both, Neither, One}
+use Rattle.parting.specs.Splitting.{splitEndsIn, splitIn}
+use Rattle.parting.specs.declared.splitting.Splits.{Splits}
+use Rattle.parting.specs.declared.splitting.Splits.the-variants.{Both, Neither, One}
 use Rattle.counting.specs.Counting.{estimated, roundCount, splitCountIn}
 use Rattle.placement.specs.Placing.{goesOnIn, mergedIn, openedIn, placedBy, workFor, workIn}
 use Rattle.quoting.specs.Quoting.{caseIn, offerIn, workCountIn}

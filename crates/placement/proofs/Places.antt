@@ -8,11 +8,12 @@ use lib.ListN.{getD}
 use Rattle.counters.specs.declared.numbers.Vertex.{Vertex}
 use Rattle.tables.specs.Steps.{setPair, raiseBothIn}
 use Rattle.labels.specs.Labelling.{marksIn, extendIn}
-use Rattle.labels.specs.Merging.{changed, mergeBy}
-use Rattle.labels.specs.Splitting.{endsBy}
-use Rattle.labels.specs.declared.merging.Merger.{Merger}
-use Rattle.labels.specs.declared.splitting.Rounds.{Rounds}
-use Rattle.labels.specs.declared.splitting.Splits.{Splits}
+use Rattle.labels.specs.Changes.{changed}
+use Rattle.joining.specs.Merging.{mergeBy}
+use Rattle.parting.specs.Splitting.{endsBy}
+use Rattle.joining.specs.declared.merging.Merger.{Merger}
+use Rattle.parting.specs.declared.splitting.Rounds.{Rounds}
+use Rattle.parting.specs.declared.splitting.Splits.{Splits}
 use Rattle.placement.specs.Placing.{meetIn, placed, goesOnIn}
 use Rattle.placement.specs.Planning.{openedBy, openBy, mergedBy}
 use Rattle.placement.specs.declared.placing.Extension.{Extension}

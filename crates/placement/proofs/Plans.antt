@@ -3,14 +3,14 @@ use mathlib.Core.Path.{_≡_, ap}
 use mathlib.Core.Bool.{Bool, false}
 use mathlib.Core.List.{List}
 use Prim.Native.Nat.{ℕ}
-use Rattle.labels.proofs.Merges.{merge-decided}
-use Rattle.labels.proofs.Splits.{ends-found}
-use Rattle.labels.specs.Merging.{merger, mergerFor}
-use Rattle.labels.specs.Splitting.{noRounds, roundsFor}
-use Rattle.labels.specs.declared.merging.Keeper.the-variants.{Neither}
-use Rattle.labels.specs.declared.merging.Merger.{Merger}
-use Rattle.labels.specs.declared.splitting.Rounds.{Rounds}
-use Rattle.labels.specs.declared.splitting.Splits.{Splits}
+use Rattle.joining.proofs.Merges.{merge-decided}
+use Rattle.parting.proofs.Splits.{ends-found}
+use Rattle.joining.specs.Merging.{merger, mergerFor}
+use Rattle.parting.specs.Splitting.{noRounds, roundsFor}
+use Rattle.joining.specs.declared.merging.Keeper.the-variants.{Neither}
+use Rattle.joining.specs.declared.merging.Merger.{Merger}
+use Rattle.parting.specs.declared.splitting.Rounds.{Rounds}
+use Rattle.parting.specs.declared.splitting.Splits.{Splits}
 use Rattle.placement.specs.Placing.{Placed, goesOnIn, mergedIn, openedIn, workIn}
 use Rattle.placement.specs.Planning.{mergedBy, openedBy, plan, planFor, plannedIn}
 use Rattle.placement.specs.declared.placing.Extension.{Extension}

@@ -11,10 +11,10 @@ use Rattle.model.specs.Tables.{Tables, Counts}
 use Rattle.counters.specs.Numbers.{vertexOf}
 use Rattle.tables.specs.Steps.{setPair, raiseBothIn}
 use Rattle.labels.specs.Labelling.{extendIn}
-use Rattle.labels.specs.Merging.{mergeIn}
-use Rattle.labels.specs.Splitting.{splitEndsIn}
-use Rattle.labels.specs.declared.splitting.Splits.{Splits}
-use Rattle.labels.specs.declared.splitting.Splits.the-variants.{Neither, One, Both}
+use Rattle.joining.specs.Merging.{mergeIn}
+use Rattle.parting.specs.Splitting.{splitEndsIn}
+use Rattle.parting.specs.declared.splitting.Splits.{Splits}
+use Rattle.parting.specs.declared.splitting.Splits.the-variants.{Neither, One, Both}
 use Rattle.placement.specs.declared.placing.Extension.{Extension}
 use Rattle.placement.specs.declared.placing.Extension.the-variants.{Nothing, Leaf}
 use Rattle.placement.specs.declared.placing.Work.{Work}

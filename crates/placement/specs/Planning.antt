@@ -4,12 +4,12 @@ use Prim.Native.Nat.{ℕ}
 use mathlib.Core.Bool.{Bool, false}
 use mathlib.Core.List.{List}
 use Rattle.tables.specs.Steps.{raiseBothIn}
-use Rattle.labels.specs.Merging.{merger, mergerFor, mergeBy}
-use Rattle.labels.specs.Splitting.{noRounds, roundsFor, endsBy}
-use Rattle.labels.specs.declared.merging.Keeper.the-variants.{Neither}
-use Rattle.labels.specs.declared.merging.Merger.{Merger}
-use Rattle.labels.specs.declared.splitting.Splits.{Splits}
-use Rattle.labels.specs.declared.splitting.Rounds.{Rounds}
+use Rattle.joining.specs.Merging.{merger, mergerFor, mergeBy}
+use Rattle.parting.specs.Splitting.{noRounds, roundsFor, endsBy}
+use Rattle.joining.specs.declared.merging.Keeper.the-variants.{Neither}
+use Rattle.joining.specs.declared.merging.Merger.{Merger}
+use Rattle.parting.specs.declared.splitting.Splits.{Splits}
+use Rattle.parting.specs.declared.splitting.Rounds.{Rounds}
 use Rattle.placement.specs.Placing.{meetIn, Placed, placed, goesOnIn}
 use Rattle.placement.specs.declared.placing.Extension.{Extension}
 use Rattle.placement.specs.declared.placing.Extension.the-variants.{Nothing, Leaf}

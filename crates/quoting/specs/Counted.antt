@@ -2,8 +2,8 @@
 use Prim.Native.Nat.{ℕ}
 use mathlib.Core.Bool.{false}
 use mathlib.Core.List.{List}
-use Rattle.labels.specs.declared.merging.Merger.{Merger}
-use Rattle.labels.specs.declared.splitting.Rounds.{Rounds}
+use Rattle.joining.specs.declared.merging.Merger.{Merger}
+use Rattle.parting.specs.declared.splitting.Rounds.{Rounds}
 use Rattle.counting.specs.Counting.{Estimated, estimated, mergerCount, roundsCount}
 use Rattle.placement.specs.declared.placing.Work.{Work}
 use Rattle.placement.specs.declared.placing.Work.the-variants.{Merge, Open}
