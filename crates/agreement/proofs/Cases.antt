@@ -9,9 +9,9 @@ use borrow.Author.Tests.{ne-eqb}
 use Rattle.model.specs.Basics.{if_then_else_}
 use Rattle.model.specs.Cases.{Class, branch, caseOf, classOf, isolated, leaf, regular}
 use Rattle.counters.specs.Numbers.{vertexOf}
-use Rattle.labels.specs.declared.splitting.Splits.the-variants.{Both, Neither, One}
-use Rattle.insertion.specs.Placing.{Placed, mergedIn, openIn, placeIn}
-use Rattle.insertion.specs.declared.placing.Extension.the-variants.{Leaf, Nothing}
+use Rattle.parting.specs.declared.splitting.Splits.the-variants.{Both, Neither, One}
+use Rattle.placement.specs.Placing.{Placed, mergedIn, openIn, placeIn}
+use Rattle.placement.specs.declared.placing.Extension.the-variants.{Leaf, Nothing}
 use Rattle.model.proofs.Labels.Cases.{class-leaf, isLeafClass}
 
 unfoldable isRegularClass : Class → Bool

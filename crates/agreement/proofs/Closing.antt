@@ -17,8 +17,8 @@ use Rattle.tables.specs.Steps.{most16}
 use Rattle.tables.proofs.Sums.{more16-is}
 use Rattle.labels.proofs.Labels.{beyond-law, nextIn-is}
 use Rattle.labels.specs.Labelling.{MarksIn, beyondIn, countAhead, labelVertexIn, marksIn}
-use Rattle.labels.specs.Merging.{beginIn, closeIn, mergeIn}
-use Rattle.labels.proofs.Merges.{closes-begun, closes-on}
+use Rattle.joining.specs.Merging.{beginIn, closeIn, mergeIn}
+use Rattle.joining.proofs.Merges.{closes-begun, closes-on}
 use Rattle.model.proofs.Walks.Degree.{Proper, is-two}
 use Rattle.model.proofs.Walks.Turn.{At, between-back, onlyEdge-is}
 use Rattle.model.proofs.Walks.Joins.{Across, across}

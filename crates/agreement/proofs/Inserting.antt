@@ -17,7 +17,7 @@ use Rattle.model.specs.Labels.{Marks, close, labelEdge}
 use Rattle.model.specs.Register.{Register, marksOf}
 use Rattle.model.specs.Tables.{countsOf, tablesOf}
 use Rattle.model.specs.Notions.{Reachable}
-use Rattle.insertion.specs.Placing.{Placed, placedBy}
+use Rattle.placement.specs.Placing.{Placed, placedBy}
 use Rattle.model.proofs.Walks.Degree.{end-first, end-second}
 use Rattle.model.proofs.Walks.Ring.{closes-of}
 use Rattle.model.proofs.Labels.Cases.{bared, compact, edge-compact}

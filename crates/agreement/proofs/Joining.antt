@@ -13,8 +13,9 @@ use Rattle.model.specs.Graph.{Edge, Pass, degree, endsAt, far, isRegular, onlyE
 use Rattle.model.specs.Labels.{Labelling, Marks, attach, base, inwards, joinPath, labelPath, next, relabelCount}
 use Rattle.tables.specs.Steps.{farIn, most32}
 use Rattle.labels.specs.Labelling.{MarksIn, countAhead, labelVertexIn, risesIn}
-use Rattle.labels.specs.Merging.{Changed, beginIn, changed, joinIn}
-use Rattle.labels.proofs.Merges.{join-law}
+use Rattle.labels.specs.Changes.{Changed, changed}
+use Rattle.joining.specs.Merging.{beginIn, joinIn}
+use Rattle.joining.proofs.Merges.{join-law}
 use Rattle.counting.specs.Counting.{joinCountIn}
 use Rattle.counting.proofs.Laws.{join-count}
 use Rattle.model.proofs.Walks.Degree.{Proper, is-two}

@@ -23,7 +23,7 @@ use Rattle.tables.proofs.Sums.{more16-is, sum32-is}
 use Rattle.model.proofs.Registers.Equality.{counts-parts, tables-parts}
 use Rattle.counters.specs.Numbers.{isLanded}
 use Rattle.checking.specs.Checks.{CheckIn, checkIn, failed, passed}
-use Rattle.insertion.specs.Placing.{Placed, placedBy}
+use Rattle.placement.specs.Placing.{Placed, placedBy}
 use Rattle.insertion.specs.Insertion.{LandingIn, done, insertIn, landChecked, landIn, landingIn, refusedIn}
 use Rattle.model.proofs.Walks.NewEdge.{length-new}
 use Rattle.model.proofs.Registers.Small.{total-small}

@@ -21,8 +21,8 @@ use Rattle.model.specs.Notions.{Reachable, SameChain, SameRing, reversed}
 use Rattle.tables.specs.Steps.{more16, most32, sum32}
 use Rattle.tables.proofs.Sums.{sum32-is}
 use Rattle.chains.specs.Chains.{goesOnIn}
-use Rattle.holders.specs.Looking.{Look, Seen, edgeTowards, look, lookAlongIn, lookIn, lookThroughIn, seen, toldIn, withEdge}
-use Rattle.holders.proofs.LookingLaws.{edge-before, edge-behind, look-on, look-stop, wearer-before, wearer-here, wearer-not}
+use Rattle.looking.specs.Looking.{Look, Seen, edgeTowards, look, lookAlongIn, lookIn, lookThroughIn, seen, toldIn, withEdge}
+use Rattle.looking.proofs.LookingLaws.{edge-before, edge-behind, look-on, look-stop, wearer-before, wearer-here, wearer-not}
 use Rattle.model.proofs.Basics.Booleans.{not-both, true-or-false}
 use Rattle.model.proofs.Basics.Lists.{mem-reverse, sum-append, sum-reverse}
 use Rattle.model.proofs.Walks.Degree.{Proper, is-two}

@@ -17,11 +17,12 @@ use Rattle.tables.specs.Steps.{farIn, most16}
 use Rattle.tables.proofs.Sums.{more16-is}
 use Rattle.tables.specs.Walks.{Met, lockstepIn}
 use Rattle.counters.specs.Numbers.{vertexOf}
-use Rattle.labels.specs.Merging.{Changed, closeIn, keeperFor, keeperIn, mergeIn}
-use Rattle.labels.specs.declared.merging.Keeper.{Keeper}
-use Rattle.labels.specs.declared.merging.Keeper.the-variants.{Chain, Neither}
+use Rattle.labels.specs.Changes.{Changed}
+use Rattle.joining.specs.Merging.{closeIn, keeperFor, keeperIn, mergeIn}
+use Rattle.joining.specs.declared.merging.Keeper.{Keeper}
+use Rattle.joining.specs.declared.merging.Keeper.the-variants.{Chain, Neither}
 use Rattle.counting.specs.Counting.{estimated, keeperCountIn, mergeCountIn}
-use Rattle.labels.proofs.Merges.{first-keeps, merge-closes, merge-kept, neither-keeps, second-keeps, tie-keeps}
+use Rattle.joining.proofs.Merges.{first-keeps, merge-closes, merge-kept, neither-keeps, second-keeps, tie-keeps}
 use Rattle.model.proofs.Walks.Degree.{Proper, leaf-singular}
 use Rattle.model.proofs.Walks.Turn.{At, onlyEdge-is}
 use Rattle.model.proofs.Walks.Trail.{Trail, backwards, length-backwards, trail-back, trail-at, trail-endOf}

@@ -19,9 +19,11 @@ use Rattle.model.specs.Tables.{Tables, tablesOf}
 use Rattle.model.specs.Notions.{Reachable, SameEdges}
 use Rattle.model.specs.Series.{OwnChain}
 use Rattle.chains.specs.Chains.{goesOnIn}
-use Rattle.holders.specs.Newest.{Held, Sought, bestIn, held, heldAfter, holdsIn, isLowestIn, keyIn, lowestsIn, noBound, passesIn, restIn, searchIn, takeIn, toldOf, topIn}
-use Rattle.holders.proofs.NewestLaws.{lowest-bare, passes-here, passes-on, passes-stop, holds-above, holds-self, search-bare, search-first, search-rest, take-nobody, take-none, take-some, top-most}
-use Rattle.holders.proofs.OrderLaws.{Best, best-is, nobody, somebody, total-less}
+use Rattle.ordering.specs.Lowest.{bestIn, isLowestIn, keyIn, lowestsIn, noBound}
+use Rattle.ordering.proofs.LowestLaws.{lowest-bare}
+use Rattle.holders.specs.Newest.{Held, Sought, held, heldAfter, holdsIn, passesIn, restIn, searchIn, takeIn, toldOf, topIn}
+use Rattle.holders.proofs.NewestLaws.{passes-here, passes-on, passes-stop, holds-above, holds-self, search-bare, search-first, search-rest, take-nobody, take-none, take-some, top-most}
+use Rattle.holders.proofs.ListedLaws.{Best, best-is, nobody, somebody, total-less}
 use Rattle.model.proofs.Basics.Total.{total}
 use Rattle.model.proofs.Basics.Booleans.{not-both, true-or-false}
 use Rattle.model.proofs.Walks.Degree.{Proper, is-two}

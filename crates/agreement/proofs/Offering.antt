@@ -15,16 +15,16 @@ use Rattle.model.specs.Register.{Register, Terms, caseNumber, offers, relabelsO
 use Rattle.model.specs.Tables.{countsOf, tablesOf}
 use Rattle.model.specs.Notions.{Reachable}
 use Rattle.counters.specs.Numbers.{vertexOf}
-use Rattle.labels.specs.Splitting.{splitEndsIn, splitIn}
-use Rattle.labels.specs.declared.splitting.Splits.{Splits}
-use Rattle.labels.specs.declared.splitting.Splits.the-variants.{Both, Neither, One}
+use Rattle.parting.specs.Splitting.{splitEndsIn, splitIn}
+use Rattle.parting.specs.declared.splitting.Splits.{Splits}
+use Rattle.parting.specs.declared.splitting.Splits.the-variants.{Both, Neither, One}
 use Rattle.counting.specs.Counting.{estimated, roundCount, splitCountIn}
-use Rattle.insertion.specs.Placing.{goesOnIn, mergedIn, openedIn, placedBy, workFor, workIn}
-use Rattle.insertion.specs.Quoting.{caseIn, offerIn, workCountIn}
-use Rattle.insertion.specs.declared.placing.Extension.{Extension}
-use Rattle.insertion.specs.declared.placing.Extension.the-variants.{Leaf, Nothing}
-use Rattle.insertion.specs.declared.placing.Work.{Work}
-use Rattle.insertion.specs.declared.placing.Work.the-variants.{Merge, Open}
+use Rattle.placement.specs.Placing.{goesOnIn, mergedIn, openedIn, placedBy, workFor, workIn}
+use Rattle.quoting.specs.Quoting.{caseIn, offerIn, workCountIn}
+use Rattle.placement.specs.declared.placing.Extension.{Extension}
+use Rattle.placement.specs.declared.placing.Extension.the-variants.{Leaf, Nothing}
+use Rattle.placement.specs.declared.placing.Work.{Work}
+use Rattle.placement.specs.declared.placing.Work.the-variants.{Merge, Open}
 use Rattle.model.proofs.Basics.Booleans.{true-or-false}
 use Rattle.model.proofs.Walks.Degree.{end-first, end-second}
 use Rattle.model.proofs.Walks.Ring.{closes-of}

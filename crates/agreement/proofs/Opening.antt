@@ -9,8 +9,8 @@ use lib.ListN.{length, getD}
 use Rattle.model.specs.Basics.{maxVertices}
 use Rattle.model.specs.Graph.{Edge, degree, endsAt, onlyEdge}
 use Rattle.model.specs.Labels.{Marks}
-use Rattle.insertion.specs.Placing.{meetIn}
-use Rattle.insertion.proofs.Places.{meet-isolated, meet-left}
+use Rattle.placement.specs.Placing.{meetIn}
+use Rattle.placement.proofs.Places.{meet-isolated, meet-left}
 use Rattle.model.proofs.Walks.Degree.{Proper, degree-snoc, proper-snoc, two-ends}
 use Rattle.model.proofs.Walks.NewEdge.{at-last}
 use Rattle.model.proofs.Walks.Turn.{onlyEdge-is}

@@ -19,12 +19,13 @@ use Rattle.tables.specs.declared.rings.Round.{Round}
 use Rattle.tables.specs.declared.rings.Round.the-variants.{NoRing, Ring, Shared}
 use Rattle.tables.specs.Rounds.{ringIn}
 use Rattle.labels.specs.Labelling.{MarksIn, extendIn}
-use Rattle.labels.specs.Merging.{Changed, changed, mergeIn}
-use Rattle.labels.specs.Splitting.{splitBothIn, splitBy, splitEndsIn, splitIn}
+use Rattle.labels.specs.Changes.{Changed, changed}
+use Rattle.joining.specs.Merging.{mergeIn}
+use Rattle.parting.specs.Splitting.{splitBothIn, splitBy, splitEndsIn, splitIn}
 use Rattle.counters.specs.Numbers.{vertexOf}
-use Rattle.labels.specs.declared.splitting.Splits.the-variants.{Both, Neither, One}
-use Rattle.insertion.specs.Placing.{Placed, goesOnIn, meetIn, mergedIn, openIn, openedIn, placed}
-use Rattle.insertion.specs.declared.placing.Extension.the-variants.{Leaf, Nothing}
+use Rattle.parting.specs.declared.splitting.Splits.the-variants.{Both, Neither, One}
+use Rattle.placement.specs.Placing.{Placed, goesOnIn, meetIn, mergedIn, openIn, openedIn, placed}
+use Rattle.placement.specs.declared.placing.Extension.the-variants.{Leaf, Nothing}
 use Rattle.model.proofs.Walks.Degree.{end-first, end-second, two-ends}
 use Rattle.model.proofs.Labels.Relabellings.{moved-old, relabelCount-same}
 use Rattle.model.proofs.Registers.Small.{blocks-small, labels-small}

@@ -14,7 +14,7 @@ use Rattle.model.specs.Register.{Quote, Register, Terms, commit, commitMade, de
 use Rattle.model.specs.Tables.{countsOf, tablesOf}
 use Rattle.model.specs.Notions.{Reachable}
 use Rattle.insertion.specs.Insertion.{landIn, landingIn, refusedIn}
-use Rattle.insertion.specs.Quoting.{quoteIn, termsIn}
+use Rattle.quoting.specs.Quoting.{quoteIn, termsIn}
 use Rattle.model.proofs.Basics.Booleans.{and-true, not-both}
 use Rattle.model.proofs.Registers.Accepted.{unrefused}
 use Rattle.model.proofs.Registers.Quotes.{commit-differs, commit-same, termsFor, terms-by}

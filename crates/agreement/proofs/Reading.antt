@@ -13,8 +13,8 @@ use Rattle.model.specs.Labels.{next}
 use Rattle.tables.specs.Steps.{farIn, most32}
 use Rattle.tables.specs.Walks.{Met, lockstepIn}
 use Rattle.labels.specs.Labelling.{countAhead, labelVertexIn}
-use Rattle.labels.specs.Merging.{keeperFor}
-use Rattle.labels.specs.declared.merging.Keeper.{Keeper}
+use Rattle.joining.specs.Merging.{keeperFor}
+use Rattle.joining.specs.declared.merging.Keeper.{Keeper}
 use Rattle.labels.proofs.Labels.{nextIn-is}
 use Rattle.counting.specs.Counting.{countIn, estimated, keeperCountIn, mergeCountAt, mergeCountIn, movedIn}
 use Rattle.counting.proofs.Laws.{count-end, count-on}

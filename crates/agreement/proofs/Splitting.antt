@@ -16,8 +16,8 @@ use Rattle.tables.specs.declared.rings.Round.{Round as Answer}
 use Rattle.tables.specs.declared.rings.Round.the-variants.{NoRing, Ring}
 use Rattle.tables.proofs.Sums.{more16-is}
 use Rattle.labels.specs.Labelling.{MarksIn, countAhead, labelVertexIn, marksIn}
-use Rattle.labels.specs.Merging.{Changed}
-use Rattle.labels.specs.Splitting.{bareIn, splitBy, tapIn}
+use Rattle.labels.specs.Changes.{Changed}
+use Rattle.parting.specs.Splitting.{bareIn, splitBy, tapIn}
 use Rattle.counting.specs.Counting.{roundCount}
 use Rattle.model.proofs.Labels.Relabellings.{moved-new}
 use Rattle.model.proofs.Walks.Degree.{Proper, is-two}

@@ -14,9 +14,9 @@ use Rattle.tables.specs.Rounds.{backIn, ringIn}
 use Rattle.tables.specs.declared.rings.Round.the-variants.{Shared}
 use Rattle.tables.proofs.Sums.{more16-is, sum32-is}
 use Rattle.labels.specs.Labelling.{MarksIn, marksIn}
-use Rattle.labels.specs.Merging.{Changed}
-use Rattle.labels.specs.Splitting.{bareIn, leftFor, splitBothIn, splitBy, splitIn, tapIn}
-use Rattle.labels.specs.declared.splitting.Splits.the-variants.{Both}
+use Rattle.labels.specs.Changes.{Changed}
+use Rattle.parting.specs.Splitting.{bareIn, leftFor, splitBothIn, splitBy, splitIn, tapIn}
+use Rattle.parting.specs.declared.splitting.Splits.the-variants.{Both}
 use Rattle.counting.specs.Counting.{splitCountIn}
 use Rattle.model.proofs.Basics.Booleans.{and-true, true-or-false}
 use Rattle.model.proofs.Labels.Relabellings.{moved-new, relabelCount-same}

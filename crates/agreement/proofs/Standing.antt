@@ -15,9 +15,9 @@ use Rattle.model.specs.Labels.{vertexOnRing}
 use Rattle.model.specs.Register.{Register, landEdge, landVertex, landed, withEdge, withVertex}
 use Rattle.model.specs.Notions.{Admissible, Reachable}
 use Rattle.tables.specs.Steps.{sum32}
-use Rattle.labels.specs.Splitting.{leftFor, splitBothIn, splitEndsIn, splitIn}
+use Rattle.parting.specs.Splitting.{leftFor, splitBothIn, splitEndsIn, splitIn}
 use Rattle.counters.specs.Numbers.{vertexOf}
-use Rattle.labels.specs.declared.splitting.Splits.the-variants.{Both, One}
+use Rattle.parting.specs.declared.splitting.Splits.the-variants.{Both, One}
 use Rattle.model.proofs.Basics.Booleans.{not-both, or-false, true-or-false}
 use Rattle.model.proofs.Walks.Degree.{Proper}
 use Rattle.model.proofs.Walks.NewEdge.{length-new}

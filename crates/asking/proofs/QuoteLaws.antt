@@ -12,7 +12,7 @@ use Rattle.model.specs.Notions.{HeldOf}
 use Rattle.tables.specs.Meaning.{stored}
 use Rattle.admission.specs.Own.{houseOf}
 use Rattle.model.proofs.Registers.OnlyHeld.{held-counts, held-tables}
-use Rattle.insertion.specs.Quoting.{quoteIn}
+use Rattle.quoting.specs.Quoting.{quoteIn}
 use Rattle.agreement.proofs.Standing.{warns-any}
 use Rattle.agreement.proofs.Quoting.{quote-agrees}
 

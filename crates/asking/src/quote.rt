@@ -4,7 +4,7 @@ use admission::gate::Gate;
 use admission::gate::pass_gate;
 use counters::counts::Counts;
 use counters::quotes::QuoteAnswer;
-use insertion::quoting::quote_edge;
+use quoting::edges::quote_edge;
 ghost use mathlib.Core.Path.{_≡_};
 ghost use Prim.Native.Nat.{ℕ};
 ghost use mathlib.Core.List.{[]};

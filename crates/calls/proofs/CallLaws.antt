@@ -13,7 +13,7 @@ use Rattle.model.proofs.Basics.Booleans.{and-true}
 use Rattle.model.proofs.Registers.OnlyHeld.{held-counts, held-tables}
 use Rattle.nursery.specs.Calls.{Effect, HouseCall, commitEffect, commits, effect, grows, lands, readEffect, sliceOf}
 use Rattle.insertion.specs.Insertion.{AnswerIn, LandingIn, done, landingIn, refusedIn}
-use Rattle.insertion.specs.Committing.{commitIn}
+use Rattle.committing.specs.Committing.{commitIn}
 use Rattle.agreement.proofs.Standing.{warns-any}
 use Rattle.agreement.proofs.Landing.{ringsAfter, shownIn}
 use Rattle.agreement.proofs.Quoting.{commit-agrees}

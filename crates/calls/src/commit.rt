@@ -2,10 +2,10 @@
 use crate::answered::CommittedCounts;
 use admission::gate::Gate;
 use admission::gate::pass_gate;
+use committing::quotes::commit_quote;
 use counters::counts::Counts;
 use counters::quotes::CommitAnswer;
 use counters::quotes::Quote;
-use insertion::committing::commit_quote;
 use insertion::edges::Inserted;
 ghost use mathlib.Core.Path.{_≡_};
 ghost use Prim.Native.Nat.{ℕ};

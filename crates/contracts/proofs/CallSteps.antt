@@ -25,7 +25,7 @@ use Rattle.heads.specs.Meaning.{lent, outcome}
 use Rattle.questions.specs.Meaning.{foundReply, listedReply, measuredReply, writtenReply}
 use Rattle.opening.specs.declared.sheets.OpenSheet.{OpenSheet}
 use Rattle.opening.specs.Meaning.{asSheet, fetchedReply, openedReply}
-use Rattle.rest.specs.Meaning.{removedReply}
+use Rattle.settling.specs.Meaning.{removedReply}
 use Rattle.sharing.specs.Meaning.{sharesReply}
 use Rattle.growing.proofs.grow.grow as grow
 use Rattle.growing.proofs.land.land as land

@@ -18,7 +18,7 @@ use Rattle.model.proofs.Registers.OnlyHeld.{held-counts, held-tables}
 use Rattle.model.proofs.Registers.Reachable.{founded}
 use Rattle.model.proofs.Registers.Quotes.{terms-by}
 use Rattle.tables.specs.Meaning.{stored, tables}
-use Rattle.insertion.specs.Quoting.{quoteIn}
+use Rattle.quoting.specs.Quoting.{quoteIn}
 use Rattle.agreement.proofs.Standing.{warns-any}
 use Rattle.agreement.proofs.Quoting.{quote-agrees}
 

@@ -18,13 +18,13 @@ use Rattle.tables.specs.Walks.{Met}
 use Rattle.tables.specs.declared.rings.Round.{Round}
 use Rattle.tables.specs.declared.rings.Round.the-variants.{Shared}
 use Rattle.labels.specs.Labelling.{nextIn, risesIn}
-use Rattle.labels.specs.Merging.{mergerAt, mergerFor}
-use Rattle.labels.specs.Splitting.{roundsOne, roundsBoth, roundsFor}
-use Rattle.labels.specs.declared.splitting.Splits.{Splits}
-use Rattle.labels.specs.declared.splitting.Splits.the-variants as splits
+use Rattle.joining.specs.Merging.{mergerAt, mergerFor}
+use Rattle.parting.specs.Splitting.{roundsOne, roundsBoth, roundsFor}
+use Rattle.parting.specs.declared.splitting.Splits.{Splits}
+use Rattle.parting.specs.declared.splitting.Splits.the-variants as splits
 use Rattle.counting.specs.Counting.{countIn, joinCountIn, keeperCountIn, mergeCountAt, mergeCountIn, mergerCount, movedIn, roundCount, roundsCount, splitCountIn}
-use Rattle.labels.specs.declared.merging.Keeper.{Keeper}
-use Rattle.labels.specs.declared.merging.Keeper.the-variants.{Chain}
+use Rattle.joining.specs.declared.merging.Keeper.{Keeper}
+use Rattle.joining.specs.declared.merging.Keeper.the-variants.{Chain}
 
 -- one vertex counts at most 1
 pub moved-le : (m old new : ℕ) → m ≡ movedIn old new → m ≤ 1

@@ -12,14 +12,14 @@ use Rattle.tables.specs.Rounds.{ringIn}
 use Rattle.tables.specs.declared.rings.Round.{Round}
 use Rattle.tables.specs.declared.rings.Round.the-variants.{NoRing, Ring, Shared}
 use Rattle.labels.specs.Labelling.{nextIn, risesIn}
-use Rattle.labels.specs.Merging.{keeperFor}
-use Rattle.labels.specs.Splitting.{leftFor}
-use Rattle.labels.specs.declared.merging.Keeper.{Keeper}
-use Rattle.labels.specs.declared.merging.Keeper.the-variants.{Neither, Chain}
-use Rattle.labels.specs.declared.merging.Merger.{Merger}
-use Rattle.labels.specs.declared.splitting.Rounds.{Rounds}
-use Rattle.labels.specs.declared.splitting.Splits.{Splits}
-use Rattle.labels.specs.declared.splitting.Splits.the-variants as splits
+use Rattle.joining.specs.Merging.{keeperFor}
+use Rattle.parting.specs.Splitting.{leftFor}
+use Rattle.joining.specs.declared.merging.Keeper.{Keeper}
+use Rattle.joining.specs.declared.merging.Keeper.the-variants.{Neither, Chain}
+use Rattle.joining.specs.declared.merging.Merger.{Merger}
+use Rattle.parting.specs.declared.splitting.Rounds.{Rounds}
+use Rattle.parting.specs.declared.splitting.Splits.{Splits}
+use Rattle.parting.specs.declared.splitting.Splits.the-variants as splits
 
 -- 1 where a vertex with the label `old` is relabelled by `new`
 unfoldable pub movedIn : ℕ → ℕ → ℕ

@@ -1,12 +1,12 @@
 // How many vertices an edge would relabel (document 02, S-5: a quote's re-hangings). Nothing is written.
 use counters::numbers::Label;
 use counters::numbers::Vertex;
+use joining::merging::Keeper;
+use joining::merging::Merger;
 use labels::labelling::is_relabelled;
 use labels::labelling::next_label;
 use labels::labelling::rises;
-use labels::merging::Keeper;
-use labels::merging::Merger;
-use labels::splitting::Rounds;
+use parting::splitting::Rounds;
 use tables::kinds::degree_of;
 use tables::kinds::label_of;
 use tables::rings::Round;

@@ -1,5 +1,4 @@
-pub mod Looking
 pub mod Newest
-pub mod Order
+pub mod Listed
 pub mod Finding
 pub mod Answers

@@ -1,5 +1,2 @@
 // The chain that holds a label: the chains with labels, taken from the newest, each looked through in one walk.
-pub mod looking;
-pub mod lowest;
 pub mod newest;
-pub mod order;

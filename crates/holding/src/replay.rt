@@ -1,10 +1,10 @@
 // The edges of tables of ends, lengths and volumes landed again on other tables.
+use committing::edges::land_edge;
 use counters::counts::Counts;
 use counters::numbers::Vertex;
 use counters::refusals::Refusal;
 use counters::sizes::MAX_EDGES;
 use insertion::edges::Inserted;
-use insertion::edges::land_edge;
 use tables::access::at16;
 use tables::access::at32;
 ghost use mathlib.Core.Path.{_≡_};

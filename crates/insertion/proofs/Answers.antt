@@ -1,4 +1,4 @@
--- A vertex, an insertion, and what a commit comes to.
+-- A vertex, and an insertion.
 use mathlib.Core.Path.{_≡_}
 use mathlib.Core.Bool.{Bool, true, false, _||_}
 use mathlib.Core.List.{List}
@@ -6,16 +6,15 @@ use Prim.Native.Nat.{ℕ, _<_, _≤_}
 use borrow.Author.Tests.{le-leb, lt-leb}
 use lib.ListN.{set}
 use Rattle.model.specs.Basics.{maxVertices}
-use Rattle.model.specs.Tables.{Tables, Counts}
+use Rattle.model.specs.Tables.{Counts}
 use Rattle.counters.specs.Answers.{counts}
 use Rattle.tables.specs.Meaning.{tables}
 use Rattle.tables.specs.Steps.{setPair, more16, sum32}
-use Rattle.insertion.specs.Placing.{placed}
-use Rattle.insertion.specs.Insertion.{LandingIn, done, refusedIn, landingIn, landVertexIn}
-use Rattle.insertion.specs.Planning.{committedIn, insertPlanned, plannedIn}
-use Rattle.insertion.specs.Meaning.{asIntent}
-use Rattle.insertion.specs.declared.planning.Plan.{Plan}
-use Rattle.insertion.specs.declared.quoting.Intent.{Intent}
+use Rattle.placement.specs.Placing.{placed}
+use Rattle.placement.specs.Planning.{plannedIn}
+use Rattle.placement.specs.declared.planning.Plan.{Plan}
+use Rattle.insertion.specs.Insertion.{done, refusedIn, landingIn, landVertexIn}
+use Rattle.insertion.specs.Planned.{insertPlanned}
 
 module _ (c : Counts) (rings : Bool) where
   -- no room for a vertex: 22
@@ -45,8 +44,3 @@ ring-before rings ring h = rw h
 
 pub ring-now : (rings ring : Bool) → rings ≡ false → ring ≡ (rings || ring)
 ring-now rings ring h = rw h
-
--- a commit goes on as its intent says
-pub intent-given : (t : Tables) (c : Counts) (rings : Bool) (k k′ : Intent) (x : LandingIn) → k ≡ k′ → x ≡ committedIn t c rings (asIntent k′)
-    → x ≡ committedIn t c rings (asIntent k)
-intent-given t c rings k k′ x q h = rw q h

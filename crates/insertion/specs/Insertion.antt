@@ -10,7 +10,7 @@ use Rattle.counters.specs.Answers.{counts}
 use Rattle.tables.specs.Meaning.{tables}
 use Rattle.tables.specs.Steps.{setPair, more16, sum32}
 use Rattle.checking.specs.Checks.{CheckIn, checkIn, passed, failed}
-use Rattle.insertion.specs.Placing.{placedBy}
+use Rattle.placement.specs.Placing.{placedBy}
 
 -- the counts after a landing and whether a ring may stand then, or its refusal
 pub data AnswerIn : Type 0 where

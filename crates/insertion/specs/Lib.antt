@@ -1,6 +1,3 @@
-pub mod Placing
 pub mod Insertion
-pub mod Quoting
-pub mod Committing
-pub mod Planning
+pub mod Planned
 pub mod Meaning

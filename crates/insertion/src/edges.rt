@@ -1,14 +1,12 @@
-// The landing of one edge: a quote, and its commit, which writes down the edge, and leaves the tables and the counts.
-use crate::planning::Plan;
-use crate::planning::place_edge;
-use crate::quoting::Intent;
-use crate::quoting::prepare_edge;
+// One edge, placed as planned and written down: it leaves the tables and the counts.
 use counters::counts::Counts;
 use counters::numbers::Edge;
 use counters::numbers::Millilitres;
 use counters::numbers::Millimetres;
 use counters::numbers::Vertex;
 use counters::refusals::Refusal;
+use placement::planning::Plan;
+use placement::planning::place_edge;
 use tables::access::add32;
 use tables::access::one_more16;
 use tables::kinds::put_ends;
@@ -19,9 +17,9 @@ ghost use lib.ListN.{set};
 ghost use Rattle.counters.specs.Answers.{asCounts};
 ghost use Rattle.tables.specs.Meaning.{tables};
 ghost use Rattle.tables.specs.Steps.{setPair};
-ghost use Rattle.insertion.specs.Insertion.{landingIn, landIn};
-ghost use Rattle.insertion.specs.Planning.{insertPlanned, committedIn};
-ghost use Rattle.insertion.specs.Meaning.{asAnswer, asIntent};
+ghost use Rattle.insertion.specs.Insertion.{landingIn};
+ghost use Rattle.insertion.specs.Planned.{insertPlanned};
+ghost use Rattle.insertion.specs.Meaning.{asAnswer};
 
 // The counts after the edge (document 01: the head) and whether a ring may stand then; or the edge's refusal.
 pub enum Inserted {
@@ -51,7 +49,7 @@ pub fn record_edge(
 
 // The edge between first and second is placed as planned, and written down. Whether a ring may stand is carried along: a ring comes by a
 // closing alone, so that a list grown without one never looks for it.
-fn insert_edge(
+pub fn insert_edge(
     degrees: &mut [u16],
     sides: &mut [u16],
     ends: &mut [u16],
@@ -93,92 +91,4 @@ fn insert_edge(
         relabellings: add32(counts.relabellings, p.relabellings),
     };
     Inserted::Done(after, rings || p.ring)
-}
-
-// The commit of a quote that was made now: what was planned with it is done, or its refusal is given, and the tables stay.
-fn commit_edge(
-    degrees: &mut [u16],
-    sides: &mut [u16],
-    ends: &mut [u16],
-    lengths: &mut [u32],
-    volumes: &mut [u32],
-    labels: &mut [u32],
-    counts: Counts,
-    intent: Intent,
-    rings: bool,
-) -> Inserted
-    ensures { λ r. ⌜ landingIn
-        (tables (now (degrees .exit)) (now (sides .exit)) (now (ends .exit)) (now (lengths .exit)) (now (volumes .exit)) (now (labels .exit))) (asAnswer r)
-        ≡ committedIn
-        (tables (now (degrees .entry)) (now (sides .entry)) (now (ends .entry)) (now (lengths .entry)) (now (volumes .entry)) (now (labels .entry)))
-        (asCounts counts) rings (asIntent intent) ⌝ }
-{
-    match intent {
-        Intent::Place(a, b, millimetres, millilitres, plan) => insert_edge(
-            degrees,
-            sides,
-            ends,
-            lengths,
-            volumes,
-            labels,
-            counts,
-            a,
-            b,
-            millimetres,
-            millilitres,
-            plan,
-            rings,
-        ),
-        Intent::Refuse(refusal) => Inserted::Refused(refusal),
-    }
-}
-
-// Document 02, S-5: a quote and its commit, in a register that may not pass `limit` edges. Every refusal in its order; a refused edge leaves
-// the tables. `rings` may be false only where no ring stands; the answer's is then false only where none stands after the edge.
-pub fn land_edge(
-    degrees: &mut [u16],
-    sides: &mut [u16],
-    ends: &mut [u16],
-    lengths: &mut [u32],
-    volumes: &mut [u32],
-    labels: &mut [u32],
-    counts: Counts,
-    limit: u16,
-    first: u16,
-    second: u16,
-    length: u32,
-    volume: u32,
-    rings: bool,
-) -> Inserted
-    ensures { λ r. ⌜ landingIn
-        (tables (now (degrees .exit)) (now (sides .exit)) (now (ends .exit)) (now (lengths .exit)) (now (volumes .exit)) (now (labels .exit))) (asAnswer r)
-        ≡ landIn
-        (tables (now (degrees .entry)) (now (sides .entry)) (now (ends .entry)) (now (lengths .entry)) (now (volumes .entry)) (now (labels .entry)))
-        (asCounts counts) limit rings (record { first = first; second = second; len = length; volume = volume }) ⌝ }
-{
-    let prepared = prepare_edge(
-        degrees,
-        sides,
-        ends,
-        labels,
-        counts,
-        limit,
-        first,
-        second,
-        length,
-        volume,
-        rings,
-    );
-    let intent = prepared.intent;
-    commit_edge(
-        degrees,
-        sides,
-        ends,
-        lengths,
-        volumes,
-        labels,
-        counts,
-        intent,
-        rings,
-    )
 }

@@ -1,3 +1,2 @@
 pub mod Labelling
-pub mod Merging
-pub mod Splitting
+pub mod Changes

@@ -3,8 +3,8 @@
 // - the greatest key smaller than a label: `label_vertex`. It keeps no dictionary of lowest labels; a find looks for the label itself.
 // - a stored weight that a split makes false: `label_vertex`. It stores none; a find adds up lengths.
 // - a lone regular vertex always extended upwards: `rises`.
-// - the second split in the chain as it was: `split_both` and `split_two`.
-// - the leaf's own chain split: `place_open` of insertion.
+// - the second split in the chain as it was: `split_both` of parting.
+// - the leaf's own chain split: `place_open` of placement.
 use counters::numbers::Edge;
 use counters::numbers::Label;
 use counters::numbers::Vertex;

@@ -1,10 +1,10 @@
 // A list landed on the tables, record by record.
+use committing::edges::land_edge;
 use counters::answers::Stop;
 use counters::counts::Counts;
 use counters::refusals::Refusal;
 use counters::sizes::MAX_EDGES;
 use insertion::edges::Inserted;
-use insertion::edges::land_edge;
 use insertion::vertices::land_vertex;
 use list::reader::record_at;
 use list::records::Cursor;

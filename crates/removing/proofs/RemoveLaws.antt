@@ -30,8 +30,11 @@ use Rattle.admission.specs.Gate.{barred}
 use Rattle.admission.proofs.SizeLaws.{zeroed-cleared}
 use Rattle.admission.proofs.GateLaws.{open-cleared, opened}
 use Rattle.admission.proofs.OwnLaws.{outcomeOf, step-fits}
-use Rattle.rest.specs.Removing.{changesIn, removedIn, restIn, settledIn}
-use Rattle.rest.proofs.ChangeLaws.{changes-are}
+use Rattle.replacing.specs.Changes.{changesIn}
+use Rattle.replacing.proofs.ChangeLaws.{changes-are}
+use Rattle.settling.specs.Settling.{settledIn}
+use Rattle.removing.specs.Removing.{removedIn}
+use Rattle.rest.specs.Rest.{restIn}
 use Rattle.rest.proofs.RestLeft.{Left, rest-left}
 
 -- ---- the other edges, landed or not

@@ -5,9 +5,9 @@ use counters::counts::Counts;
 use counters::refusals::Refusal;
 use insertion::edges::Inserted;
 use rest::rest::land_rest;
-use rest::settling::Removed;
-use rest::settling::RemovedOwn;
-use rest::settling::settle;
+use settling::settling::Removed;
+use settling::settling::RemovedOwn;
+use settling::settling::settle;
 use tables::whole::clear_tables;
 ghost use mathlib.Core.Path.{_≡_};
 ghost use Prim.Native.Nat.{ℕ, _<_};
@@ -20,8 +20,8 @@ ghost use Rattle.counters.specs.Answers.{asCounts};
 ghost use Rattle.tables.specs.Meaning.{tables};
 ghost use Rattle.admission.specs.Lent.{lent, outcome};
 ghost use Rattle.admission.specs.Own.{ownStep};
-ghost use Rattle.rest.specs.Meaning.{removedReply};
-ghost use Rattle.rest.specs.Removing.{removedIn};
+ghost use Rattle.settling.specs.Meaning.{removedReply};
+ghost use Rattle.removing.specs.Removing.{removedIn};
 
 // The largest count of removals.
 const MOST_REMOVALS: u32 = 4294967295;

@@ -7,7 +7,7 @@ use Rattle.model.specs.Tables.{Tables, Counts}
 use Rattle.counters.specs.Answers.{counts}
 use Rattle.insertion.specs.Insertion.{AnswerIn, LandingIn, done, landingIn, refusedIn}
 use Rattle.holding.specs.Replay.{replayIn}
-use Rattle.rest.specs.Removing.{restIn}
+use Rattle.rest.specs.Rest.{restIn}
 
 tables-of : {x y : LandingIn} → x ≡ y → x .tables ≡ y .tables
 tables-of e = ap (λ (l : LandingIn). l .tables) e

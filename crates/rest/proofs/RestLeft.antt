@@ -27,7 +27,7 @@ use Rattle.insertion.specs.Insertion.{LandingIn, done, landIn, landingIn}
 use Rattle.agreement.proofs.Standing.{Warns, warns-edge}
 use Rattle.agreement.proofs.Landing.{edge-parts, ringsAfter, shownIn}
 use Rattle.holding.specs.Replay.{replayIn}
-use Rattle.rest.specs.Removing.{restIn}
+use Rattle.rest.specs.Rest.{restIn}
 use Rattle.rest.proofs.RestLaws.{rest-on}
 
 -- ---- edges that land, in two stretches

@@ -1,6 +1,2 @@
-// What is left of a house without a pipe (document 02, S-11). copying: six tables over six others; changes: the labels that differ, counted and
-// reported; rest: the other pipes landed anew, in scratch; settling: 9, or the report and the register.
-pub mod changes;
-pub mod copying;
+// What is left of a house without a pipe (document 02, S-11): the other pipes landed anew, in scratch.
 pub mod rest;
-pub mod settling;

@@ -8,7 +8,7 @@ ghost use Rattle.counters.specs.Answers.{asCounts};
 ghost use Rattle.tables.specs.Meaning.{tables};
 ghost use Rattle.insertion.specs.Insertion.{landingIn};
 ghost use Rattle.insertion.specs.Meaning.{asAnswer};
-ghost use Rattle.rest.specs.Removing.{restIn};
+ghost use Rattle.rest.specs.Rest.{restIn};
 
 // The edges before `edge` and then those behind it, on tables that come cleared, after as many vertices as the counts say.
 pub fn land_rest(

@@ -18,9 +18,9 @@ use Rattle.heads.specs.declared.heads.Heads.{Heads}
 use Rattle.heads.specs.Meaning.{asHeads, asRemovals, lent, nursery, outcome}
 use Rattle.licence.specs.Gate.{opensWith, passOthers, scratchPassed}
 use Rattle.licence.proofs.StepLaws.{ownLent, removed-room, removed-step, unremoved-step}
-use Rattle.rest.specs.Meaning.{removedReply}
-use Rattle.rest.specs.declared.settling.Removed.{Removed}
-use Rattle.rest.specs.declared.settling.Removed.the-variants.{Reported, Refused}
+use Rattle.settling.specs.Meaning.{removedReply}
+use Rattle.settling.specs.declared.settling.Removed.{Removed}
+use Rattle.settling.specs.declared.settling.Removed.the-variants.{Reported, Refused}
 use Rattle.licence.specs.Left.{Left, left, putOwn}
 use Rattle.licence.proofs.JoinLaws.{all-left, own-is, ownGiven}
 use Rattle.taking.specs.Counting.{countAfter}

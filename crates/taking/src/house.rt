@@ -10,7 +10,7 @@ use heads::heads::removals_of;
 use heads::heads::with_head;
 use heads::heads::with_removals;
 use removing::own::remove_own;
-use rest::settling::Removed;
+use settling::settling::Removed;
 use tables::access::one_more32;
 ghost use mathlib.Core.Path.{_≡_};
 ghost use Prim.Native.Nat.{ℕ, _<_};
@@ -24,7 +24,7 @@ ghost use Rattle.admission.specs.Lent as own;
 ghost use Rattle.admission.specs.Own.{ownStep};
 ghost use Rattle.heads.specs.Meaning.{asHeads, asRemovals};
 ghost use Rattle.heads.specs.Others.{Long};
-ghost use Rattle.rest.specs.Meaning.{removedReply};
+ghost use Rattle.settling.specs.Meaning.{removedReply};
 ghost use Rattle.licence.specs.Left.{left, putOwn};
 ghost use Rattle.taking.specs.Counting.{countAfter};
 

@@ -1,6 +1,6 @@
 // What a remove leaves of the heads, and answers.
 use heads::heads::Heads;
-use rest::settling::Removed;
+use settling::settling::Removed;
 
 pub struct Removal {
     pub heads: Heads,

@@ -4,12 +4,12 @@ use crate::left::Removal;
 use heads::heads::Heads;
 use licence::gate::Passed;
 use licence::gate::pass_others;
-use rest::settling::Removed;
+use settling::settling::Removed;
 ghost use mathlib.Core.Path.{_≡_};
 ghost use Rattle.nursery.specs.Calls.{removes, inHouse, step};
 ghost use Rattle.tables.specs.Meaning.{tables};
 ghost use Rattle.heads.specs.Meaning.{lent, outcome};
-ghost use Rattle.rest.specs.Meaning.{removedReply};
+ghost use Rattle.settling.specs.Meaning.{removedReply};
 
 // The heads by value: `remove` has them lent.
 pub fn remove_with(

@@ -1,5 +1,5 @@
 use Rattle.questions.proofs.TableLaws.{find-nobody, find-told}
-use Rattle.holders.specs.Answers.{asFound}
+use Rattle.looking.specs.Answers.{asFound}
 use mathlib.Core.Path.{sym, ap}
 use borrow.Author.Needs.{needs}
 use Rattle.questions.proofs.find.find_in.Statement.{statement}

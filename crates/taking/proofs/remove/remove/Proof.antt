@@ -48,8 +48,8 @@ use Rattle.heads.proofs.heads.Heads as T
 use Rattle.heads.proofs.heads.Heads.Laws as T′
 use Rattle.taking.proofs.left.Removal as L
 use Rattle.taking.proofs.left.Removal.Laws as L′
-use Rattle.rest.proofs.settling.Removed as O
-use Rattle.rest.proofs.settling.Removed.Laws as O′
+use Rattle.settling.proofs.settling.Removed as O
+use Rattle.settling.proofs.settling.Removed.Laws as O′
 use Rattle.taking.proofs.remove.remove_with as callee
 use Rattle.taking.proofs.remove.remove_with.Symbol as callee-def
 use Rattle.taking.proofs.remove.remove_with.Symbol.{name as #callee}

@@ -1,0 +1,2 @@
+// Two chains become one, or one a ring.
+pub mod merging;

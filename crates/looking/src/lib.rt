@@ -1,0 +1,2 @@
+// A chain looked through for a label.
+pub mod through;

@@ -1,0 +1,2 @@
+// A chain becomes two, or a ring a loop.
+pub mod splitting;

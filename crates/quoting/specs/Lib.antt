@@ -1,0 +1,4 @@
+pub mod Quoting
+pub mod Counted
+pub mod Intents
+pub mod Meaning

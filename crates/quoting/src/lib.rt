@@ -1,0 +1,3 @@
+// Document 02's quote of an edge: edges; plans: how many vertices a plan relabels.
+pub mod edges;
+pub mod plans;
