@@ -3,8 +3,14 @@
 use crate::following::follow_both;
 use crate::heap::pop;
 use crate::heap::push;
-use crate::incidence::link_all;
+use crate::heap::push_below;
+use crate::incidence::link_between;
+use crate::incidence::link_last;
+use crate::incidence::with_room;
+use crate::sampling::NO_LIMIT;
+use crate::sampling::first_limit;
 use counters::numbers::Vertex;
+use counters::sizes::ENDS;
 use counters::sizes::MAX_EDGES;
 use counters::sizes::VERTICES;
 use tables::access::of16;
@@ -57,7 +63,7 @@ fn scan(
     size
 }
 
-// Scans the queued vertices, the least distance first, until none is nearer than vertex from.
+// Scans the queued vertices, the least distance first, until none is nearer than vertex from. The answer is the heap's size.
 fn scan_all(
     ends: &[u16],
     lengths: &[u32],
@@ -69,7 +75,7 @@ fn scan_all(
     keys: &mut [u32],
     from: u16,
     queued: u16,
-)
+) -> u16
     requires { ⌜ Bounded (now ends) (now lengths) edges (now distances) ⌝ }
     ensures { λ _. ⌜ Keeps (now (ends .entry)) (now (lengths .entry)) edges (now (distances .entry)) (now (distances .exit)) ⌝ }
 {
@@ -100,9 +106,23 @@ fn scan_all(
         );
         left -= 1;
     }
+    size
 }
 
-// Tries edges in Dijkstra's order, from the goal on, where there is room for a list of each vertex.
+// Queues every vertex that is nearer than vertex from, whose edges are to be tried again. The answer is the heap's size.
+fn queue_again(heap: &mut [u16], keys: &mut [u32], distances: &[u32], from: u16, queued: u16) -> u16 {
+    let best = of32(distances, from);
+    let mut size = queued;
+    let mut v: u16 = 0;
+    while v < Vertex::COUNT {
+        size = push_below(heap, keys, v, of32(distances, v), best, size);
+        v += 1;
+    }
+    size
+}
+
+// Tries edges in Dijkstra's order, from the goal on, where there is room for the lists: the short ones, and then the others too where
+// the distance of vertex from is above the limit.
 pub fn dijkstra(
     ends: &[u16],
     lengths: &[u32],
@@ -121,18 +141,33 @@ pub fn dijkstra(
     if heads.len() < VERTICES {
         return;
     }
-    link_all(ends, heads, next, edges);
-    let queued = push(heap, keys, goal, 0, 0);
-    scan_all(
-        ends,
-        lengths,
-        edges,
-        heads,
-        heap,
-        next,
-        distances,
-        keys,
-        from,
-        queued,
-    );
+    if next.len() < ENDS {
+        return;
+    }
+    link_last(ends, heads, edges);
+    let linked = with_room(edges);
+    let mut limit = first_limit(ends, lengths, edges);
+    let mut low: u32 = 0;
+    let mut size = push(heap, keys, goal, 0, 0);
+    while low < NO_LIMIT {
+        link_between(ends, lengths, heads, next, linked, low, limit);
+        size = scan_all(
+            ends,
+            lengths,
+            edges,
+            heads,
+            heap,
+            next,
+            distances,
+            keys,
+            from,
+            size,
+        );
+        if of32(distances, from) <= limit {
+            break;
+        }
+        size = queue_again(heap, keys, distances, from, size);
+        low = limit;
+        limit = NO_LIMIT;
+    }
 }
