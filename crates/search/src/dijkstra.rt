@@ -15,6 +15,9 @@ use counters::sizes::MAX_EDGES;
 use counters::sizes::VERTICES;
 use tables::access::of16;
 use tables::access::of32;
+ghost use Prim.Native.Nat.{_≤_, _*_};
+ghost use lib.ListN.{length};
+ghost use Rattle.model.specs.Basics.{maxVertices, maxEdges};
 ghost use Rattle.search.specs.Search.{Bounded, Keeps};
 
 // Follows the chains from vertex v, two at a time. The answer is the heap's size.
@@ -121,8 +124,51 @@ fn queue_again(heap: &mut [u16], keys: &mut [u32], distances: &[u32], from: u16,
     size
 }
 
-// Tries edges in Dijkstra's order, from the goal on, where there is room for the lists: the short ones, and then the others too where
-// the distance of vertex from is above the limit.
+// Tries the edges below the limit; and then the others too, where the distance of vertex from is above it: a longer edge would matter.
+fn scan_by_length(
+    ends: &[u16],
+    lengths: &[u32],
+    edges: u16,
+    heads: &mut [u16],
+    heap: &mut [u16],
+    next: &mut [u16],
+    distances: &mut [u32],
+    keys: &mut [u32],
+    from: u16,
+    first: u32,
+    queued: u16,
+)
+    requires { ⌜ Bounded (now ends) (now lengths) edges (now distances) × ((maxVertices ≤ length (now heads)) × (2 * maxEdges ≤ length (now next))) ⌝ }
+    ensures { λ _. ⌜ Keeps (now (ends .entry)) (now (lengths .entry)) edges (now (distances .entry)) (now (distances .exit)) ⌝ }
+{
+    let linked = with_room(edges);
+    let mut size = queued;
+    let mut limit = first;
+    let mut low: u32 = 0;
+    while low < NO_LIMIT {
+        link_between(ends, lengths, heads, next, linked, low, limit);
+        size = scan_all(
+            ends,
+            lengths,
+            edges,
+            heads,
+            heap,
+            next,
+            distances,
+            keys,
+            from,
+            size,
+        );
+        if of32(distances, from) <= limit {
+            break;
+        }
+        size = queue_again(heap, keys, distances, from, size);
+        low = limit;
+        limit = NO_LIMIT;
+    }
+}
+
+// Tries edges in Dijkstra's order, from the goal on, where there is room for the lists.
 pub fn dijkstra(
     ends: &[u16],
     lengths: &[u32],
@@ -145,29 +191,19 @@ pub fn dijkstra(
         return;
     }
     link_last(ends, heads, edges);
-    let linked = with_room(edges);
-    let mut limit = first_limit(ends, lengths, edges);
-    let mut low: u32 = 0;
-    let mut size = push(heap, keys, goal, 0, 0);
-    while low < NO_LIMIT {
-        link_between(ends, lengths, heads, next, linked, low, limit);
-        size = scan_all(
-            ends,
-            lengths,
-            edges,
-            heads,
-            heap,
-            next,
-            distances,
-            keys,
-            from,
-            size,
-        );
-        if of32(distances, from) <= limit {
-            break;
-        }
-        size = queue_again(heap, keys, distances, from, size);
-        low = limit;
-        limit = NO_LIMIT;
-    }
+    let queued = push(heap, keys, goal, 0, 0);
+    let first = first_limit(ends, lengths, edges);
+    scan_by_length(
+        ends,
+        lengths,
+        edges,
+        heads,
+        heap,
+        next,
+        distances,
+        keys,
+        from,
+        first,
+        queued,
+    );
 }

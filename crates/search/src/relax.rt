@@ -89,7 +89,8 @@ fn may_lower(ends: &[u16], lengths: &[u32], distances: &[u32], e: u16, best: u32
     let da = of32_within(distances, a);
     let db = of32_within(distances, b);
     let sum = lesser(da, db) + len;
-    if lesser(best, greater(da, db)) <= sum {
+    let high = lesser(best, greater(da, db));
+    if high <= sum {
         return false;
     }
     true
