@@ -74,15 +74,12 @@ pub fn relax_all(ends: &[u16], lengths: &[u32], distances: &mut [u32], edges: u1
     changes
 }
 
-// Whether edge e may lower a distance to one below best.
+// Whether edge e may lower a distance to one below best: one test, since a test of the length alone would cost more than it spares.
 fn may_lower(ends: &[u16], lengths: &[u32], distances: &[u32], e: u16, best: u32) -> bool
     requires { ⌜ Within (now ends) (now lengths) (now distances) e ⌝ }
     ensures { λ r. ⌜ (r ≡ false → Still (now (ends .entry)) (now (lengths .entry)) (now (distances .entry)) best e) ⌝ }
 {
     let len = of32_within(lengths, e);
-    if best <= len {
-        return false;
-    }
     let i = 2 * (e as usize);
     let a = at16_within(ends, i);
     let b = at16_within(ends, i + 1);

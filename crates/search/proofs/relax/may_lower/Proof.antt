@@ -1,5 +1,5 @@
 use mathlib.Core.Bool.{true≢false}
-use Rattle.search.proofs.Relaxing.{still-long, still-of}
+use Rattle.search.proofs.Relaxing.{still-of}
 use Rattle.search.specs.Search.{unreached}
 use native.Mathlib.Omega.{arith}
 use Prim.Native.Nat.{_+_, _≤_, min, max}
@@ -9,9 +9,6 @@ use Rattle.search.proofs.relax.may_lower.Tie as tie
 
 of32-within-requires : tie.Need-of32-within-requires
 of32-within-requires c κs = search needs
-
-returns : tie.Need-returns
-returns c = λ _. still-long _ _ _ _ _ _ (c .before .of32-within .ensures) (c .if1 .taken)
 
 mul-i : tie.Need-mul-i
 mul-i c = search needs
@@ -35,8 +32,8 @@ lesser-requires : tie.Need-lesser-requires
 lesser-requires c κs = search needs
 
 add-sum : tie.Need-add-sum
-add-sum c = 
-    let at-pre = c .before .before .before .before .before .before .before .before .before .before in
+add-sum c =
+    let at-pre = c .before .before .before .before .before .before .before .before .before in
     let v : c .before .before .of32-within2 .result ≤ unreached = rw (c .before .before .of32-within2 .ensures, c .before .before .before .before .at16-within .ensures) (at-pre .pre .first-distance) in
     omega (arith, v)
 
@@ -46,25 +43,24 @@ greater-requires c κs = search needs
 lesser-requires-2 : tie.Need-lesser-requires-2
 lesser-requires-2 c κs = search needs
 
-returns-2 : tie.Need-returns-2
-returns-2 c = 
+returns : tie.Need-returns
+returns c =
     let at-db = c .before .before .before .before in
     let at-da = at-db .before in
     let at-b = at-da .before in
     let at-a = at-b .before in
-    let at-len = at-a .before .before in
+    let at-len = at-a .before in
     let x : min (at-len .before .before .before .before .args .best) (max (at-da .of32-within2 .result) (at-db .of32-within3 .result)) ≤ c .before .before .before .lesser .result + at-len .of32-within .result = omega arith in
     λ _. still-of _ _ _ _ _ _ _ _ _ _ _ (at-a .at16-within .ensures) (at-b .at16-within2 .ensures) (at-len .of32-within .ensures) (at-da .of32-within2 .ensures) (at-db .of32-within3 .ensures) (omega arith) x
 
-returns-3 : tie.Need-returns-3
-returns-3 c = λ q. absurd (true≢false q)
+returns-2 : tie.Need-returns-2
+returns-2 c = λ q. absurd (true≢false q)
 
 pub may-lower-spec : {M : Type 1} → statement M
 may-lower-spec =
     tie.close
     (tie.spec
     of32-within-requires
-    returns
     mul-i
     at16-within-requires
     add-at16-within
@@ -75,5 +71,5 @@ may-lower-spec =
     add-sum
     greater-requires
     lesser-requires-2
-    returns-2
-    returns-3)
+    returns
+    returns-2)
