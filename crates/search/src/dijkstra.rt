@@ -113,7 +113,13 @@ fn scan_all(
 }
 
 // Queues every vertex that is nearer than vertex from, whose edges are to be tried again. The answer is the heap's size.
-fn queue_again(heap: &mut [u16], keys: &mut [u32], distances: &[u32], from: u16, queued: u16) -> u16 {
+fn queue_again(
+    heap: &mut [u16],
+    keys: &mut [u32],
+    distances: &[u32],
+    from: u16,
+    queued: u16,
+) -> u16 {
     let best = of32(distances, from);
     let mut size = queued;
     let mut v: u16 = 0;

@@ -39,7 +39,11 @@ fn link(ends: &[u16], heads: &mut [u16], next: &mut [u16], e: usize)
 pub fn with_room(edges: u16) -> u16
     ensures { λ r. ⌜ (r ≤ edges) × (r < maxEdges) ⌝ }
 {
-    if edges < MAX_EDGES { edges } else { MAX_EDGES - 1 }
+    if edges < MAX_EDGES {
+        edges
+    } else {
+        MAX_EDGES - 1
+    }
 }
 
 // The ends that find no room in next are linked first, as the last of their lists: the 0 that is read there is their end.
@@ -64,7 +68,15 @@ fn link_all(ends: &[u16], heads: &mut [u16], next: &mut [u16], edges: u16)
 }
 
 // The same for one edge, where its length is from low on and below the limit.
-fn link_if(ends: &[u16], lengths: &[u32], heads: &mut [u16], next: &mut [u16], e: u16, low: u32, limit: u32)
+fn link_if(
+    ends: &[u16],
+    lengths: &[u32],
+    heads: &mut [u16],
+    next: &mut [u16],
+    e: u16,
+    low: u32,
+    limit: u32,
+)
     requires { ⌜ (e < length (now lengths)) × Linkable (now ends) (length (now heads)) (length (now next)) e ⌝ }
 {
     let len = of32_within(lengths, e);
@@ -78,7 +90,15 @@ fn link_if(ends: &[u16], lengths: &[u32], heads: &mut [u16], next: &mut [u16], e
 }
 
 // From the last edge down those with lengths from low on and below the limit.
-fn link_some(ends: &[u16], lengths: &[u32], heads: &mut [u16], next: &mut [u16], edges: u16, low: u32, limit: u32)
+fn link_some(
+    ends: &[u16],
+    lengths: &[u32],
+    heads: &mut [u16],
+    next: &mut [u16],
+    edges: u16,
+    low: u32,
+    limit: u32,
+)
     requires { ⌜ (edges ≤ length (now lengths)) × ((e : ℕ) → e < edges → Linkable (now ends) (length (now heads)) (length (now next)) e) ⌝ }
 {
     let mut e = edges;
@@ -89,7 +109,15 @@ fn link_some(ends: &[u16], lengths: &[u32], heads: &mut [u16], next: &mut [u16],
 }
 
 // The same; where these are all edges, no length is read.
-pub fn link_between(ends: &[u16], lengths: &[u32], heads: &mut [u16], next: &mut [u16], edges: u16, low: u32, limit: u32)
+pub fn link_between(
+    ends: &[u16],
+    lengths: &[u32],
+    heads: &mut [u16],
+    next: &mut [u16],
+    edges: u16,
+    low: u32,
+    limit: u32,
+)
     requires { ⌜ (edges ≤ length (now lengths)) × ((e : ℕ) → e < edges → Linkable (now ends) (length (now heads)) (length (now next)) e) ⌝ }
 {
     if low == 0 {

@@ -10,27 +10,28 @@ use Rattle.search.proofs.dijkstra.scan_by_length.Statement.{statement}
 use Rattle.search.proofs.dijkstra.scan_by_length.Tie as tie
 
 abbrev Inv-loop : tie.InvT-loop
-Inv-loop ends lengths edges heads₀ heap₀ next₀ distances₀ keys₀ from first queued linked size₀ limit₀ low₀ heads heap next distances keys size limit low = 
+Inv-loop ends lengths edges heads₀ heap₀ next₀ distances₀ keys₀ from first queued linked size₀ limit₀ low₀ heads heap next distances keys size limit low =
     Searching ends lengths edges heap₀ distances₀ keys₀ heap distances keys × ((length heads ≡ length heads₀) × (length next ≡ length next₀))
 
 abbrev μ-loop : tie.MeasureT-loop
-μ-loop ends lengths edges heads₀ heap₀ next₀ distances₀ keys₀ from first queued linked size₀ limit₀ low₀ heads heap next distances keys size limit low = 
+μ-loop ends lengths edges heads₀ heap₀ next₀ distances₀ keys₀ from first queued linked size₀ limit₀ low₀ heads heap next distances keys size limit low =
     (4294967295 - low) + (4294967295 - limit)
 
 with-room-requires : tie.Need-with-room-requires Inv-loop μ-loop
 with-room-requires c κs = search needs
 
 loop-holds : tie.Need-loop-holds Inv-loop μ-loop
-loop-holds c = 
+loop-holds c =
     (record { keeps = keeps-same (c .before .before .before .before .before .before .before .before .pre .0); heap-long = refl; distances-long = refl; keys-long = refl }, (refl, refl))
 
 link-between-requires : tie.Need-link-between-requires Inv-loop μ-loop
-link-between-requires c κs = 
+link-between-requires c κs =
     let at-loop = c .before .before .before in
     let at-room = at-loop .before in
-    let p = c .before .before .before .before .before .before .before .before .before .before .before .before .pre in
-    (omega (arith, at-room .with-room .ensures, p .0 .searchable .lengths-room),
-    linkable (p .0 .searchable) (at-room .with-room .ensures) (omega (arith, at-loop .loop .inv .1 .0, p .1 .0)) (omega (arith, at-loop .loop .inv .1 .1, p .1 .1)))
+    let p = c .before .before .before .before .before .before .before .before .before .before .before .before .pre in (
+      omega (arith, at-room .with-room .ensures, p .0 .searchable .lengths-room),
+      linkable (p .0 .searchable) (at-room .with-room .ensures) (omega (arith, at-loop .loop .inv .1 .0, p .1 .0)) (omega (arith, at-loop .loop .inv .1 .1, p .1 .1)),
+    )
 
 scan-all-requires : tie.Need-scan-all-requires Inv-loop μ-loop
 scan-all-requires c κs = c .before .before .before .before .before .before .before .before .before .before .before .before .before .loop .inv .0 .keeps .bounded
@@ -45,7 +46,7 @@ loop-less : tie.Need-loop-less Inv-loop μ-loop
 loop-less c = omega arith
 
 loop-again : tie.Need-loop-again Inv-loop μ-loop
-loop-again c = 
+loop-again c =
     let at-scan = c .before .before .before .before .before .before .before .before .before .before .before .before .before .before .before .before .before in
     let at-loop = at-scan .before .before .before .before .before .before .before .before .before .before .before .before .before .before in
     (record { keeps = keeps-on (at-loop .loop .inv .0 .keeps) (at-scan .scan-all .ensures); heap-long = omega arith; distances-long = omega arith; keys-long = omega arith }, (omega arith, omega arith))

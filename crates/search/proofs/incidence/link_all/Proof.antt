@@ -19,7 +19,7 @@ sub-e : tie.Need-sub-e Inv-loop μ-loop
 sub-e c = omega arith
 
 link-requires : tie.Need-link-requires Inv-loop μ-loop
-link-requires c κs = 
+link-requires c κs =
     let at-loop = c .before .before .before in
     rw (at-loop .loop .inv .1 .0, at-loop .loop .inv .1 .1) (c .before .before .before .before .before .before .before .pre (at-loop .loop .e - 1) (omega arith))
 

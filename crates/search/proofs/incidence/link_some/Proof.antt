@@ -19,7 +19,7 @@ sub-e : tie.Need-sub-e Inv-loop μ-loop
 sub-e c = omega arith
 
 link-if-requires : tie.Need-link-if-requires Inv-loop μ-loop
-link-if-requires c κs = 
+link-if-requires c κs =
     let at-loop = c .before .before .before in
     let at-pre = c .before .before .before .before .before .before .before .before in
     (omega (arith, at-pre .pre .0), rw (at-loop .loop .inv .1 .0, at-loop .loop .inv .1 .1) (at-pre .pre .1 (at-loop .loop .e - 1) (omega arith)))
