@@ -1,17 +1,17 @@
 -- The tables' edges: as a list, and that their ends are vertices.
 use mathlib.Core.Path.{_≡_, refl, ap, _∙_}
-use Prim.Native.Nat.{ℕ, _+_, _*_, _<_}
+use Prim.Native.Nat.{ℕ, _+_, _*_, _≤_, _<_}
 use native.Mathlib.Omega.{arith}
 use mathlib.Core.List.{List, [], _∷_, map}
 use lib.ListN.{length, getD, length-map}
-use Rattle.model.specs.Basics.{upTo, maxVertices}
+use Rattle.model.specs.Basics.{upTo, maxVertices, maxEdges}
 use Rattle.model.specs.Graph.{edgeAt, noEdge}
 use Rattle.model.specs.Distance.{Joins, forth, back, distance}
 use Rattle.model.specs.Tables.{storedEdge, storedEdges}
 use Rattle.model.proofs.Basics.Lists.{length-upTo, getD-counted}
 use Rattle.tables.specs.Meaning.{tables}
 use Rattle.tables.specs.Steps.{edgeOf, edgesOf}
-use Rattle.search.specs.Search.{Searchable}
+use Rattle.search.specs.Search.{Searchable, Linkable}
 
 -- the tables have m edges, each at its number
 pub edges-length : (ends lengths : List ℕ) (m : ℕ) → length (edgesOf ends lengths [] m) ≡ m
@@ -45,3 +45,14 @@ pub ends-below : {ends lengths : List ℕ} {m e v u : ℕ} → Searchable ends l
 unfolding storedEdge
 ends-below {e = e} h l (forth p q) = (rw (← p) (h .firsts e l), rw (← q) (h .seconds e l))
 ends-below {e = e} h l (back p q) = (rw (← p) (h .seconds e l), rw (← q) (h .firsts e l))
+
+-- and there is room for it in the lists, but for the last of 4,096
+pub linkable : {ends lengths : List ℕ} {m n heads next : ℕ} → Searchable ends lengths m → (n ≤ m) × (n < maxEdges) → maxVertices ≤ heads → 2 * maxEdges ≤ next
+    → (e : ℕ) → e < n → Linkable ends heads next e
+linkable h r a b e l = record {
+  few = omega (arith, r .1);
+  ends-room = omega (arith, r .0, h .ends-room);
+  next-room = omega (arith, r .1);
+  first-room = omega (arith, h .firsts e (omega (arith, r .0)));
+  second-room = omega (arith, h .seconds e (omega (arith, r .0)));
+}

@@ -71,6 +71,11 @@ module _ (ends lengths : List ℕ) (m : ℕ) where
     still = λ z k b. f .still z k (omega arith);
   }
 
+  -- distances that no edge lowers are settled
+  pub still-settled : (from : ℕ) (distances₀ distances : List ℕ) (best : ℕ) → Keeps ends lengths m distances₀ distances → best ≡ getD distances from 0
+      → ((e : ℕ) → e < m → Still ends lengths distances best e) → Settled ends lengths m from distances₀ distances
+  still-settled from distances₀ distances best k q s = record { keeps = k; still = rw q at s }
+
   -- a round that changes nothing settles the distances
   pub round-settled : (from : ℕ) (distances₀ distances distances′ : List ℕ) (best changes : ℕ) → Keeps ends lengths m distances₀ distances
       → best ≡ getD distances from 0 → changes ≡ 0 → Round ends lengths m distances distances′ best changes → Settled ends lengths m from distances₀ distances′

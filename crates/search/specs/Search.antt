@@ -91,3 +91,11 @@ pub record Round (ends lengths : List ℕ) (m : ℕ) (distances distances′ : L
 pub record Settled (ends lengths : List ℕ) (m from : ℕ) (distances distances′ : List ℕ) : Type 0 where
   pub keeps : Keeps ends lengths m distances distances′
   pub still : (e : ℕ) → e < m → Still ends lengths distances′ (getD distances′ from 0) e
+
+-- edge e can be put into the incidence lists: its ends stand within the tables, and have a list each, of so many
+pub record Linkable (ends : List ℕ) (heads next e : ℕ) : Type 0 where
+  pub few : e < maxEdges
+  pub ends-room : 2 * e + 1 < length ends
+  pub next-room : 2 * e + 3 < next
+  pub first-room : getD ends (2 * e) 0 < heads
+  pub second-room : getD ends (2 * e + 1) 0 < heads

@@ -24,6 +24,14 @@ pub fn put16_within(xs: &mut [u16], i: u16, x: u16)
     xs[i as usize] = x;
 }
 
+// The same by an index of another width.
+pub fn put16_at(xs: &mut [u16], i: usize, x: u16)
+    requires { ⌜ i < length (now xs) ⌝ }
+    ensures { λ _. ⌜ now (xs .exit) ≡ set (now (xs .entry)) i x ⌝ }
+{
+    xs[i] = x;
+}
+
 pub fn put32_within(xs: &mut [u32], i: u16, x: u32)
     requires { ⌜ i < length (now xs) ⌝ }
     ensures { λ _. ⌜ now (xs .exit) ≡ set (now (xs .entry)) i x ⌝ }

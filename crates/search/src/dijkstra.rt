@@ -3,12 +3,21 @@
 use crate::following::follow_both;
 use crate::heap::pop;
 use crate::heap::push;
-use crate::incidence::link_all;
+use crate::heap::push_below;
+use crate::incidence::link_between;
+use crate::incidence::link_last;
+use crate::incidence::with_room;
+use crate::sampling::NO_LIMIT;
+use crate::sampling::first_limit;
 use counters::numbers::Vertex;
+use counters::sizes::ENDS;
 use counters::sizes::MAX_EDGES;
 use counters::sizes::VERTICES;
 use tables::access::of16;
 use tables::access::of32;
+ghost use Prim.Native.Nat.{_≤_, _*_};
+ghost use lib.ListN.{length};
+ghost use Rattle.model.specs.Basics.{maxVertices, maxEdges};
 ghost use Rattle.search.specs.Search.{Bounded, Keeps};
 
 // Follows the chains from vertex v, two at a time. The answer is the heap's size.
@@ -57,7 +66,7 @@ fn scan(
     size
 }
 
-// Scans the queued vertices, the least distance first, until none is nearer than vertex from.
+// Scans the queued vertices, the least distance first, until none is nearer than vertex from. The answer is the heap's size.
 fn scan_all(
     ends: &[u16],
     lengths: &[u32],
@@ -69,7 +78,7 @@ fn scan_all(
     keys: &mut [u32],
     from: u16,
     queued: u16,
-)
+) -> u16
     requires { ⌜ Bounded (now ends) (now lengths) edges (now distances) ⌝ }
     ensures { λ _. ⌜ Keeps (now (ends .entry)) (now (lengths .entry)) edges (now (distances .entry)) (now (distances .exit)) ⌝ }
 {
@@ -100,9 +109,72 @@ fn scan_all(
         );
         left -= 1;
     }
+    size
 }
 
-// Tries edges in Dijkstra's order, from the goal on, where there is room for a list of each vertex.
+// Queues every vertex that is nearer than vertex from, whose edges are to be tried again. The answer is the heap's size.
+fn queue_again(
+    heap: &mut [u16],
+    keys: &mut [u32],
+    distances: &[u32],
+    from: u16,
+    queued: u16,
+) -> u16 {
+    let best = of32(distances, from);
+    let mut size = queued;
+    let mut v: u16 = 0;
+    while v < Vertex::COUNT {
+        size = push_below(heap, keys, v, of32(distances, v), best, size);
+        v += 1;
+    }
+    size
+}
+
+// Tries the edges below the limit; and then the others too, where the distance of vertex from is above it: a longer edge would matter.
+fn scan_by_length(
+    ends: &[u16],
+    lengths: &[u32],
+    edges: u16,
+    heads: &mut [u16],
+    heap: &mut [u16],
+    next: &mut [u16],
+    distances: &mut [u32],
+    keys: &mut [u32],
+    from: u16,
+    first: u32,
+    queued: u16,
+)
+    requires { ⌜ Bounded (now ends) (now lengths) edges (now distances) × ((maxVertices ≤ length (now heads)) × (2 * maxEdges ≤ length (now next))) ⌝ }
+    ensures { λ _. ⌜ Keeps (now (ends .entry)) (now (lengths .entry)) edges (now (distances .entry)) (now (distances .exit)) ⌝ }
+{
+    let linked = with_room(edges);
+    let mut size = queued;
+    let mut limit = first;
+    let mut low: u32 = 0;
+    while low < NO_LIMIT {
+        link_between(ends, lengths, heads, next, linked, low, limit);
+        size = scan_all(
+            ends,
+            lengths,
+            edges,
+            heads,
+            heap,
+            next,
+            distances,
+            keys,
+            from,
+            size,
+        );
+        if of32(distances, from) <= limit {
+            break;
+        }
+        size = queue_again(heap, keys, distances, from, size);
+        low = limit;
+        limit = NO_LIMIT;
+    }
+}
+
+// Tries edges in Dijkstra's order, from the goal on, where there is room for the lists.
 pub fn dijkstra(
     ends: &[u16],
     lengths: &[u32],
@@ -121,9 +193,13 @@ pub fn dijkstra(
     if heads.len() < VERTICES {
         return;
     }
-    link_all(ends, heads, next, edges);
+    if next.len() < ENDS {
+        return;
+    }
+    link_last(ends, heads, edges);
     let queued = push(heap, keys, goal, 0, 0);
-    scan_all(
+    let first = first_limit(ends, lengths, edges);
+    scan_by_length(
         ends,
         lengths,
         edges,
@@ -133,6 +209,7 @@ pub fn dijkstra(
         distances,
         keys,
         from,
+        first,
         queued,
     );
 }

@@ -45,9 +45,10 @@ fn relax_end(
     far
 }
 
-// Of two list entries, the one that is not of the same edge as j.
-fn other_end(one: u16, two: u16, j: u16) -> u16 {
-    if one / 2 == j / 2 { two } else { one }
+// Of a list of one or two entries, the one that is not back, or 0: behind is what comes after back. It is read beside the list's front
+// and not after it, so that a step waits less.
+fn other_end(front: u16, behind: u16, back: u16) -> u16 {
+    if front == back { behind } else { front }
 }
 
 // Where a walk along a chain goes on: the list entry of the next edge end, or 0 where it stops. A branch that it stops at is to be queued.
@@ -56,7 +57,7 @@ pub struct Onward {
     pub branch: u16,
 }
 
-// Tries one edge of a chain, from end j - 2 on. At a leaf the other end is none, which stops the walk.
+// Tries one edge of a chain, from end j - 2 on; its other end has the entry back. At a leaf the other end is none, which stops the walk.
 fn advance(
     ends: &[u16],
     lengths: &[u32],
@@ -78,16 +79,18 @@ fn advance(
             branch: NO_VERTEX,
         };
     }
-    let one = of16(heads, v);
-    let two = of16(next, one);
-    if of16(next, two) != 0 {
+    let back = j ^ 1;
+    let behind = of16(next, back);
+    let front = of16(heads, v);
+    let second = of16(next, front);
+    if of16(next, second) != 0 {
         return Onward {
             entry: 0,
             branch: v,
         };
     }
     Onward {
-        entry: other_end(one, two, j),
+        entry: other_end(front, behind, back),
         branch: NO_VERTEX,
     }
 }

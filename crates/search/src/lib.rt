@@ -6,4 +6,5 @@ mod following;
 mod heap;
 mod incidence;
 pub mod relax;
+mod sampling;
 pub mod shortest;

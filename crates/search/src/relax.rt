@@ -4,8 +4,9 @@ use crate::access::of32_within;
 use crate::access::put32_within;
 use tables::access::of32;
 ghost use mathlib.Core.Path.{_≡_};
-ghost use Prim.Native.Nat.{_<_, min, max};
-ghost use Rattle.search.specs.Search.{Bounded, Within, Relaxed, Round, Settled, Counted};
+ghost use mathlib.Core.Bool.{true, false};
+ghost use Prim.Native.Nat.{ℕ, _<_, min, max};
+ghost use Rattle.search.specs.Search.{Bounded, Within, Still, Relaxed, Round, Settled, Counted};
 
 // The answer of a step that lowered nothing.
 pub const NO_VERTEX: u16 = 65535;
@@ -73,6 +74,40 @@ pub fn relax_all(ends: &[u16], lengths: &[u32], distances: &mut [u32], edges: u1
     changes
 }
 
+// Whether edge e may lower a distance to one below best: one test, since a test of the length alone would cost more than it spares.
+fn may_lower(ends: &[u16], lengths: &[u32], distances: &[u32], e: u16, best: u32) -> bool
+    requires { ⌜ Within (now ends) (now lengths) (now distances) e ⌝ }
+    ensures { λ r. ⌜ (r ≡ false → Still (now (ends .entry)) (now (lengths .entry)) (now (distances .entry)) best e) ⌝ }
+{
+    let len = of32_within(lengths, e);
+    let i = 2 * (e as usize);
+    let a = at16_within(ends, i);
+    let b = at16_within(ends, i + 1);
+    let da = of32_within(distances, a);
+    let db = of32_within(distances, b);
+    let sum = lesser(da, db) + len;
+    let high = lesser(best, greater(da, db));
+    if high <= sum {
+        return false;
+    }
+    true
+}
+
+// Whether no edge does. It writes nothing, so a round of it is quicker than one that can lower.
+fn all_still(ends: &[u16], lengths: &[u32], distances: &[u32], edges: u16, best: u32) -> bool
+    requires { ⌜ Bounded (now ends) (now lengths) edges (now distances) ⌝ }
+    ensures { λ r. ⌜ (r ≡ true → (e : ℕ) → e < edges → Still (now (ends .entry)) (now (lengths .entry)) (now (distances .entry)) best e) ⌝ }
+{
+    let mut e: u16 = 0;
+    while e < edges {
+        if may_lower(ends, lengths, distances, e, best) {
+            return false;
+        }
+        e += 1;
+    }
+    true
+}
+
 // Rounds until nothing changes: then no edge lowers a distance below that of vertex from. After a search in the right order this is one
 // round, which finds nothing to do. After any other it is more rounds and the same answer: that is why the order needs no proof.
 pub fn settle(ends: &[u16], lengths: &[u32], distances: &mut [u32], edges: u16, from: u16)
@@ -81,6 +116,9 @@ pub fn settle(ends: &[u16], lengths: &[u32], distances: &mut [u32], edges: u16, 
 {
     loop {
         let best = of32(distances, from);
+        if all_still(ends, lengths, distances, edges, best) {
+            return;
+        }
         let changes = relax_all(ends, lengths, distances, edges, best);
         if changes == 0 {
             return;

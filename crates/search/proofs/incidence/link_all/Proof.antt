@@ -1,31 +1,27 @@
 use native.Mathlib.Omega.{arith}
 use lib.ListN.{length}
-use Prim.Native.Nat.{_≤_, _*_, _-_}
 use mathlib.Core.Path.{_≡_, refl}
+use Prim.Native.Nat.{_≤_, _-_}
 use borrow.Author.Needs.{needs}
 use Rattle.search.proofs.incidence.link_all.Statement.{statement}
 use Rattle.search.proofs.incidence.link_all.Tie as tie
 
--- k counts ends; the tables keep their lengths
 abbrev Inv-loop : tie.InvT-loop
-Inv-loop ends heads₀ next₀ edges k₀ heads next k = (k ≤ 2 * edges) × ((length heads ≡ length heads₀) × (length next ≡ length next₀))
+Inv-loop ends heads₀ next₀ edges e₀ heads next e = (e ≤ edges) × ((length heads ≡ length heads₀) × (length next ≡ length next₀))
 
 abbrev μ-loop : tie.MeasureT-loop
-μ-loop ends heads₀ next₀ edges k₀ heads next k = k
-
-mul-k : tie.Need-mul-k Inv-loop μ-loop
-mul-k c = omega arith
+μ-loop ends heads₀ next₀ edges e₀ heads next e = e
 
 loop-holds : tie.Need-loop-holds Inv-loop μ-loop
 loop-holds c = (omega arith, (refl, refl))
 
-sub-k : tie.Need-sub-k Inv-loop μ-loop
-sub-k c = omega arith
+sub-e : tie.Need-sub-e Inv-loop μ-loop
+sub-e c = omega arith
 
 link-requires : tie.Need-link-requires Inv-loop μ-loop
 link-requires c κs =
-    let v = c .before .before .before .before .before .before .before .pre .1 .1 (c .before .before .before .loop .k - 1) (omega arith) in
-    (omega arith, (omega arith, omega (arith, v)))
+    let at-loop = c .before .before .before in
+    rw (at-loop .loop .inv .1 .0, at-loop .loop .inv .1 .1) (c .before .before .before .before .before .before .before .pre (at-loop .loop .e - 1) (omega arith))
 
 loop-less : tie.Need-loop-less Inv-loop μ-loop
 loop-less c = omega arith
@@ -48,9 +44,8 @@ link-all-spec =
     (tie.spec
     Inv-loop
     μ-loop
-    mul-k
     loop-holds
-    sub-k
+    sub-e
     link-requires
     loop-less
     loop-again
