@@ -39,7 +39,11 @@ fn proved(call: Call, list: &[u8], answer: &mut [u8]) -> i32 {
 }
 
 fn plain(call: Call, list: &[u8], answer: &mut [u8]) -> i32 {
-    let (register, refusal) = Register::grow(list);
+    // A sheet and a distance need no tags, on either side.
+    let (register, refusal) = match call {
+        Call::Sheet | Call::Distance(..) => Register::record(list),
+        _ => Register::grow(list),
+    };
     // Else what the call does not read might not be written.
     black_box(&register);
     if refusal != 0 {

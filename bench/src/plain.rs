@@ -58,7 +58,14 @@ impl Register {
     /// Lands a list; the number of the refusal that stopped it, or 0.
     pub fn grow(list: &[u8]) -> (Self, u32) {
         let mut register = Register::new();
-        let refusal = register.land(list);
+        let refusal = register.land::<true>(list);
+        (register, refusal)
+    }
+
+    /// The same without labels: what the sheet and a distance need.
+    pub fn record(list: &[u8]) -> (Self, u32) {
+        let mut register = Register::new();
+        let refusal = register.land::<false>(list);
         (register, refusal)
     }
 
@@ -104,14 +111,14 @@ impl Register {
         WalkEnd { at: w.at, inner, length, volume, lowest }
     }
 
-    fn land(&mut self, list: &[u8]) -> u32 {
+    fn land<const LABELS: bool>(&mut self, list: &[u8]) -> u32 {
         if list.len() < 5 || &list[..3] != b"PNL" || !(1..=2).contains(&list[3]) || list[4] != 0 {
             return 1;
         }
         let size = if list[3] == 1 { 9 } else { 13 };
         let mut at = 5;
         while at < list.len() {
-            match self.land_record(list, at, size) {
+            match self.land_record::<LABELS>(list, at, size) {
                 Ok(next) => at = next,
                 Err(refusal) => return refusal,
             }
@@ -120,7 +127,7 @@ impl Register {
     }
 
     /// Lands the record at a place of the list, whose edges have so many bytes; gives the place of the next one, or the refusal.
-    fn land_record(&mut self, list: &[u8], at: usize, size: usize) -> Result<usize, u32> {
+    fn land_record<const LABELS: bool>(&mut self, list: &[u8], at: usize, size: usize) -> Result<usize, u32> {
         match list[at] {
             0x46 if self.vertices == VERTICES => Err(22),
             0x46 => {
@@ -131,7 +138,7 @@ impl Register {
                 let word = |i: usize| u16::from_le_bytes([list[i], list[i + 1]]);
                 let number = |i: usize| u32::from(word(i)) | u32::from(word(i + 2)) << 16;
                 let volume = if size == 13 { number(at + 9) } else { 0 };
-                match self.land_edge(word(at + 1), word(at + 3), number(at + 5), volume) {
+                match self.land_edge::<LABELS>(word(at + 1), word(at + 3), number(at + 5), volume) {
                     0 => Ok(at + size),
                     refusal => Err(refusal),
                 }
@@ -141,7 +148,7 @@ impl Register {
         }
     }
 
-    fn land_edge(&mut self, a: u16, b: u16, length: u32, volume: u32) -> u32 {
+    fn land_edge<const LABELS: bool>(&mut self, a: u16, b: u16, length: u32, volume: u32) -> u32 {
         if usize::from(a) >= self.vertices || usize::from(b) >= self.vertices {
             return 5;
         }
@@ -158,6 +165,21 @@ impl Register {
             return 23;
         }
         let e = self.edges as u16;
+        if LABELS {
+            self.place(a, b, e);
+        } else {
+            self.note(a, e);
+            self.note(b, e);
+            self.raise(a, b);
+        }
+        self.ends[self.edges] = [a, b];
+        self.lengths[self.edges] = length;
+        self.volumes[self.edges] = volume;
+        self.edges += 1;
+        0
+    }
+
+    fn place(&mut self, a: u16, b: u16, e: u16) {
         let (da, db) = (self.degrees[usize::from(a)], self.degrees[usize::from(b)]);
         if da == 1 && db == 1 {
             self.merge(a, b, e);
@@ -175,11 +197,13 @@ impl Register {
                 self.extend(b, e);
             }
         }
-        self.ends[self.edges] = [a, b];
-        self.lengths[self.edges] = length;
-        self.volumes[self.edges] = volume;
-        self.edges += 1;
-        0
+    }
+
+    /// The first edge of a vertex, or a later one: at a regular vertex these are its two.
+    fn note(&mut self, v: u16, e: u16) {
+        let i = usize::from(v);
+        let later = usize::from(self.degrees[i] != 0);
+        self.sides[i][later] = e;
     }
 
     fn raise(&mut self, a: u16, b: u16) {
