@@ -8,7 +8,7 @@ use crate::sampling::NO_LIMIT;
 use counters::sizes::MAX_EDGES;
 use tables::access::of16;
 use tables::access::put16;
-ghost use Prim.Native.Nat.{ℕ, _≤_, _<_, _+_, _*_};
+ghost use Prim.Native.Nat.{ℕ, _≤_, _<_};
 ghost use lib.ListN.{length};
 ghost use Rattle.model.specs.Basics.{maxEdges};
 ghost use Rattle.search.specs.Search.{Linkable};

@@ -7,6 +7,7 @@ use borrow.Author.Needs.{needs}
 use Rattle.search.proofs.dijkstra.queue_again.Statement.{statement}
 use Rattle.search.proofs.dijkstra.queue_again.Tie as tie
 
+-- the tables keep their lengths
 abbrev Inv-loop : tie.InvT-loop
 Inv-loop heap₀ keys₀ distances from queued best size₀ v₀ heap keys size v = (length heap ≡ length heap₀) × (length keys ≡ length keys₀)
 

@@ -9,6 +9,7 @@ use borrow.Author.Needs.{needs}
 use Rattle.search.proofs.dijkstra.scan_by_length.Statement.{statement}
 use Rattle.search.proofs.dijkstra.scan_by_length.Tie as tie
 
+-- the distances stay grounded; the tables keep their lengths
 abbrev Inv-loop : tie.InvT-loop
 Inv-loop ends lengths edges heads₀ heap₀ next₀ distances₀ keys₀ from first queued linked size₀ limit₀ low₀ heads heap next distances keys size limit low =
     Searching ends lengths edges heap₀ distances₀ keys₀ heap distances keys × ((length heads ≡ length heads₀) × (length next ≡ length next₀))

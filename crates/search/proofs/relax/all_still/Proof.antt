@@ -9,6 +9,7 @@ use Rattle.search.specs.Search.{Still}
 use Rattle.search.proofs.relax.all_still.Statement.{statement}
 use Rattle.search.proofs.relax.all_still.Tie as tie
 
+-- the edges below e lower nothing
 abbrev Inv-loop : tie.InvT-loop
 Inv-loop ends lengths distances edges best e₀ e = (k : ℕ) → k < e → Still ends lengths distances best k
 

@@ -4,6 +4,7 @@ use borrow.Author.Needs.{needs}
 use Rattle.search.proofs.sampling.sampled_below.Statement.{statement}
 use Rattle.search.proofs.sampling.sampled_below.Tie as tie
 
+-- e falls by a step
 abbrev Inv-loop : tie.InvT-loop
 Inv-loop lengths edges step limit count₀ e₀ count e = e ≤ edges
 

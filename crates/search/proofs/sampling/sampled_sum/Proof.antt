@@ -4,6 +4,7 @@ use borrow.Author.Needs.{needs}
 use Rattle.search.proofs.sampling.sampled_sum.Statement.{statement}
 use Rattle.search.proofs.sampling.sampled_sum.Tie as tie
 
+-- e falls by a step
 abbrev Inv-loop : tie.InvT-loop
 Inv-loop lengths edges step sum₀ e₀ sum e = e ≤ edges
 

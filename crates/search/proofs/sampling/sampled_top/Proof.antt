@@ -4,6 +4,7 @@ use borrow.Author.Needs.{needs}
 use Rattle.search.proofs.sampling.sampled_top.Statement.{statement}
 use Rattle.search.proofs.sampling.sampled_top.Tie as tie
 
+-- e falls by a step
 abbrev Inv-loop : tie.InvT-loop
 Inv-loop ends edges step top₀ e₀ top e = e ≤ edges
 
