@@ -79,7 +79,7 @@ fn note_records(
         noCounts maxEdges false (asPlace from) ⌝ }
 {
     let mut at = from;
-    let mut head = Counts::none();
+    let mut counts = Counts::none();
     let mut rings = false;
     let mut number: usize = 0;
     let mut left = list.len();
@@ -90,37 +90,31 @@ fn note_records(
             ends,
             lengths,
             volumes,
-            head,
+            counts,
             list,
             at,
             rings,
         );
         match step {
             Step::End => {
-                return Reading {
-                    counts: head,
-                    stop: Stop::Whole,
-                };
+                let stop = Stop::Whole;
+                return Reading { counts, stop };
             }
-            Step::Landed(counts, then, next) => {
-                head = counts;
+            Step::Landed(after, then, next) => {
+                counts = after;
                 rings = then;
                 at = next;
             }
             Step::Refused(refusal) => {
-                return Reading {
-                    counts: head,
-                    stop: Stop::Stopped(number, refusal),
-                };
+                let stop = Stop::Stopped(number, refusal);
+                return Reading { counts, stop };
             }
         }
         number += 1;
         left -= 1;
     }
-    Reading {
-        counts: head,
-        stop: Stop::Whole,
-    }
+    let stop = Stop::Whole;
+    Reading { counts, stop }
 }
 
 // A whole list from empty, on tables that come cleared.

@@ -22,13 +22,13 @@ use Rattle.counters.proofs.counts.Counts.none.Reads as none-reads
 use Rattle.recording.proofs.lists.note_record.Reads as note-record-reads
 
 abbrev Inv-loop : tie.InvT-loop
-Inv-loop degrees₀ sides₀ ends₀ lengths₀ volumes₀ list at₀ head₀ rings₀ number₀ left₀ degrees sides ends lengths volumes at head rings number left =
+Inv-loop degrees₀ sides₀ ends₀ lengths₀ volumes₀ list at₀ counts₀ rings₀ number₀ left₀ degrees sides ends lengths volumes at counts rings number left =
     (number + left < 18446744073709551616) × (SameLengths degrees₀ sides₀ ends₀ lengths₀ volumes₀ [] degrees sides ends lengths volumes []
-    × (landRecordsBy recordIn list left number (tables degrees sides ends lengths volumes []) (asCounts head) maxEdges rings (asPlace at)
+    × (landRecordsBy recordIn list left number (tables degrees sides ends lengths volumes []) (asCounts counts) maxEdges rings (asPlace at)
     ≡ landRecordsBy recordIn list left₀ 0 (tables degrees₀ sides₀ ends₀ lengths₀ volumes₀ []) noCounts maxEdges false (asPlace at₀)))
 
 abbrev μ-loop : tie.MeasureT-loop
-μ-loop degrees₀ sides₀ ends₀ lengths₀ volumes₀ list at₀ head₀ rings₀ number₀ left₀ degrees sides ends lengths volumes at head rings number left = left
+μ-loop degrees₀ sides₀ ends₀ lengths₀ volumes₀ list at₀ counts₀ rings₀ number₀ left₀ degrees sides ends lengths volumes at counts rings number left = left
 
 -- src/lists.rt:82:9
 none-requires : tie.Need-none-requires Inv-loop μ-loop
