@@ -16,10 +16,6 @@ use mathlib.Core.List.{[]}
 use mathlib.Core.Path.{_≡_, refl, ap, sym, _∙_}
 use Rattle.recording.proofs.lists.note_records.Statement.{statement}
 use Rattle.recording.proofs.lists.note_records.Tie as tie
-use Rattle.recording.proofs.lists.note_records.Reads as reads
-use Rattle.recording.proofs.lists.note_records.Lts as lts
-use Rattle.counters.proofs.counts.Counts.none.Reads as none-reads
-use Rattle.recording.proofs.lists.note_record.Reads as note-record-reads
 
 abbrev Inv-loop : tie.InvT-loop
 Inv-loop degrees₀ sides₀ ends₀ lengths₀ volumes₀ list at₀ counts₀ rings₀ number₀ left₀ degrees sides ends lengths volumes at counts rings number left =
@@ -30,58 +26,39 @@ Inv-loop degrees₀ sides₀ ends₀ lengths₀ volumes₀ list at₀ counts₀ 
 abbrev μ-loop : tie.MeasureT-loop
 μ-loop degrees₀ sides₀ ends₀ lengths₀ volumes₀ list at₀ counts₀ rings₀ number₀ left₀ degrees sides ends lengths volumes at counts rings number left = left
 
--- src/lists.rt:82:9
-none-requires : tie.Need-none-requires Inv-loop μ-loop
-none-requires c κs = search needs
-
--- src/lists.rt:86:5
 loop-holds : tie.Need-loop-holds Inv-loop μ-loop
 loop-holds c = (omega arith, (same-refl _ _ _ _ _ _, rw (c .none .ensures)))
 
--- src/lists.rt:87:13
-note-record-requires : tie.Need-note-record-requires Inv-loop μ-loop
-note-record-requires c κs = search needs
-
--- src/lists.rt:100:54
-enum-told : tie.Need-enum-told Inv-loop μ-loop
-enum-told c = search needs
-
--- src/lists.rt:100:17
 same-length : tie.Need-same-length Inv-loop μ-loop
 same-length c =
     let at-note-record = c .before .before .before .before .before .before .before .before .before .before .before .before in
     let at-loop = at-note-record .before .before .before .before .before .before .before in
     at-note-record .note-record .kept .0 ∙ at-loop .loop .inv .1 .0 .degrees
 
--- src/lists.rt:100:17
 same-length-2 : tie.Need-same-length-2 Inv-loop μ-loop
 same-length-2 c =
     let at-note-record = c .before .before .before .before .before .before .before .before .before .before .before .before in
     let at-loop = at-note-record .before .before .before .before .before .before .before in
     at-note-record .note-record .kept .1 .0 ∙ at-loop .loop .inv .1 .0 .sides
 
--- src/lists.rt:100:17
 same-length-3 : tie.Need-same-length-3 Inv-loop μ-loop
 same-length-3 c =
     let at-note-record = c .before .before .before .before .before .before .before .before .before .before .before .before in
     let at-loop = at-note-record .before .before .before .before .before .before .before in
     at-note-record .note-record .kept .1 .1 .0 ∙ at-loop .loop .inv .1 .0 .ends
 
--- src/lists.rt:100:17
 same-length-4 : tie.Need-same-length-4 Inv-loop μ-loop
 same-length-4 c =
     let at-note-record = c .before .before .before .before .before .before .before .before .before .before .before .before in
     let at-loop = at-note-record .before .before .before .before .before .before .before in
     at-note-record .note-record .kept .1 .1 .1 .0 ∙ at-loop .loop .inv .1 .0 .lengths
 
--- src/lists.rt:100:17
 same-length-5 : tie.Need-same-length-5 Inv-loop μ-loop
 same-length-5 c =
     let at-note-record = c .before .before .before .before .before .before .before .before .before .before .before .before in
     let at-loop = at-note-record .before .before .before .before .before .before .before in
     at-note-record .note-record .kept .1 .1 .1 .1 .0 ∙ at-loop .loop .inv .1 .0 .volumes
 
--- src/lists.rt:100:17
 returns : tie.Need-returns Inv-loop μ-loop
 returns c =
     let at-note-record = c .before .before .before .before .before .before .before .before .before .before .before .before in
@@ -89,50 +66,36 @@ returns c =
     let at-loop = at-loop-test .before in
     records-end _ _ _ _ _ _ _ _ _ _ (at-loop-test .loop-test .taken) (ap (steppedIn _) (ap asStep (sym (c .enum-told .given .1))) ∙ at-note-record .note-record .ensures) ∙ at-loop .loop .inv .1 .1
 
--- src/lists.rt:102:26
-enum-known-step : tie.Need-enum-known-step Inv-loop μ-loop
-enum-known-step c = search needs
-
--- src/lists.rt:107:27
-enum-known-step-2 : tie.Need-enum-known-step-2 Inv-loop μ-loop
-enum-known-step-2 c = search needs
-
--- src/lists.rt:108:17
 same-length-6 : tie.Need-same-length-6 Inv-loop μ-loop
 same-length-6 c =
     let at-note-record = c .before .before .before .before .before .before .before .before .before .before .before .before .before in
     let at-loop = at-note-record .before .before .before .before .before .before .before in
     at-note-record .note-record .kept .0 ∙ at-loop .loop .inv .1 .0 .degrees
 
--- src/lists.rt:108:17
 same-length-7 : tie.Need-same-length-7 Inv-loop μ-loop
 same-length-7 c =
     let at-note-record = c .before .before .before .before .before .before .before .before .before .before .before .before .before in
     let at-loop = at-note-record .before .before .before .before .before .before .before in
     at-note-record .note-record .kept .1 .0 ∙ at-loop .loop .inv .1 .0 .sides
 
--- src/lists.rt:108:17
 same-length-8 : tie.Need-same-length-8 Inv-loop μ-loop
 same-length-8 c =
     let at-note-record = c .before .before .before .before .before .before .before .before .before .before .before .before .before in
     let at-loop = at-note-record .before .before .before .before .before .before .before in
     at-note-record .note-record .kept .1 .1 .0 ∙ at-loop .loop .inv .1 .0 .ends
 
--- src/lists.rt:108:17
 same-length-9 : tie.Need-same-length-9 Inv-loop μ-loop
 same-length-9 c =
     let at-note-record = c .before .before .before .before .before .before .before .before .before .before .before .before .before in
     let at-loop = at-note-record .before .before .before .before .before .before .before in
     at-note-record .note-record .kept .1 .1 .1 .0 ∙ at-loop .loop .inv .1 .0 .lengths
 
--- src/lists.rt:108:17
 same-length-10 : tie.Need-same-length-10 Inv-loop μ-loop
 same-length-10 c =
     let at-note-record = c .before .before .before .before .before .before .before .before .before .before .before .before .before in
     let at-loop = at-note-record .before .before .before .before .before .before .before in
     at-note-record .note-record .kept .1 .1 .1 .1 .0 ∙ at-loop .loop .inv .1 .0 .volumes
 
--- src/lists.rt:108:17
 returns-2 : tie.Need-returns-2 Inv-loop μ-loop
 returns-2 c =
     let at-note-record = c .before .before .before .before .before .before .before .before .before .before .before .before .before in
@@ -140,26 +103,22 @@ returns-2 c =
     let at-loop = at-loop-test .before in
     records-stop _ _ _ _ _ _ _ _ _ _ _ (at-loop-test .loop-test .taken) (ap (steppedIn _) (ap asStep (sym (c .before .step2 .given .1))) ∙ at-note-record .note-record .ensures) ∙ at-loop .loop .inv .1 .1
 
--- src/lists.rt:111:9
 add-number : tie.Need-add-number Inv-loop μ-loop
 add-number c =
     let at-loop-test = c .before .before .before .before .before .before .before .before .before .before .before .before .before .before .before .before .before .before .before in
     let at-loop = at-loop-test .before in
     omega (arith, at-loop .loop .inv .0, at-loop-test .loop-test .taken)
 
--- src/lists.rt:112:9
 sub-left : tie.Need-sub-left Inv-loop μ-loop
 sub-left c =
     let at-loop-test = c .before .before .before .before .before .before .before .before .before .before .before .before .before .before .before .before .before .before .before in
     omega (arith, at-loop-test .loop-test .taken)
 
--- src/lists.rt:86:5
 loop-less : tie.Need-loop-less Inv-loop μ-loop
 loop-less c =
     let at-loop-test = c .before .before .before .before .before .before .before .before .before .before .before .before .before .before .before .before .before .before .before in
     omega (arith, at-loop-test .loop-test .taken)
 
--- src/lists.rt:86:5
 loop-again : tie.Need-loop-again Inv-loop μ-loop
 loop-again c =
     let at-note-record = c .before .before .before .before .before .before .before .before .before .before .before .before .before in
@@ -181,48 +140,43 @@ loop-again c =
       ),
     )
 
--- src/lists.rt:67:1
 same-length-11 : tie.Need-same-length-11 Inv-loop μ-loop
 same-length-11 c = c .before .loop .inv .1 .0 .degrees
 
--- src/lists.rt:67:1
 same-length-12 : tie.Need-same-length-12 Inv-loop μ-loop
 same-length-12 c = c .before .loop .inv .1 .0 .sides
 
--- src/lists.rt:67:1
 same-length-13 : tie.Need-same-length-13 Inv-loop μ-loop
 same-length-13 c = c .before .loop .inv .1 .0 .ends
 
--- src/lists.rt:67:1
 same-length-14 : tie.Need-same-length-14 Inv-loop μ-loop
 same-length-14 c = c .before .loop .inv .1 .0 .lengths
 
--- src/lists.rt:67:1
 same-length-15 : tie.Need-same-length-15 Inv-loop μ-loop
 same-length-15 c = c .before .loop .inv .1 .0 .volumes
 
--- src/lists.rt:67:1
 returns-3 : tie.Need-returns-3 Inv-loop μ-loop
 returns-3 c = records-none _ _ _ _ _ _ _ _ _ (c .loop-test .left) ∙ c .before .loop .inv .1 .1
 
+-- the needs in the order of the code
 pub note-records-spec : {M : Type 1} → statement M
 note-records-spec =
     tie.close
     (tie.spec
     Inv-loop
     μ-loop
-    none-requires
+    (λ c κs. search needs)
     loop-holds
-    note-record-requires
-    enum-told
+    (λ c κs. search needs)
+    (λ c. search needs)
     same-length
     same-length-2
     same-length-3
     same-length-4
     same-length-5
     returns
-    enum-known-step
-    enum-known-step-2
+    (λ c. search needs)
+    (λ c. search needs)
     same-length-6
     same-length-7
     same-length-8
