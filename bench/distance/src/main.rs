@@ -113,7 +113,7 @@ fn timed(column: usize, house: &House, list: &[u8], graphs: &[Boost; 2], &(from,
     time
 }
 
-/// The means over random pairs of the least of all rounds: growing, the call, and Boost's searches to the goal, over the whole graph, and
+/// The means over random pairs of the least of all rounds: landing, the call, and Boost's searches to the goal, over the whole graph, and
 /// with the graph built in the call.
 fn measure(house: &House, rounds: usize, random: &mut Random) -> [f64; COLUMNS] {
     let list = list_of(house);
@@ -137,14 +137,14 @@ fn measure(house: &House, rounds: usize, random: &mut Random) -> [f64; COLUMNS] 
 fn main() {
     let rounds = std::env::args().nth(1).map_or(20, |word| word.parse().expect("a number of rounds"));
     let mut random = Random(0x9E37_79B9_7F4A_7C15);
-    println!("{:24} {:>14} {:>26} {:>16} {:>14} {:>6}", "", "grown before", "graph built before", "", "both", "");
+    println!("{:24} {:>14} {:>26} {:>16} {:>14} {:>6}", "", "landed before", "graph built before", "", "both", "");
     println!(
         "{:24} {:>7} {:>6} {:>8} {:>8} {:>8} {:>8} {:>7} {:>6} {:>6}",
         "house", "search", "ratio", "lists", "rows", "lists *", "rows *", "call", "boost", "ratio"
     );
     for house in houses(&mut random) {
-        let [grow, call, lists, rows, lists_whole, rows_whole, lists_built, rows_built] = measure(&house, rounds, &mut random);
-        let (search, boost, built) = (call - grow, lists.min(rows), lists_built.min(rows_built));
+        let [land, call, lists, rows, lists_whole, rows_whole, lists_built, rows_built] = measure(&house, rounds, &mut random);
+        let (search, boost, built) = (call - land, lists.min(rows), lists_built.min(rows_built));
         println!(
             "{:24} {search:>7.1} {:>6.2} {lists:>8.1} {rows:>8.1} {lists_whole:>8.1} {rows_whole:>8.1} {call:>7.1} {built:>6.1} {:>6.2}",
             house.name,

@@ -18,7 +18,6 @@ use Rattle.chains.specs.Chains.{Marked, WalkEnd, goesOnIn, markChainIn, markIn,
 use Rattle.chains.proofs.WalkLaws.{walkIn-on, walkIn-stop}
 use Rattle.chains.proofs.VolumeLaws.{volume-on, volume-stop}
 use Rattle.chains.proofs.NameLaws.{mark-on, mark-stop}
-use Rattle.chains.proofs.SheetLaws.{sheet-count}
 use Rattle.model.proofs.Walks.Degree.{is-two}
 use Rattle.model.proofs.Walks.Turn.{At}
 use Rattle.model.proofs.Registers.ReadBack.{first-read, second-read}
@@ -135,11 +134,3 @@ module _ (r : Register) (g : Reachable r) (sides : List ℕ)
       (λ home d l. rw (first-read r d l) (alike home (length es) d _ (at-first r g d l)))
       (λ home d l. rw (second-read r d l) (alike home (length es) d _ (at-second r g d l))) (length es) (replicate m 0) 0 (omega arith)
       ∙ sheet-agrees r g m h
-
-  -- and as many names are counted as it has rows
-  pub names-turn : (m : ℕ) → maxEdges ≤ m
-      → length (namesIn ((tablesOf r) .degrees) sides ((tablesOf r) .ends) ((countsOf r) .edges) (replicate m 0)) ≡ length (sheet r)
-  names-turn m h =
-      let t : Tables = tablesOf r in
-      sym (sheet-count (t .degrees) sides (t .ends) (t .lengths) (t .volumes) ((countsOf r) .edges) (replicate m 0))
-      ∙ ap (λ (rows : List (List ℕ)). length rows) (sheet-turns m h)

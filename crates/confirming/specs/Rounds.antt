@@ -1,4 +1,4 @@
--- What the first confirming round does.
+-- What the first round over all edges does, behind the search.
 use mathlib.Core.Path.{_≡_}
 use Prim.Native.Nat.{ℕ}
 use mathlib.Core.List.{List}

@@ -1,4 +1,4 @@
-// For the tests alone: the search, and the first of the rounds that confirm it. That one round is enough is not proved, since the answer
+// For the tests alone: the search, and a round behind it that lowers what it can. That it finds nothing to lower is not proved, since the answer
 // does not rest on it; tests/confirming shows it on full-size houses.
 use search::dijkstra::dijkstra;
 use search::relax::relax_all;
@@ -10,7 +10,7 @@ ghost use Rattle.model.specs.Basics.{maxVertices};
 ghost use Rattle.search.specs.Search.{Searchable};
 ghost use Rattle.confirming.specs.Rounds.{FirstRound};
 
-// How many distances the first confirming round lowers. With 0 the search had settled them.
+// How many distances the first round over all edges lowers. With 0 the search had settled them, and the round that confirms is the only one.
 #[no_mangle]
 pub extern "C" fn confirming_changes(
     ends: &[u16],

@@ -1,6 +1,6 @@
 -- A list is landed on a register, and on tables by whatever an edge does there. If the tables follow the register at every record, they follow
 -- it to the end of the list, which stops at the same record for the same refusal.
-use mathlib.Core.Path.{_≡_, refl, sym, _∙_, subst}
+use mathlib.Core.Path.{_≡_, refl, sym, _∙_}
 use Prim.Native.Nat.{ℕ, zero, suc, _+_}
 use mathlib.Core.Bool.{Bool, true, false, not}
 use mathlib.Core.List.{List, [], _∷_}
@@ -15,7 +15,7 @@ use Rattle.model.specs.Format.{Read, Record, bad, edge, edgeBody, firstRecord, 
 use Rattle.model.specs.Tables.{Counts, Tables}
 use Rattle.model.specs.Notions.{Reachable, with-edge, with-vertex}
 use Rattle.list.specs.Reading.{Place, badRecord, edgeTo, ends, headerAt, place, recordAt, recordOf, vertexTo}
-use Rattle.insertion.specs.Insertion.{AnswerIn, LandingIn, done, landVertexIn, refusedIn}
+use Rattle.insertion.specs.Insertion.{AnswerIn, done, landVertexIn, refusedIn}
 use Rattle.landing.specs.Records.{EdgeLanding, ReadingIn, landListBy, landRecordBy, landRecordsBy}
 use Rattle.model.proofs.Registers.Accepted.{within-lands}
 

@@ -10,7 +10,6 @@ use lib.Dec.{ltb}
 use Rattle.model.specs.Graph.{Edge}
 use Rattle.model.specs.Format.{whole, stopped}
 use Rattle.model.specs.Tables.{Tables, Counts}
-use Rattle.counters.specs.Answers.{counts}
 use Rattle.insertion.specs.Insertion.{AnswerIn, landingIn, landVertexIn}
 use Rattle.list.specs.Reading.{Place, good, badHeader, RecordAt, ends, vertexTo, edgeTo, badRecord, headerAt, recordAt}
 use Rattle.landing.specs.Records.{EdgeLanding, StepIn, ended, wentOn, stoppedIn, SteppedIn, steppedIn, stepOf, landRecordBy, ReadingIn, readingIn, landRecordsBy, landListBy}

@@ -1,5 +1,5 @@
-// The calls from C that need tags. Those of this file grow the list in arrays of their own, ask the register, and answer in the lent slice, and
-// nothing is kept between calls; `recipes` has the two on a valve's window, and `windows` the one that plans a change, which take no list.
+// Find from C, by tag and by fitting. The calls of this file grow the list in arrays of their own, ask the register, and answer in the lent slice,
+// and nothing is kept between calls; `recipes` has the two on a valve's window, and `windows` the one that plans a change, which take no list.
 // The sheet and the distance stand in `survey`, the quote in `costs`, each in an object of its own. include/pnl.h says the same in C.
 pub mod answers;
 mod checked;

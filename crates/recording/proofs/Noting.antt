@@ -1,6 +1,6 @@
 -- The sides that recording leaves: a leaf's edge on its low side, the two edges of a regular vertex in the order of landing. They turn at
 -- regular vertices as the edges do; what stands at other vertices is never asked.
-use mathlib.Core.Path.{_≡_, refl, sym, _∙_}
+use mathlib.Core.Path.{_≡_, sym, _∙_}
 use mathlib.Core.Logic.{_≢_}
 use Prim.Native.Nat.{ℕ, _+_, _*_, _≤_, _<_}
 use native.Mathlib.Omega.{arith}

@@ -1,16 +1,16 @@
 -- A list that is recorded stops where the list stops that is landed, for the same refusal, and leaves the same degrees, ends, lengths and
 -- volumes, and sides that turn as the edges do. So the sheet and every distance are those of the register.
 use mathlib.Core.Path.{_≡_, refl, sym, ap, _∙_}
-use Prim.Native.Nat.{ℕ, _*_, _<_, _≤_}
+use Prim.Native.Nat.{ℕ, _*_, _<_}
 use native.Mathlib.Omega.{arith}
 use mathlib.Core.Bool.{Bool, true, false}
-use mathlib.Core.List.{List, [], _∷_, _++_}
+use mathlib.Core.List.{List, []}
 use mathlib.Core.Option.{Option, none, some}
 use lib.ListN.{length, getD}
 use lib.Dec.{leb}
 use borrow.Author.Tests.{leb-false}
-use Rattle.model.specs.Basics.{if_then_else_, maxEdges, maxVertices}
-use Rattle.model.specs.Graph.{Edge, degree, endsAt, same, turn}
+use Rattle.model.specs.Basics.{maxEdges, maxVertices}
+use Rattle.model.specs.Graph.{Edge, degree, endsAt, turn}
 use Rattle.model.specs.Register.{Register, edgeRefusal, empty, landEdgeWithin, landVertex, landed, refused, withEdge, withVertex}
 use Rattle.model.specs.Format.{growList}
 use Rattle.model.specs.Tables.{Counts, Tables, cleared, countsOf, noCounts, tablesOf}
@@ -28,11 +28,11 @@ use Rattle.insertion.specs.Insertion.{done, landVertexIn, refusedIn}
 use Rattle.agreement.proofs.Landing.{check-agrees, checkedAs, edges-new, ends-new, lengths-new, volumes-new}
 use Rattle.agreement.proofs.Registers.{few, proper, room}
 use Rattle.agreement.proofs.Tables.{degrees-are, degrees-long, degrees-read, length-raised, raised}
-use Rattle.landing.specs.Records.{ReadingIn, landListBy}
+use Rattle.landing.specs.Records.{landListBy}
 use Rattle.landing.proofs.Following.{Follows, Together, list-follows}
 use Rattle.landing.proofs.Growing.{empty-tables}
 use Rattle.landing.proofs.ListAgrees.{with-vertex-tables}
-use Rattle.recording.specs.Unlabelled.{noteEdgeIn, recordChecked, recordIn}
+use Rattle.recording.specs.Unlabelled.{noteEdgeIn, unlabelledChecked, unlabelledIn}
 use Rattle.recording.proofs.Noting.{Noted, both-long, both-noted, noted-turns}
 
 -- what recording leaves of a register: all but labels, births and relabellings
@@ -127,12 +127,12 @@ module _ (r : Register) (rings : Bool) (t : Tables) (c : Counts) (e : Edge) (g :
         edges-same = rw (s .edges-same) (edges-new r e (a .room));
       }
 
-  edge-follows : Follows Recorded r rings c (landEdgeWithin maxEdges r e) ((recordIn t c maxEdges rings e) .tables) ((recordIn t c maxEdges rings e) .answer)
-  unfolding recordIn noteEdgeIn
+  edge-follows : Follows Recorded r rings c (landEdgeWithin maxEdges r e) ((unlabelledIn t c maxEdges rings e) .tables) ((unlabelledIn t c maxEdges rings e) .answer)
+  unfolding unlabelledIn noteEdgeIn
   edge-follows = rw (land-edge-by maxEdges r e, check-same r rings t c maxEdges e g s) (go (edgeRefusal maxEdges r e) refl)
     where
       go : (o : Option ℕ) → edgeRefusal maxEdges r e ≡ o
-          → let l = recordChecked t c rings (checkedAs e o) in Follows Recorded r rings c (unlessRefused r e o) (l .tables) (l .answer)
+          → let l = unlabelledChecked t c rings (checkedAs e o) in Follows Recorded r rings c (unlessRefused r e o) (l .tables) (l .answer)
       go (some x) q = (refl, s)
       go none q = record { counts = counts (c .vertices) (more16 (c .edges)) (c .blocks) (c .relabellings); rings = rings; answers = refl; shows = noted-edge q }
 
@@ -157,6 +157,6 @@ none-recorded =
     }
 
 -- a list recorded on cleared tables stops as growing from it does, and leaves all of its register but what labels are
-pub list-recorded : (bs : List ℕ) → Together Recorded (landListBy recordIn (unlabelled cleared) noCounts maxEdges bs) (growList bs)
+pub list-recorded : (bs : List ℕ) → Together Recorded (landListBy unlabelledIn (unlabelled cleared) noCounts maxEdges bs) (growList bs)
 unfolding growList noCounts
-list-recorded bs = list-follows Recorded recordIn maxEdges vertex-follows edge-follows empty (unlabelled cleared) noCounts bs reachable-empty none-recorded
+list-recorded bs = list-follows Recorded unlabelledIn maxEdges vertex-follows edge-follows empty (unlabelled cleared) noCounts bs reachable-empty none-recorded

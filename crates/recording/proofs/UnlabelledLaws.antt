@@ -11,7 +11,7 @@ use Rattle.tables.specs.Meaning.{tables}
 use Rattle.tables.specs.Steps.{setPair, more16, raiseBothIn}
 use Rattle.checking.specs.Checks.{passed, failed, checkIn}
 use Rattle.insertion.specs.Insertion.{AnswerIn, landingIn, done, refusedIn}
-use Rattle.recording.specs.Unlabelled.{noteBothIn, noteEdgeIn, recordIn}
+use Rattle.recording.specs.Unlabelled.{noteBothIn, noteEdgeIn, unlabelledIn}
 
 -- the edge written down, its ends raised and noted
 pub note-done : (d s e l v d′ s′ e′ l′ v′ : List ℕ) (n m m′ k o a b len vol : ℕ) (rings : Bool)
@@ -25,10 +25,10 @@ note-done d s e l v d′ s′ e′ l′ v′ n m m′ k o a b len vol rings p q 
 module _ (t : Tables) (c : Counts) (limit : ℕ) (rings : Bool) (e : Edge) where
   -- an edge that passes is written down; one that fails leaves the tables
   pub record-passed : (t′ : Tables) (x : AnswerIn) (a b n v : ℕ) → passed a b n v ≡ checkIn c limit e
-      → landingIn t′ x ≡ noteEdgeIn t c rings (record { first = a; second = b; len = n; volume = v }) → landingIn t′ x ≡ recordIn t c limit rings e
-  unfolding recordIn
+      → landingIn t′ x ≡ noteEdgeIn t c rings (record { first = a; second = b; len = n; volume = v }) → landingIn t′ x ≡ unlabelledIn t c limit rings e
+  unfolding unlabelledIn
   record-passed t′ x a b n v p q = rw (← p) q
 
-  pub record-failed : (x : ℕ) → failed x ≡ checkIn c limit e → landingIn t (refusedIn x) ≡ recordIn t c limit rings e
-  unfolding recordIn
+  pub record-failed : (x : ℕ) → failed x ≡ checkIn c limit e → landingIn t (refusedIn x) ≡ unlabelledIn t c limit rings e
+  unfolding unlabelledIn
   record-failed x p = rw (← p)

@@ -34,10 +34,10 @@ noteEdgeIn t c rings e =
     (done (counts (c .vertices) (more16 new) (c .blocks) (c .relabellings)) rings)
 
 -- what recording comes to, once the edge was checked; a refused edge leaves the tables
-abbrev pub recordChecked : Tables → Counts → Bool → CheckIn → LandingIn
-recordChecked t c rings (passed a b n v) = noteEdgeIn t c rings (record { first = a; second = b; len = n; volume = v })
-recordChecked t c rings (failed x) = landingIn t (refusedIn x)
+abbrev pub unlabelledChecked : Tables → Counts → Bool → CheckIn → LandingIn
+unlabelledChecked t c rings (passed a b n v) = noteEdgeIn t c rings (record { first = a; second = b; len = n; volume = v })
+unlabelledChecked t c rings (failed x) = landingIn t (refusedIn x)
 
 -- every refusal in its order, and then the edge
-unfoldable pub recordIn : Tables → Counts → ℕ → Bool → Edge → LandingIn
-recordIn t c limit rings e = recordChecked t c rings (checkIn c limit e)
+unfoldable pub unlabelledIn : Tables → Counts → ℕ → Bool → Edge → LandingIn
+unlabelledIn t c limit rings e = unlabelledChecked t c rings (checkIn c limit e)

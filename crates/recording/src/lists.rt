@@ -22,7 +22,7 @@ ghost use Rattle.tables.specs.Meaning.{tables};
 ghost use Rattle.list.specs.Reading.{asPlace, recordAt};
 ghost use Rattle.landing.specs.Records.{steppedIn, landRecordBy, landRecordsBy, landListBy};
 ghost use Rattle.landing.specs.Meaning.{asStep, asReading};
-ghost use Rattle.recording.specs.Unlabelled.{recordIn};
+ghost use Rattle.recording.specs.Unlabelled.{unlabelledIn};
 
 fn note_record(
     degrees: &mut [u16],
@@ -36,7 +36,7 @@ fn note_record(
     rings: bool,
 ) -> Step
     ensures { λ r. ⌜ steppedIn (tables (now (degrees .exit)) (now (sides .exit)) (now (ends .exit)) (now (lengths .exit)) (now (volumes .exit)) []) (asStep r)
-        ≡ landRecordBy recordIn (tables (now (degrees .entry)) (now (sides .entry)) (now (ends .entry)) (now (lengths .entry)) (now (volumes .entry)) [])
+        ≡ landRecordBy unlabelledIn (tables (now (degrees .entry)) (now (sides .entry)) (now (ends .entry)) (now (lengths .entry)) (now (volumes .entry)) [])
         (asCounts counts) maxEdges rings (recordAt (now (list .entry)) (asPlace at)) ⌝ }
 {
     let found = record_at(list, at);
@@ -74,7 +74,7 @@ fn note_records(
     from: Cursor,
 ) -> Reading
     ensures { λ r. ⌜ asReading (tables (now (degrees .exit)) (now (sides .exit)) (now (ends .exit)) (now (lengths .exit)) (now (volumes .exit)) []) r
-        ≡ landRecordsBy recordIn (now (list .entry)) (length (now (list .entry))) 0
+        ≡ landRecordsBy unlabelledIn (now (list .entry)) (length (now (list .entry))) 0
         (tables (now (degrees .entry)) (now (sides .entry)) (now (ends .entry)) (now (lengths .entry)) (now (volumes .entry)) [])
         noCounts maxEdges false (asPlace from) ⌝ }
 {
@@ -127,7 +127,7 @@ pub fn record_list(
     list: &[u8],
 ) -> Reading
     ensures { λ r. ⌜ asReading (tables (now (degrees .exit)) (now (sides .exit)) (now (ends .exit)) (now (lengths .exit)) (now (volumes .exit)) []) r
-        ≡ landListBy recordIn (tables (now (degrees .entry)) (now (sides .entry)) (now (ends .entry)) (now (lengths .entry)) (now (volumes .entry)) [])
+        ≡ landListBy unlabelledIn (tables (now (degrees .entry)) (now (sides .entry)) (now (ends .entry)) (now (lengths .entry)) (now (volumes .entry)) [])
         noCounts maxEdges (now (list .entry)) ⌝ }
 {
     let header = read_header(list);

@@ -22,10 +22,10 @@ ghost use Rattle.tables.specs.Meaning.{tables};
 ghost use Rattle.tables.specs.Steps.{raiseBothIn};
 ghost use Rattle.insertion.specs.Insertion.{landingIn};
 ghost use Rattle.insertion.specs.Meaning.{asAnswer};
-ghost use Rattle.recording.specs.Unlabelled.{placeFor, noteIn, noteBothIn, noteEdgeIn, recordIn};
+ghost use Rattle.recording.specs.Unlabelled.{placeFor, noteIn, noteBothIn, noteEdgeIn, unlabelledIn};
 
-// Where the next edge stands at a vertex of this degree: the first one on the low side, any other on the high side. It is a number and no
-// branch, since which one it is cannot be foreseen.
+// Where the next edge stands at a vertex of this degree: the first one on the low side, any other on the high side. As an index it needs no
+// branch in the compiled code, where a branch could not be foreseen.
 fn place_for(degree: u16) -> usize
     ensures { λ r. ⌜ (r ≡ placeFor degree) × (r ≤ 1) ⌝ }
 {
@@ -101,7 +101,7 @@ pub fn land_unlabelled(
 ) -> Inserted
     ensures { λ r. ⌜ landingIn
         (tables (now (degrees .exit)) (now (sides .exit)) (now (ends .exit)) (now (lengths .exit)) (now (volumes .exit)) []) (asAnswer r)
-        ≡ recordIn
+        ≡ unlabelledIn
         (tables (now (degrees .entry)) (now (sides .entry)) (now (ends .entry)) (now (lengths .entry)) (now (volumes .entry)) [])
         (asCounts counts) maxEdges rings (record { first = first; second = second; len = length; volume = volume }) ⌝ }
 {

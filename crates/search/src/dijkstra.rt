@@ -1,5 +1,6 @@
-// Dijkstra's order over the chains, as a hint: the vertices with the least distances come first; but for the goal, neither leaves nor
-// regular vertices are queued. What is proved is that the distances stay grounded, which they do in every order.
+// Dijkstra's order over the chains, as a hint: the vertices with the least distances come first. But for the goal, and for what is queued
+// again once the long edges are linked, neither leaves nor regular vertices are queued. What is proved is that the distances stay grounded,
+// which they do in every order.
 use crate::following::follow_both;
 use crate::heap::pop;
 use crate::heap::push;

@@ -67,7 +67,7 @@ fn link_all(ends: &[u16], heads: &mut [u16], next: &mut [u16], edges: u16)
     }
 }
 
-// The same for one edge, where its length is from low on and below the limit.
+// Links edge e, where its length is from low on and below the limit.
 fn link_if(
     ends: &[u16],
     lengths: &[u32],

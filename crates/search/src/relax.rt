@@ -24,8 +24,7 @@ fn greater(a: u32, b: u32) -> u32
 }
 
 // Tries edge e: one of its ends may get a lesser distance from the other, where that is below best. The answer is the vertex whose
-// distance is less now. An edge as long as best lowers nothing below it; for the others one test decides, which a confirming round
-// never mispredicts.
+// distance is less now. An edge as long as best lowers nothing below it; for the others one test decides.
 fn relax(ends: &[u16], lengths: &[u32], distances: &mut [u32], e: u16, best: u32) -> u16
     requires { ⌜ Within (now ends) (now lengths) (now distances) e ⌝ }
     ensures { λ r. ⌜ Relaxed (now (ends .entry)) (now (lengths .entry)) (now (distances .entry)) (now (distances .exit)) best e r ⌝ }
@@ -110,6 +109,7 @@ fn all_still(ends: &[u16], lengths: &[u32], distances: &[u32], edges: u16, best:
 
 // Rounds until nothing changes: then no edge lowers a distance below that of vertex from. After a search in the right order this is one
 // round, which finds nothing to do. After any other it is more rounds and the same answer: that is why the order needs no proof.
+// A round that lowers follows only where one may, so it always changes something; the test of that shows that the loop ends.
 pub fn settle(ends: &[u16], lengths: &[u32], distances: &mut [u32], edges: u16, from: u16)
     requires { ⌜ Bounded (now ends) (now lengths) edges (now distances) ⌝ }
     ensures { λ _. ⌜ Settled (now (ends .entry)) (now (lengths .entry)) edges from (now (distances .entry)) (now (distances .exit)) ⌝ }

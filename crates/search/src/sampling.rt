@@ -82,7 +82,7 @@ fn sampled_below(lengths: &[u32], edges: u16, step: u16, limit: u32) -> u16
     count
 }
 
-// A part of the mean length, or no limit where hardly an edge is below it.
+// A part of the mean length, or of up to twice that, since up to twice SAMPLES edges are looked at; no limit where hardly an edge is below it.
 fn limit_at(lengths: &[u32], edges: u16, step: u16, ratio: u16) -> u32
     requires { ⌜ (0 < step) × (0 < ratio) ⌝ }
 {

@@ -23,11 +23,20 @@ use Rattle.landing.proofs.Following.{Together}
 use Rattle.questions.specs.Measure.{Measurable, measureIn}
 use Rattle.questions.proofs.Measuring.{measure-agrees}
 use Rattle.questions.proofs.Searchable.{measurable}
-use Rattle.recording.specs.Unlabelled.{recordIn}
+use Rattle.recording.specs.Unlabelled.{unlabelledIn}
 use Rattle.recording.proofs.Recorded.{Recorded, list-recorded, recorded-turns, unlabelled}
 use Rattle.survey.specs.Surveys.{asSurvey, surveyIn}
 use Rattle.survey.specs.declared.recorded.Survey.{Survey}
 use Rattle.survey.specs.declared.recorded.Survey.the-variants.{Sheet, Distance}
+
+-- a distance, or 5, is returned alike in every register
+same-return : (s r : Register) (slice : List ℕ) (v w : ℕ) → returnsReply s slice (measure r v w) ≡ returnsReply r slice (measure r v w)
+unfolding measure returnsReply
+same-return s r slice v w = go (not (ltb v (r .vertices) && ltb w (r .vertices)))
+  where
+    go : (b : Bool) → let a = if b then refuses 5 else measured (distance (r .edges) v w) in returnsReply s slice a ≡ returnsReply r slice a
+    go true = refl
+    go false = refl
 
 -- ---- over what was recorded of a register
 
@@ -47,23 +56,14 @@ module _ (r : Register) (rings : Bool) (t : Tables) (c : Counts) (g : Reachable 
   unfolding measureIn storedEdges storedEdge
   recorded-distance v w = rw (k .ends-same, k .lengths-same, k .volumes-same, k .edges-same, k .vertices-same) (measure-agrees r v w)
 
-  -- a distance, or 5, is returned alike in every register
-  alike : (s : Register) (slice : List ℕ) (v w : ℕ) → returnsReply s slice (measure r v w) ≡ returnsReply r slice (measure r v w)
-  unfolding measure returnsReply
-  alike s slice v w = go (not (ltb v (r .vertices) && ltb w (r .vertices)))
-    where
-      go : (b : Bool) → let a = if b then refuses 5 else measured (distance (r .edges) v w) in returnsReply s slice a ≡ returnsReply r slice a
-      go true = refl
-      go false = refl
-
   recorded-answers : (survey : Survey) (slice : List ℕ) → surveyIn survey t c slice ≡ returnsReply r slice (asSurvey survey r)
   unfolding returnsReply sheetNumbers
   recorded-answers Sheet slice = ap (λ (rows : List (List ℕ)). returnsNumbers slice (concat rows)) recorded-sheet
-  recorded-answers (Distance v w) slice = ap (returnsReply empty slice) (recorded-distance v w) ∙ alike empty slice v w
+  recorded-answers (Distance v w) slice = ap (returnsReply empty slice) (recorded-distance v w) ∙ same-return empty r slice v w
 
 -- ---- what the recording of a list says of it
 
-module _ (bs : List ℕ) (t : Tables) (c : Counts) (s : Stop) (e : readingIn t c s ≡ landListBy recordIn (unlabelled cleared) noCounts maxEdges bs) where
+module _ (bs : List ℕ) (t : Tables) (c : Counts) (s : Stop) (e : readingIn t c s ≡ landListBy unlabelledIn (unlabelled cleared) noCounts maxEdges bs) where
   both : Together Recorded (readingIn t c s) (growList bs)
   both = subst (λ (d : ReadingIn). Together Recorded d (growList bs)) (sym e) (list-recorded bs)
 

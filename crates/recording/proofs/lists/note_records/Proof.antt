@@ -1,4 +1,4 @@
-use Rattle.recording.specs.Unlabelled.{recordIn}
+use Rattle.recording.specs.Unlabelled.{unlabelledIn}
 use Rattle.landing.proofs.RecordLaws.{records-none, records-end, records-stop, records-on}
 use Rattle.landing.specs.Meaning.{asStep}
 use Rattle.landing.specs.Records.{steppedIn, landRecordsBy}
@@ -20,8 +20,8 @@ use Rattle.recording.proofs.lists.note_records.Tie as tie
 abbrev Inv-loop : tie.InvT-loop
 Inv-loop degrees₀ sides₀ ends₀ lengths₀ volumes₀ list at₀ counts₀ rings₀ number₀ left₀ degrees sides ends lengths volumes at counts rings number left =
     (number + left < 18446744073709551616) × (SameLengths degrees₀ sides₀ ends₀ lengths₀ volumes₀ [] degrees sides ends lengths volumes []
-    × (landRecordsBy recordIn list left number (tables degrees sides ends lengths volumes []) (asCounts counts) maxEdges rings (asPlace at)
-    ≡ landRecordsBy recordIn list left₀ 0 (tables degrees₀ sides₀ ends₀ lengths₀ volumes₀ []) noCounts maxEdges false (asPlace at₀)))
+    × (landRecordsBy unlabelledIn list left number (tables degrees sides ends lengths volumes []) (asCounts counts) maxEdges rings (asPlace at)
+    ≡ landRecordsBy unlabelledIn list left₀ 0 (tables degrees₀ sides₀ ends₀ lengths₀ volumes₀ []) noCounts maxEdges false (asPlace at₀)))
 
 abbrev μ-loop : tie.MeasureT-loop
 μ-loop degrees₀ sides₀ ends₀ lengths₀ volumes₀ list at₀ counts₀ rings₀ number₀ left₀ degrees sides ends lengths volumes at counts rings number left = left
