@@ -16,14 +16,13 @@ use denote.Triple.Entry.{Args, Res}
 use denote.Triple.Clauses.{AtExit, ClausesAt, Ended}
 use Rattle.model.specs.Queries.{Reply}
 use Rattle.model.specs.Tables.{Tables}
-use Rattle.nursery.specs.Calls.{Call, HouseCall, commits, fetches, finds, findsAt, grows, inHouse, lands, measures, opens, quotes, removes, setsShares, sheets, step, writes}
+use Rattle.nursery.specs.Calls.{HouseCall, commits, fetches, finds, findsAt, grows, inHouse, lands, measures, opens, quotes, removes, setsShares, sheets, step, writes}
 use Rattle.counters.specs.Answers.{listReply}
 use Rattle.counters.specs.Quotes.{asQuote, commitReply, quoteReply}
 use Rattle.tables.specs.Meaning.{tables}
 use Rattle.heads.specs.declared.heads.Heads.{Heads}
 use Rattle.heads.specs.Meaning.{lent, outcome}
 use Rattle.questions.specs.Meaning.{foundReply, listedReply, measuredReply, writtenReply}
-use Rattle.opening.specs.declared.sheets.OpenSheet.{OpenSheet}
 use Rattle.opening.specs.Meaning.{asSheet, fetchedReply, openedReply}
 use Rattle.settling.specs.Meaning.{removedReply}
 use Rattle.sharing.specs.Meaning.{sharesReply}

@@ -1,11 +1,11 @@
 -- The terms of a quote, and a quote with what its commit does.
-use mathlib.Core.Path.{_≡_, ap, _∙_}
+use mathlib.Core.Path.{_≡_, ap}
 use mathlib.Core.Bool.{Bool, true, false}
 use mathlib.Core.List.{List}
 use Prim.Native.Nat.{ℕ}
 use Rattle.model.specs.Graph.{Edge}
 use Rattle.model.specs.Cases.{Case}
-use Rattle.model.specs.Register.{Quote, Terms, offers, caseNumber}
+use Rattle.model.specs.Register.{Terms, offers, caseNumber}
 use Rattle.model.specs.Tables.{Counts}
 use Rattle.counters.specs.declared.numbers.Millilitres.{Millilitres}
 use Rattle.counters.specs.declared.numbers.Millimetres.{Millimetres}

@@ -7,7 +7,7 @@ use native.Mathlib.Decide.{ℕ-discrete}
 use borrow.Author.Count.{below-none}
 use lib.ListN.{length, getD, set, length-set}
 use lib.Seq.{ext-getD, getD-set-same, getD-set-other}
-use Rattle.model.specs.Tables.{Tables, sizes}
+use Rattle.model.specs.Tables.{sizes}
 use Rattle.tables.specs.Meaning.{tables}
 
 -- of `ys₀` the first i elements became those of xs, the others are as they came

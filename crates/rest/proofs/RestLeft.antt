@@ -2,15 +2,14 @@
 use mathlib.Core.Path.{_≡_, refl, sym, ap, _∙_, subst}
 use Prim.Native.Nat.{ℕ, zero, suc, _+_, _-_, _≤_, _<_}
 use native.Mathlib.Omega.{arith}
-use native.Mathlib.Numerals.{add-one}
 use native.Mathlib.Nat.{not-suc-le-zero}
 use mathlib.Core.Bool.{Bool, false}
 use mathlib.Core.List.{List, [], _∷_, _++_, map}
 use lib.ListN.{length, take, drop}
 use Rattle.model.specs.Basics.{countFrom, maxEdges, maxVertices, upTo}
 use Rattle.model.specs.Graph.{Edge}
-use Rattle.model.specs.Register.{Landed, Register, empty, landEdge, landed, refused}
-use Rattle.model.specs.Tables.{Counts, Tables, cleared, countsOf, storedEdge, storedEdges, growFrom, landEdges, landVertices, tablesOf}
+use Rattle.model.specs.Register.{Register, empty, landEdge, landed}
+use Rattle.model.specs.Tables.{Tables, cleared, countsOf, storedEdge, storedEdges, growFrom, landEdges, tablesOf}
 use Rattle.model.specs.Notions.{Reachable, with-edge}
 use Rattle.model.proofs.Computing.{computing}
 use Rattle.model.proofs.Registers.Accepted.{landed-is}
@@ -20,7 +19,7 @@ use Rattle.model.proofs.Registers.OnlyHeld.{vertices-reach}
 use Rattle.model.proofs.Registers.ReadBack.{edges-read}
 use Rattle.model.proofs.Registers.Reachable.{founded, reachable-empty}
 use Rattle.nursery.specs.Removal.{without}
-use Rattle.nursery.proofs.Removal.{Rest, rest-lands}
+use Rattle.nursery.proofs.Removal.{rest-lands}
 use Rattle.counters.specs.Answers.{counts}
 use Rattle.tables.specs.Steps.{edgeOf}
 use Rattle.insertion.specs.Insertion.{LandingIn, done, landIn, landingIn}

@@ -1,6 +1,5 @@
 use Rattle.settling.proofs.SettleLaws.{settle-short, settle-done}
 use native.Mathlib.Omega.{arith}
-use mathlib.Core.Path.{sym}
 use borrow.Author.Needs.{needs}
 use Rattle.settling.proofs.settling.settle.Statement.{statement}
 use Rattle.settling.proofs.settling.settle.Tie as tie
