@@ -2,23 +2,30 @@
 use mathlib.Core.Path.{_≡_, sym, ap, _∙_}
 use Prim.Native.Nat.{ℕ}
 use mathlib.Core.List.{List}
+use mathlib.Core.Option.{some, Option·some-injective, Option·some-ne-none}
+use lib.ListN.{getD}
 use lib.IntN.{ℤ, pos, negℤ}
 use Rattle.model.specs.Basics.{maxEdges}
 use Rattle.model.specs.Register.{Register}
 use Rattle.model.specs.Format.{Stop, whole, stopped, growList}
 use Rattle.model.specs.FromC.{Returned, fromC, returnsRefusal, returnsReply}
-use Rattle.model.specs.Queries.{Reply, find}
+use Rattle.model.specs.Queries.{Reply, find, findAt}
 use Rattle.model.specs.Calls.{Answer, alone, answer, answers}
-use Rattle.model.specs.Tables.{Tables, Counts, cleared, noCounts, storedOf}
+use Rattle.model.specs.Tables.{Tables, Counts, cleared, noCounts, storedOf, tablesOf}
 use Rattle.model.specs.Notions.{HeldOf}
 use Rattle.model.proofs.Series.Landings.{reachable-grown}
+use Rattle.model.proofs.Registers.OnlyHeld.{held-tables}
 use Rattle.tables.specs.Meaning.{stored, tables}
+use Rattle.counters.specs.Numbers.{asLabel}
+use Rattle.counters.specs.declared.numbers.CheckedLabel.{CheckedLabel}
+use Rattle.counters.specs.declared.numbers.CheckedLabel.the-variants.{Is, OutOfRange}
 use Rattle.holders.specs.Finding.{findIn}
 use Rattle.landing.specs.Records.{ReadingIn, readingIn, landListIn}
 use Rattle.landing.proofs.ListAgrees.{shownRead}
 use Rattle.landing.proofs.Growing.{list-leaves}
 use Rattle.questions.proofs.AnswerLaws.{find-answers}
 use Rattle.pnl.specs.FromC.{returned}
+use Rattle.pnl.specs.Questions.{asked}
 
 -- ---- a list that stops, and one that is landed whole
 
@@ -57,3 +64,16 @@ module _ (d s e l u lb : List ℕ) (c : Counts) (r : Register) (h : HeldOf (stor
   find-question label a p q =
       let k = find-answers (tables d s e l u lb) c label a p (alone r) h in
       q ∙ ap (returnsReply r slice) (ap (λ (x : Answer). x .reply) (sym k))
+
+-- ---- the label that a question comes to
+
+-- one that is given
+pub asked-given : (x : CheckedLabel) (label : ℕ) (r : Register) → asLabel x ≡ some label → asked x r ≡ find r label
+asked-given (Is l) label r e = ap (find r) (Option·some-injective (l .0) label e)
+asked-given OutOfRange label r e = absurd (Option·some-ne-none label (sym e))
+
+-- that of a vertex
+pub asked-at : (d s e l u lb : List ℕ) (c : Counts) (r : Register) → HeldOf (stored (tables d s e l u lb) c) r → (v w label : ℕ) → w ≡ v → label ≡ getD lb w 0
+    → find r label ≡ findAt r v
+unfolding findAt tablesOf
+asked-at d s e l u lb c r h v w label p q = rw (q, p, ap (λ (t : Tables). t .labels) (held-tables h))

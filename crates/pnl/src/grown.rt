@@ -1,10 +1,13 @@
 // A list grown in arrays of its own, and the answer to a question about the register that it leaves.
 use crate::answers::answer_found;
 use crate::answers::refused;
-use crate::checked::find_at_checked;
-use crate::checked::find_checked;
+use crate::asked::Question;
+use crate::asked::label_asked;
+use crate::finding::find_from;
 use counters::answers::Stop;
 use counters::counts::Counts;
+use counters::numbers::CheckedLabel;
+use counters::refusals::Refusal;
 use counters::sizes::EDGES;
 use counters::sizes::ENDS;
 use counters::sizes::SIDES;
@@ -21,13 +24,8 @@ ghost use Rattle.tables.specs.Meaning.{stored, tables};
 ghost use Rattle.pnl.specs.Questions.{asQuestion};
 ghost use Rattle.pnl.specs.FromC.{returned};
 
-// What may be asked of the tags.
-pub enum Question {
-    Find(u32),
-    FindAt(u32),
-}
-
-// The tables are a register's, so there is no gate to pass.
+// The tables are a register's, so there is no gate to pass. Find is called from one place, by tag and by fitting: the compiler then makes it part
+// of the call, and the growing before it is the faster for it.
 fn answer_question(
     answer: &mut [u8],
     degrees: &[u16],
@@ -42,15 +40,24 @@ fn answer_question(
         → HeldOf (stored (tables (now (degrees .entry)) (now (sides .entry)) (now (ends .entry)) (now (lengths .entry)) volumes (now (labels .entry))) (asCounts counts)) register
         → returned (now (answer .exit)) r ≡ returnsReply register (now (answer .entry)) (asQuestion question register)) ⌝ }
 {
-    match question {
-        Question::Find(label) => {
-            let found = find_checked(degrees, sides, ends, lengths, labels, counts, label);
+    let asked = label_asked(labels, question);
+    match asked {
+        CheckedLabel::Is(label) => {
+            let vertices = counts.vertices;
+            let edges = counts.edges;
+            let found = find_from(
+                degrees,
+                sides,
+                ends,
+                lengths,
+                labels,
+                vertices,
+                edges,
+                label,
+            );
             answer_found(answer, found)
         }
-        Question::FindAt(vertex) => {
-            let found = find_at_checked(degrees, sides, ends, lengths, labels, counts, vertex);
-            answer_found(answer, found)
-        }
+        CheckedLabel::OutOfRange => refused(Refusal::NotRegular),
     }
 }
 

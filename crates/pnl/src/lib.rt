@@ -2,13 +2,13 @@
 // and nothing is kept between calls; `recipes` has the two on a valve's window, and `windows` the one that plans a change, which take no list.
 // The sheet and the distance stand in `survey`, the quote in `costs`, each in an object of its own. include/pnl.h says the same in C.
 pub mod answers;
-mod checked;
+pub mod asked;
 mod finding;
 pub mod grown;
 mod recipes;
 mod windows;
 
-use crate::grown::Question;
+use crate::asked::Question;
 use crate::grown::answer_call;
 ghost use mathlib.Core.Path.{_≡_};
 ghost use Rattle.model.specs.FromC.{cFind, cFindAt};
