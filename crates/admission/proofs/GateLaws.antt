@@ -9,7 +9,7 @@ use Rattle.model.specs.Register.{Register}
 use Rattle.model.specs.Queries.{Reply, refuses}
 use Rattle.model.specs.Tables.{Tables, Counts, fits, cleared, held}
 use Rattle.model.specs.Calls.{Ask, answer}
-use Rattle.nursery.specs.Calls.{HouseCall, asks, effect, sliceOf}
+use Rattle.nursery.specs.Calls.{HouseCall, asks, effect, ownSlice}
 use Rattle.admission.specs.Own.{Lent, allFit, bars, gate, houseOf, ownStep, registerFor, scratchAfter}
 use Rattle.model.proofs.Basics.Booleans.{not-both}
 use Rattle.model.specs.Notions.{HeldOf}
@@ -83,7 +83,7 @@ gate-bars c l q x h = go (allFit l) refl (held (l .stored)) refl
 
 -- .. so it is refused before its work, and leaves register and slice
 pub query-refused : (limit removals : ℕ) (c : HouseCall) (l : Lent) → registerFor c l ≡ held (l .stored) → (s : Tables) (x : ℕ) → some x ≡ barred l → s ≡ scratchAfter l
-    → outcome (l .stored .tables) (l .stored .counts) s (sliceOf c) (refuses x) ≡ ownStep limit removals c l
+    → outcome (l .stored .tables) (l .stored .counts) s (ownSlice c) (refuses x) ≡ ownStep limit removals c l
 unfolding ownStep
 query-refused limit removals c l q s x h e = rw (gate-bars c l q x h, ownStep, e)
 

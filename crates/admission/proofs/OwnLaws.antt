@@ -6,7 +6,7 @@ use mathlib.Core.Option.{some}
 use Rattle.model.specs.Register.{Register, empty}
 use Rattle.model.specs.Queries.{refuses}
 use Rattle.model.specs.Tables.{cleared, held, storedOf}
-use Rattle.nursery.specs.Calls.{HouseCall, asks, commits, effect, grows, lands, removes, sliceOf}
+use Rattle.nursery.specs.Calls.{HouseCall, asks, commits, effect, grows, lands, removes, ownSlice}
 use Rattle.admission.specs.Own.{Lent, Outcome, allFit, gate, houseOf, ownStep, registerFor, scratchAfter}
 
 -- what a call on a house leaves and answers
@@ -36,6 +36,6 @@ module _ (limit removals : ℕ) where
   step-fits (asks q) l r a h = step-admits (asks q) l r a h
 
   -- where they do not fit: 25, and nothing is written
-  pub step-refused : (c : HouseCall) (l : Lent) → allFit l ≡ false → ownStep limit removals c l ≡ record { lent = l; slice = sliceOf c; reply = refuses 25 }
+  pub step-refused : (c : HouseCall) (l : Lent) → allFit l ≡ false → ownStep limit removals c l ≡ record { lent = l; slice = ownSlice c; reply = refuses 25 }
   unfolding ownStep gate scratchAfter
   step-refused c l a = rw (a, ownStep, gate) (rw a)

@@ -9,7 +9,7 @@ use Rattle.model.specs.Register.{Register, empty}
 use Rattle.model.specs.Queries.{Reply, refuses}
 use Rattle.model.specs.Tables.{Tables, Stored, cleared, fits, held, storedOf}
 use Rattle.model.specs.Calls.{House}
-use Rattle.nursery.specs.Calls.{HouseCall, asks, commits, effect, grows, lands, removes, sliceOf}
+use Rattle.nursery.specs.Calls.{HouseCall, asks, commits, effect, grows, lands, removes, ownSlice}
 
 -- what is lent of one house, and the scratch
 pub record Lent : Type 0 where
@@ -66,7 +66,7 @@ ownStep limit removals c l =
       | bars n ↦
           record {
             lent = record { stored = l .stored; scratch = scratchAfter l };
-            slice = sliceOf c;
+            slice = ownSlice c;
             reply = refuses n;
           }
     ]

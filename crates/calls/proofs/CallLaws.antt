@@ -11,7 +11,7 @@ use Rattle.model.specs.Queries.{Reply, read, refuses}
 use Rattle.model.specs.Tables.{Tables, Counts, fits, cleared, noCounts, countsOf, tablesOf, storedOf}
 use Rattle.model.proofs.Basics.Booleans.{and-true}
 use Rattle.model.proofs.Registers.OnlyHeld.{held-counts, held-tables}
-use Rattle.nursery.specs.Calls.{Effect, HouseCall, commitEffect, commits, effect, grows, lands, readEffect, sliceOf}
+use Rattle.nursery.specs.Calls.{Effect, HouseCall, commitEffect, commits, effect, grows, lands, readEffect, ownSlice}
 use Rattle.insertion.specs.Insertion.{AnswerIn, LandingIn, done, landingIn, refusedIn}
 use Rattle.committing.specs.Committing.{commitIn}
 use Rattle.agreement.proofs.Standing.{warns-any}
@@ -41,7 +41,7 @@ module _ (limit removals : ℕ) (t : Tables) (c : Counts) (s : Tables) (bs : Lis
   -- tables or scratch of wrong sizes: a grow is refused with 25
   pub grow-refused : (t′ s′ : Tables) (r : Bool) → r ≡ (fits t && fits s) → t′ ≡ zeroedIf r t → s′ ≡ zeroedIf r s → r ≡ false
       → outcome t′ c s′ [] (refuses 25) ≡ ownStep limit removals (grows bs) (lent t c s)
-  unfolding allFit sliceOf
+  unfolding allFit ownSlice
   grow-refused t′ s′ r f a b e = rw (a, b, e) (sym (step-refused limit removals (grows bs) (lent t c s) (sym f ∙ e)))
 
   -- any other grow leaves what growing from the list leaves

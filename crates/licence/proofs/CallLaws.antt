@@ -11,7 +11,7 @@ use Rattle.model.specs.Calls.{Ask}
 use Rattle.tables.specs.Meaning.{tables}
 use Rattle.nursery.specs.Licence.{houses}
 use Rattle.nursery.specs.Nursery.{part, removalsIn, storedIn, tablesIn}
-use Rattle.nursery.specs.Calls.{HouseCall, asks, inHouse, sliceOf, step}
+use Rattle.nursery.specs.Calls.{HouseCall, asks, inHouse, ownSlice, step}
 use Rattle.admission.specs.Own.{ownStep}
 use Rattle.admission.specs.Lent as own
 use Rattle.heads.specs.declared.heads.Heads.{Heads}
@@ -63,9 +63,9 @@ module _ (h : ℕ) (degrees sides ends lengths volumes labels : List ℕ) where
 module _ (t : Tables) (heads : Heads) (ss : List ℕ) (s s′ : Tables) (house : ℕ) where
   -- barred before its house is looked at
   pub barred-call : (g : Bool) (c : HouseCall) (x : ℕ) → isGrow c ≡ g → barsWith x ≡ passOthers house g (lent t heads ss s) → s′ ≡ scratchPassed (lent t heads ss s)
-      → outcome t heads ss s′ (sliceOf c) (refuses x) ≡ step (inHouse house c) (lent t heads ss s)
+      → outcome t heads ss s′ (ownSlice c) (refuses x) ≡ step (inHouse house c) (lent t heads ss s)
   barred-call g c x k e z =
-      ap (λ (u : Tables). outcome t heads ss u (sliceOf c) (refuses x)) z
+      ap (λ (u : Tables). outcome t heads ss u (ownSlice c) (refuses x)) z
       ∙ refused-step house c (lent t heads ss s) x (ap (λ (b : Bool). passOthers house b (lent t heads ss s)) k ∙ sym e)
 
   -- the gate of the others is open: there is this house, and the tables are so long

@@ -25,7 +25,7 @@ use Rattle.model.proofs.Registers.OnlyHeld.{only-held}
 use Rattle.nursery.specs.Licence.{houses, limitOf, overfull}
 use Rattle.nursery.specs.Nursery.{Nursery, edgesIn, houseIn, limitIn, part, putIn, putTables, registerIn, removalsIn, storedIn, tablesIn, verticesIn}
 use Rattle.nursery.specs.Calls as call
-use Rattle.nursery.specs.Calls.{HouseCall, anyDamaged, asks, barred, commitEffect, commits, edgesBut, effect, grownBy, grows, inHouse, isOwn, lands, notGrown, nurseryFits, outOfPlace, ownOf, readEffect, removeEffect, removes, scratchAfter, sliceOf, step}
+use Rattle.nursery.specs.Calls.{HouseCall, anyDamaged, asks, barred, commitEffect, commits, edgesBut, effect, grownBy, grows, inHouse, isOwn, lands, notGrown, nurseryFits, outOfPlace, ownOf, readEffect, removeEffect, removes, scratchAfter, ownSlice, step}
 use Rattle.nursery.specs.Removal.{Removed, keptWith, maxRemovals, remove, removed}
 use Rattle.nursery.proofs.Parts.{Sized, fits-sized, house-same}
 use Rattle.nursery.proofs.Gate.{damaged-21, question-quiet, step-barred, step-effect}
@@ -222,10 +222,10 @@ module _ (h : ℕ) (c : HouseCall) (l : call.Lent) where
 
   -- so the call is refused before it looks at its house: "nothing changed"
   pub refused-step : (x : ℕ) → passOthers h (isGrow c) l ≡ barsWith x
-      → record { lent = record { nursery = n; scratch = scratchPassed l }; slice = sliceOf c; reply = refuses x } ≡ step (inHouse h c) l
+      → record { lent = record { nursery = n; scratch = scratchPassed l }; slice = ownSlice c; reply = refuses x } ≡ step (inHouse h c) l
   unfolding call.lentSlice
   refused-step x e =
-      ap (λ (s : Tables). record { lent = record { nursery = n; scratch = s }; slice = sliceOf c; reply = refuses x }) (sym scratch-is)
+      ap (λ (s : Tables). record { lent = record { nursery = n; scratch = s }; slice = ownSlice c; reply = refuses x }) (sym scratch-is)
       ∙ sym (step-barred (inHouse h c) l x (barred-so x e))
 
 -- ---- let in by it
@@ -308,7 +308,7 @@ module _ (h : ℕ) (l : call.Lent) (limit : ℕ) (g : Bool) (o : Opened h g l li
         rw (own-held r k, outcomeOf)
         (sym (step-effect h c l (effect c (houseOf limit (removalsIn h m) r)) (held-free r k) (ap (effect c) (house-is r k))))
 
-    own-barred : held (storedIn h m) ≡ none → ownStep limit (removalsIn h m) c (ownLent h m) ≡ record { lent = ownLent h m; slice = sliceOf c; reply = refuses 21 }
+    own-barred : held (storedIn h m) ≡ none → ownStep limit (removalsIn h m) c (ownLent h m) ≡ record { lent = ownLent h m; slice = ownSlice c; reply = refuses 21 }
     unfolding ownStep own.gate own.scratchAfter
     own-barred k = rw (own-fits, ownStep, own.gate, finds-held, k) (rw own-fits)
 
@@ -318,7 +318,7 @@ module _ (h : ℕ) (l : call.Lent) (limit : ℕ) (g : Bool) (o : Opened h g l li
     joined-none k =
         let e : barred (inHouse h c) l ≡ some 21 = damaged-21 (inHouse h c) l h (o .inside) (rw own-none) k (fits-all c) in
         rw (own-barred k)
-        (ap (λ (x : Nursery). record { lent = record { nursery = x; scratch = cleared }; slice = sliceOf c; reply = refuses 21 }) (put-back h m)
+        (ap (λ (x : Nursery). record { lent = record { nursery = x; scratch = cleared }; slice = ownSlice c; reply = refuses 21 }) (put-back h m)
         ∙ sym (step-barred (inHouse h c) l 21 e ∙ rw (fits-all c)))
 
     -- either way, if the effect leaves the count of removals

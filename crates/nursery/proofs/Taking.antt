@@ -17,7 +17,7 @@ use Rattle.model.proofs.Registers.Reachable.{founded, kept}
 use Rattle.nursery.specs.Licence.{houses}
 use Rattle.nursery.specs.Removal.{Change, Removed, changeNumbers, keptWith, maxRemovals, remove, removed}
 use Rattle.nursery.specs.Nursery.{Nursery, houseIn, putIn, registerIn, removalsIn, storedIn}
-use Rattle.nursery.specs.Calls.{Lent, Outcome, barred, effect, grownBy, inHouse, isOwn, lentSlice, ownOf, removeEffect, removes, sliceOf, step}
+use Rattle.nursery.specs.Calls.{Lent, Outcome, barred, effect, grownBy, inHouse, isOwn, lentSlice, ownOf, removeEffect, removes, ownSlice, step}
 use Rattle.nursery.specs.Notions.{TakenOut}
 use Rattle.nursery.proofs.Removal.{KeptFor, RemovalIs, RemovedOf, removal-is, taken-out}
 use Rattle.nursery.proofs.Gate.{Open, is-open, open-inside, put-same, register-reachable, removals-put, step-barred, step-effect, stored-put}
@@ -122,7 +122,7 @@ module _ (h d : ℕ) (slice : List ℕ) (l : Lent) where
   -- "38 .., then 9 for a short answer slice, nothing changed": nor is anything by 25, 21 or 37
   pub refused-keeps : ((k : ℕ) → (step (inHouse h (removes d slice)) l) .reply ≢ reported k)
       → ((step (inHouse h (removes d slice)) l) .lent .nursery ≡ l .nursery) × ((step (inHouse h (removes d slice)) l) .slice ≡ slice)
-  unfolding removeEffect ownOf grownBy isOwn houseIn lentSlice sliceOf
+  unfolding removeEffect ownOf grownBy isOwn houseIn lentSlice ownSlice
   refused-keeps w = go (barred (inHouse h (removes d slice)) l) refl
     where
       Goal : Type 0

@@ -1,7 +1,7 @@
 -- The values of specs/Values, computed from the definitions.
 use mathlib.Core.Path.{refl}
 use Rattle.nursery.specs.Nursery.{edgesIn, houseIn, limitIn, noHouses, part, putIn, putPart, putTables, registerIn, removalsIn, storedIn, tablesIn, verticesIn}
-use Rattle.nursery.specs.Calls.{allFit, anyDamaged, barred, does, isOwn, lentSlice, notGrown, nurseryFits, scratchAfter, sliceOf, step}
+use Rattle.nursery.specs.Calls.{allFit, anyDamaged, barred, does, isOwn, lentSlice, notGrown, nurseryFits, scratchAfter, ownSlice, step}
 use Rattle.nursery.specs.Values.{Barred, Licences, Removals, eight, houseOf, oneDamaged, openedAt, regrown, removing, splitFirst}
 use Rattle.nursery.proofs.Computing.{settling}
 
@@ -25,7 +25,7 @@ licences =
     }
 
 pub bars : Barred
-unfolding settling eight oneDamaged regrown part putPart tablesIn putTables storedIn removalsIn registerIn edgesIn verticesIn limitIn houseIn putIn noHouses nurseryFits allFit isOwn anyDamaged notGrown barred sliceOf lentSlice does scratchAfter step
+unfolding settling eight oneDamaged regrown part putPart tablesIn putTables storedIn removalsIn registerIn edgesIn verticesIn limitIn houseIn putIn noHouses nurseryFits allFit isOwn anyDamaged notGrown barred ownSlice lentSlice does scratchAfter step
 bars =
     record {
       own-damaged = refl;

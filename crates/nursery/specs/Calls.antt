@@ -165,15 +165,15 @@ pub record Outcome : Type 0 where
   pub reply : Reply
 
 -- the slice that a call is lent
-unfoldable pub sliceOf : HouseCall → List ℕ
-sliceOf (grows bs) = []
-sliceOf (lands bs) = []
-sliceOf (commits q) = []
-sliceOf (removes d slice) = slice
-sliceOf (asks q) = lentTo q
+unfoldable pub ownSlice : HouseCall → List ℕ
+ownSlice (grows bs) = []
+ownSlice (lands bs) = []
+ownSlice (commits q) = []
+ownSlice (removes d slice) = slice
+ownSlice (asks q) = lentTo q
 
 unfoldable pub lentSlice : Call → List ℕ
-lentSlice (inHouse h c) = sliceOf c
+lentSlice (inHouse h c) = ownSlice c
 lentSlice (setsShares shares) = []
 
 -- where nothing bars it, a call for a house has its effect there, and shares are put in place of the old ones; "scratch ends all zero"

@@ -1,6 +1,6 @@
 use mathlib.Core.Path.{refl, sym, ap, _∙_}
 use Rattle.model.specs.Calls.{lentTo}
-use Rattle.nursery.specs.Calls.{measures, sliceOf}
+use Rattle.nursery.specs.Calls.{measures, ownSlice}
 use Rattle.admission.specs.Own.{registerFor}
 use Rattle.admission.specs.Gate.{gateRefusal}
 use Rattle.admission.proofs.GateLaws.{query-refused}
@@ -23,7 +23,7 @@ returns c =
     λ limit removals. open-answers _ _ _ _ (ap gateRefusal (sym (at-enum-told .enum-told .given .1)) ∙ at-pass-gate .pass-gate .ensures .0) (at-pass-gate .pass-gate .ensures .1) limit removals _ _ _ _ (at-measure .measure .ensures .0) (at-measure .measure .ensures .1 _ _ _ _)
 
 returns-2 : tie.Need-returns-2
-unfolding registerFor sliceOf lentTo
+unfolding registerFor ownSlice lentTo
 returns-2 c =
     let at-pass-gate = c .before .before .before .before .before .before .before .before .before .before .before .before .before .before .before in
     λ limit removals. query-refused limit removals (measures _ _) _ refl _ _ (ap gateRefusal (sym (c .before .passed .given .1)) ∙ at-pass-gate .pass-gate .ensures .0) (at-pass-gate .pass-gate .ensures .1)

@@ -3,7 +3,7 @@ use Rattle.admission.proofs.GateLaws.{query-refused}
 use Rattle.questions.proofs.AnswerLaws.{find-answers}
 use Rattle.admission.specs.Gate.{gateRefusal}
 use Rattle.model.specs.Calls.{finding, lentTo}
-use Rattle.nursery.specs.Calls.{finds, sliceOf}
+use Rattle.nursery.specs.Calls.{finds, ownSlice}
 use Rattle.admission.specs.Own.{registerFor}
 use mathlib.Core.Path.{refl, sym, ap, _∙_}
 use borrow.Author.Needs.{needs}
@@ -19,7 +19,7 @@ returns c =
     (find-answers _ _ _ _ (at-find-cleared .find-cleared .ensures .0 _)) (at-find-cleared .find-cleared .ensures .1)
 
 returns-2 : tie.Need-returns-2
-unfolding registerFor sliceOf lentTo
+unfolding registerFor ownSlice lentTo
 returns-2 c =
     let at-pass-gate = c .before .before .before .before .before .before .before .before .before .before .before .before .before .before .before in
     λ limit removals. query-refused limit removals (finds _) _ refl _ _ (ap gateRefusal (sym (c .before .passed .given .1)) ∙ at-pass-gate .pass-gate .ensures .0) (at-pass-gate .pass-gate .ensures .1)

@@ -1,6 +1,6 @@
 use mathlib.Core.Path.{refl, sym, ap, _∙_}
 use Rattle.model.specs.Calls.{findingAt, lentTo}
-use Rattle.nursery.specs.Calls.{findsAt, sliceOf}
+use Rattle.nursery.specs.Calls.{findsAt, ownSlice}
 use Rattle.admission.specs.Own.{registerFor}
 use Rattle.admission.specs.Gate.{gateRefusal}
 use Rattle.questions.proofs.AnswerLaws.{find-at-answers}
@@ -19,7 +19,7 @@ returns c =
     (find-at-answers _ _ _ _ (at-find-at-cleared .find-at-cleared .ensures .0 _)) (at-find-at-cleared .find-at-cleared .ensures .1)
 
 returns-2 : tie.Need-returns-2
-unfolding registerFor sliceOf lentTo
+unfolding registerFor ownSlice lentTo
 returns-2 c =
     let at-pass-gate = c .before .before .before .before .before .before .before .before .before .before .before .before .before .before .before in
     λ limit removals. query-refused limit removals (findsAt _) _ refl _ _ (ap gateRefusal (sym (c .before .passed .given .1)) ∙ at-pass-gate .pass-gate .ensures .0) (at-pass-gate .pass-gate .ensures .1)

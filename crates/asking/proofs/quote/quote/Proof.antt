@@ -1,6 +1,6 @@
 use mathlib.Core.Path.{refl, sym, ap, _∙_}
 use Rattle.model.specs.Calls.{quoting, lentTo}
-use Rattle.nursery.specs.Calls.{quotes, sliceOf}
+use Rattle.nursery.specs.Calls.{quotes, ownSlice}
 use Rattle.admission.specs.Own.{registerFor}
 use Rattle.admission.specs.Gate.{gateRefusal}
 use Rattle.admission.proofs.GateLaws.{query-refused}
@@ -19,7 +19,7 @@ returns c =
     λ removals. query-answered _ removals (quoting _) _ _ _ _ (ap gateRefusal (sym (c .before .enum-told .given .1)) ∙ at-pass-gate .pass-gate .ensures .0) (at-pass-gate .pass-gate .ensures .1) (quote-answers _ removals _ _ _ _ (c .quote-edge .ensures))
 
 returns-2 : tie.Need-returns-2
-unfolding registerFor sliceOf lentTo
+unfolding registerFor ownSlice lentTo
 returns-2 c =
     let at-pass-gate = c .before .before .before .before .before .before .before .before .before .before .before .before .before .before .before in
     λ removals. query-refused _ removals (quotes _) _ refl _ _ (ap gateRefusal (sym (c .before .passed .given .1)) ∙ at-pass-gate .pass-gate .ensures .0) (at-pass-gate .pass-gate .ensures .1)

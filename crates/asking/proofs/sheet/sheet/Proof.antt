@@ -1,6 +1,6 @@
 use mathlib.Core.Path.{refl, sym, ap, _∙_}
 use Rattle.model.specs.Calls.{lentTo}
-use Rattle.nursery.specs.Calls.{sheets, sliceOf}
+use Rattle.nursery.specs.Calls.{sheets, ownSlice}
 use Rattle.admission.specs.Own.{registerFor}
 use Rattle.admission.specs.Gate.{gateRefusal}
 use Rattle.asking.proofs.ScratchLaws.{sheet-answered}
@@ -17,7 +17,7 @@ returns c =
     λ limit removals. sheet-answered _ _ _ _ (ap gateRefusal (sym (at-enum-told .enum-told .given .1)) ∙ at-pass-gate .pass-gate .ensures .0) (at-pass-gate .pass-gate .ensures .1) limit removals _ _ _ _ _ (at-sheet-cleared .sheet-cleared .ensures .0 _) (at-sheet-cleared .sheet-cleared .ensures .1 .0) (at-sheet-cleared .sheet-cleared .ensures .1 .1)
 
 returns-2 : tie.Need-returns-2
-unfolding registerFor sliceOf lentTo
+unfolding registerFor ownSlice lentTo
 returns-2 c =
     let at-pass-gate = c .before .before .before .before .before .before .before .before .before .before .before .before .before .before .before in
     λ limit removals. query-refused limit removals (sheets _) _ refl _ _ (ap gateRefusal (sym (c .before .passed .given .1)) ∙ at-pass-gate .pass-gate .ensures .0) (at-pass-gate .pass-gate .ensures .1)

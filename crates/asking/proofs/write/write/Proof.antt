@@ -2,7 +2,7 @@ use Rattle.admission.proofs.GateLaws.{query-answered, query-refused}
 use Rattle.questions.proofs.WritingLaws.{write-answers}
 use Rattle.admission.specs.Gate.{gateRefusal}
 use Rattle.model.specs.Calls.{writing, lentTo}
-use Rattle.nursery.specs.Calls.{writes, sliceOf}
+use Rattle.nursery.specs.Calls.{writes, ownSlice}
 use Rattle.admission.specs.Own.{houseOf, registerFor}
 use mathlib.Core.Path.{refl, sym, ap, _∙_}
 use borrow.Author.Needs.{needs}
@@ -17,7 +17,7 @@ returns c =
     (λ r k. write-answers _ _ _ _ _ _ _ _ _ _ (c .before .before .write-in .ensures) (houseOf limit removals r) k)
 
 returns-2 : tie.Need-returns-2
-unfolding registerFor sliceOf lentTo
+unfolding registerFor ownSlice lentTo
 returns-2 c =
     let at-pass-gate = c .before .before .before .before .before .before .before .before .before .before .before .before .before .before .before in
     λ limit removals. query-refused limit removals (writes _) _ refl _ _ (ap gateRefusal (sym (c .before .passed .given .1)) ∙ at-pass-gate .pass-gate .ensures .0) (at-pass-gate .pass-gate .ensures .1)

@@ -1,5 +1,5 @@
 use mathlib.Core.Path.{refl, sym, ap, _∙_}
-use Rattle.nursery.specs.Calls.{commits, sliceOf}
+use Rattle.nursery.specs.Calls.{commits, ownSlice}
 use Rattle.admission.specs.Own.{registerFor}
 use Rattle.admission.specs.Gate.{gateRefusal}
 use Rattle.admission.proofs.GateLaws.{query-refused}
@@ -124,7 +124,7 @@ same-length-24 c =
     at-pass-gate .pass-gate .kept .1 .1 .1 .1 .1 .1 .1 .1 .1 .1 .1 .1 .0
 
 returns-2 : tie.Need-returns-2
-unfolding registerFor sliceOf
+unfolding registerFor ownSlice
 returns-2 c =
     let at-pass-gate = c .before .before .before .before .before .before .before .before .before .before .before .before .before .before .before in
     λ removals. query-refused _ removals (commits _) _ refl _ _ (ap gateRefusal (sym (c .before .passed .given .1)) ∙ at-pass-gate .pass-gate .ensures .0) (at-pass-gate .pass-gate .ensures .1)

@@ -2,7 +2,7 @@ use Rattle.removing.proofs.RemoveLaws.{edge-there, remove-done, remove-
 use Rattle.admission.proofs.GateLaws.{query-refused}
 use Rattle.admission.specs.Gate.{gateRefusal}
 use Rattle.admission.specs.Own.{registerFor}
-use Rattle.nursery.specs.Calls.{removes, sliceOf}
+use Rattle.nursery.specs.Calls.{removes, ownSlice}
 use mathlib.Core.Path.{refl, sym, ap, _∙_}
 use native.Mathlib.Omega.{arith}
 use borrow.Author.Needs.{needs}
@@ -106,7 +106,7 @@ returns-2 c =
     λ limit. remove-done limit _ _ _ _ _ _ _ _ (ap gateRefusal (sym (at-enum-told .enum-told .given .1)) ∙ at-pass-gate .pass-gate .ensures .0) (at-pass-gate .pass-gate .ensures .1) (at-not-removable .not-removable .ensures .0) (at-if1 .if1 .left) _ (at-take-out .take-out .ensures)
 
 returns-3 : tie.Need-returns-3
-unfolding registerFor sliceOf
+unfolding registerFor ownSlice
 returns-3 c =
     let at-pass-gate = c .before .before .before .before .before .before .before .before .before .before .before .before .before .before .before in
     λ limit. query-refused limit _ (removes _ _) _ refl _ _ (ap gateRefusal (sym (c .before .passed .given .1)) ∙ at-pass-gate .pass-gate .ensures .0) (at-pass-gate .pass-gate .ensures .1)

@@ -3,7 +3,7 @@ use Rattle.licence.proofs.CallLaws.{barred-call}
 use Rattle.licence.proofs.StepLaws.{isGrow}
 use Rattle.licence.proofs.PassLaws.{open-known}
 use Rattle.licence.specs.Gate.{asPassed}
-use Rattle.nursery.specs.Calls.{removes, sliceOf}
+use Rattle.nursery.specs.Calls.{removes, ownSlice}
 use mathlib.Core.Bool.{false}
 use mathlib.Core.Path.{refl, sym, ap, _∙_}
 use borrow.Author.Needs.{needs}
@@ -95,7 +95,7 @@ returns c =
     remove-joined _ _ _ _ _ _ _ _ _ _ _ _ _ (ap asPassed (sym (at-passed .passed .given .1)) ∙ at-pass-others .pass-others .ensures .0) (at-pass-others .pass-others .ensures .1) (at-remove-house .remove-house .result .answer) (at-remove-house .remove-house .ensures .0 _) (at-remove-house .remove-house .ensures .1)
 
 returns-2 : tie.Need-returns-2
-unfolding isGrow sliceOf
+unfolding isGrow ownSlice
 returns-2 c =
     let at-pass-others = c .before .before .before .before .before .before .before .before .before .before .before .before .before .before .before in
     barred-call _ _ _ _ _ _ false (removes _ _) _ refl (ap asPassed (sym (c .before .passed2 .given .1)) ∙ at-pass-others .pass-others .ensures .0) (at-pass-others .pass-others .ensures .1)

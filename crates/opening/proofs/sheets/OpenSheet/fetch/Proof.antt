@@ -2,7 +2,7 @@ use Rattle.opening.proofs.SheetLaws.{fetch-answered, fetch-ended}
 use Rattle.admission.proofs.GateLaws.{query-refused}
 use Rattle.admission.specs.Gate.{gateRefusal}
 use Rattle.admission.specs.Own.{registerFor}
-use Rattle.nursery.specs.Calls.{fetches, sliceOf}
+use Rattle.nursery.specs.Calls.{fetches, ownSlice}
 use Rattle.model.specs.Calls.{lentTo}
 use mathlib.Core.Path.{refl, sym, ap, _∙_}
 use borrow.Author.Needs.{needs}
@@ -26,7 +26,7 @@ returns-2 c =
     λ limit. fetch-answered _ _ _ _ (ap gateRefusal (sym (at-enum-told .enum-told .given .1)) ∙ at-pass-gate .pass-gate .ensures .0) (at-pass-gate .pass-gate .ensures .1) limit _ _ _ _ (at-if1 .if1 .left) (c .gives .ensures ∙ at-line-cleared .line-cleared .ensures .0 _) (at-line-cleared .line-cleared .ensures .1)
 
 returns-3 : tie.Need-returns-3
-unfolding registerFor sliceOf lentTo
+unfolding registerFor ownSlice lentTo
 returns-3 c =
     let at-pass-gate = c .before .before .before .before .before .before .before .before .before .before .before .before .before .before .before in
     λ limit. query-refused limit _ (fetches _) _ refl _ _ (ap gateRefusal (sym (c .before .passed .given .1)) ∙ at-pass-gate .pass-gate .ensures .0) (at-pass-gate .pass-gate .ensures .1)

@@ -1,6 +1,6 @@
 use mathlib.Core.Path.{refl, sym, ap, _∙_}
 use Rattle.model.specs.Calls.{lentTo}
-use Rattle.nursery.specs.Calls.{opens, sliceOf}
+use Rattle.nursery.specs.Calls.{opens, ownSlice}
 use Rattle.admission.specs.Own.{registerFor}
 use Rattle.admission.specs.Gate.{gateRefusal}
 use Rattle.admission.proofs.GateLaws.{query-refused}
@@ -15,7 +15,7 @@ returns c =
     λ limit. open-answered _ _ _ _ (ap gateRefusal (sym (c .enum-told .given .1)) ∙ at-pass-gate .pass-gate .ensures .0) (at-pass-gate .pass-gate .ensures .1) limit _
 
 returns-2 : tie.Need-returns-2
-unfolding registerFor sliceOf lentTo
+unfolding registerFor ownSlice lentTo
 returns-2 c =
     let at-pass-gate = c .before .before .before .before .before .before .before .before .before .before .before .before .before .before .before in
     λ limit. query-refused limit _ opens _ refl _ _ (ap gateRefusal (sym (c .before .passed .given .1)) ∙ at-pass-gate .pass-gate .ensures .0) (at-pass-gate .pass-gate .ensures .1)
