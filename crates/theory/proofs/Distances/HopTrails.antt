@@ -125,9 +125,9 @@ module _ (es : List Edge) (pr : Proper es) where
   trail_way : {x d v q w : ℕ} {ss : List Pass} → At es v d → Joins (edge_at es d) x v → Trail es d v ss q w → Way es x w (along_edges es d ss)
   unfolding along_edges sum lengths_of afters after_of
   trail_way {x} {d} a j done = along d a.inside j here
-  trail_way {x} {d} {v} a j (pass t c e u) =
+  trail_way {x} {d} {v} a j (pass {ss = ss} t c e u) =
       let nx : Next es d v t = next_edge es d v t pr a c e in
-      along d a.inside j (trail_way nx.across.at (joins_of es t v pr nx.at) u)
+      along d a.inside j (trail_way {x = v} nx.across.at (joins_of es t v pr nx.at) u)
 
   -- so a hop is one, of the same length
   hop_way : {v w l : ℕ} → Hop es v w l → Way es v w l

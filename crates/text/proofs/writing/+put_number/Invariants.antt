@@ -1,0 +1,5 @@
+use Rattle.text.proofs.writing.+put_number.Given as goal
+
+-- the number falls with each call
+abbrev pub decreases-put_number : goal.decreases-put_number
+decreases-put_number l = l.n
