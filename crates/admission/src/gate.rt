@@ -13,7 +13,7 @@ use counters::counts::Counts;
 use counters::refusals::Refusal;
 use holding::held::is_held;
 
-#[derive(Drop)]
+#[derive(Clone, Copy)]
 pub enum Gate {
     Open,
     Refused(Refusal),

@@ -4,14 +4,14 @@ use counters::counts::Counts;
 use counters::quotes::CommitAnswer;
 
 // Of a grow or a land.
-#[derive(Drop)]
+#[derive(Clone, Copy)]
 pub struct Answered {
     pub counts: Counts,
     pub answer: ListAnswer,
 }
 
 // Of a commit.
-#[derive(Drop)]
+#[derive(Clone, Copy)]
 pub struct CommittedCounts {
     pub counts: Counts,
     pub answer: CommitAnswer,

@@ -16,7 +16,7 @@ use text::writing::put_text;
 pub const ROOM: usize = 65536;
 
 // So many bytes of the slice: a list, for standard output, or a line, for standard error.
-#[derive(Drop)]
+#[derive(Clone, Copy)]
 pub enum Output {
     List(usize),
     Complaint(usize),

@@ -15,7 +15,7 @@ const MARK: u16 = 1;
 
 // Where a walk ends, how many regular vertices it passes, the lengths of the edges behind them added up, their volumes onto what was known
 // before, and the least of its home and those vertices.
-#[derive(Drop)]
+#[derive(Clone, Copy)]
 pub struct WalkEnd {
     pub at: Vertex,
     pub inner: u16,

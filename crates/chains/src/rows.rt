@@ -11,7 +11,7 @@ use tables::kinds::{degree_of, first_end, length_of, second_end, volume_of};
 use tables::steps::add_lengths;
 
 // A chain's name, its end with the lower number, its other end, its regular vertices, its length, its volume.
-#[derive(Drop)]
+#[derive(Clone, Copy)]
 pub struct Row {
     pub name: Edge,
     pub lower: Vertex,

@@ -4,7 +4,7 @@ ghost use Rattle.model.specs.Cases.{isolated, leaf, regular, class_of, case_of};
 ghost use Rattle.checking.specs.Meaning.{as_class, as_case};
 
 // Degrees 0, 1, 2, 3 and up. Document 01 calls a regular vertex a coupling, every other one a junction, and a leaf free.
-#[derive(Drop)]
+#[derive(Clone, Copy)]
 pub enum Class {
     Isolated,
     Leaf,
@@ -13,7 +13,7 @@ pub enum Class {
 }
 
 // Document 01's six cases; where it matters, with the end that is extended or split.
-#[derive(Drop)]
+#[derive(Clone, Copy)]
 pub enum Case {
     New,
     ExtendFirst,

@@ -13,7 +13,7 @@ use counters::refusals::Refusal;
 use counters::sizes::MAX_EDGES;
 
 // A volume as the register has it, if it is within its bounds.
-#[derive(Drop)]
+#[derive(Clone, Copy)]
 pub enum CheckedVolume {
     Is(Millilitres),
     OutOfRange,
@@ -31,7 +31,7 @@ fn check_volume(volume: u32) -> CheckedVolume
 }
 
 // The first of refusals 5, 6, 7, 31, 23 and 36 that holds of an edge (document 01: pipe), or its ends, length and volume where none does.
-#[derive(Drop)]
+#[derive(Clone, Copy)]
 pub enum Checked {
     Passed(Vertex, Vertex, Millimetres, Millilitres),
     Refused(Refusal),

@@ -7,7 +7,7 @@ ghost use Rattle.comparing.specs.Beginnings.{common, end_at, line_ends, as_compa
 // The byte that ends a line.
 const LINE_END: u8 = 10;
 
-#[derive(Drop)]
+#[derive(Clone, Copy)]
 pub enum Comparison {
     Same,
     Differ(usize),

@@ -2,14 +2,14 @@
 use crate::refusals::Refusal;
 
 // How far a list was landed: whole, or up to a record (from 0) that was refused.
-#[derive(Drop)]
+#[derive(Clone, Copy)]
 pub enum Stop {
     Whole,
     Stopped(usize, Refusal),
 }
 
 // The list was read, and how far it was landed; or the call itself was refused.
-#[derive(Drop)]
+#[derive(Clone, Copy)]
 pub enum ListAnswer {
     Read(Stop),
     Refused(Refusal),

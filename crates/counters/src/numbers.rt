@@ -7,10 +7,10 @@ ghost use Rattle.counters.specs.Numbers.{within, among_landed, volume_of, as_ver
 ghost use Rattle.model.specs.Basics.{max_vertices, max_length};
 
 // Document 01's fitting number, from 0.
-#[derive(Drop)]
+#[derive(Clone, Copy)]
 pub struct Vertex(pub u16);
 
-#[derive(Drop)]
+#[derive(Clone, Copy)]
 pub enum CheckedVertex {
     Is(Vertex),
     OutOfRange,
@@ -48,7 +48,7 @@ impl Vertex {
 
 // Document 01's pipe number, from 0. No list and no caller says one: it is the count of pipes,
 // which 23 has tested, a number below it, or read from a table; so it has no checked constructor.
-#[derive(Drop)]
+#[derive(Clone, Copy)]
 pub struct Edge(pub u16);
 
 impl Edge {
@@ -59,10 +59,10 @@ impl Edge {
 }
 
 // Document 01's tag, of 32 bits.
-#[derive(Drop)]
+#[derive(Clone, Copy)]
 pub struct Label(pub u32);
 
-#[derive(Drop)]
+#[derive(Clone, Copy)]
 pub enum CheckedLabel {
     Is(Label),
     OutOfRange,
@@ -83,10 +83,10 @@ impl Label {
 }
 
 // A length: of one pipe by `new`, which MIN and MAX bound; a sum of them by `add_lengths` of tables.
-#[derive(Drop)]
+#[derive(Clone, Copy)]
 pub struct Millimetres(pub u32);
 
-#[derive(Drop)]
+#[derive(Clone, Copy)]
 pub enum CheckedMillimetres {
     Is(Millimetres),
     OutOfRange,
@@ -111,10 +111,10 @@ impl Millimetres {
 }
 
 // A volume: of one pipe by `new`, which MIN and MAX bound; a sum of them by `volume_onto` of chains. 0 in the register where it is not known.
-#[derive(Drop)]
+#[derive(Clone, Copy)]
 pub struct Millilitres(pub u32);
 
-#[derive(Drop)]
+#[derive(Clone, Copy)]
 pub enum CheckedMillilitres {
     Known(Millilitres),
     Unknown,

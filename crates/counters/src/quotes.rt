@@ -7,7 +7,7 @@ ghost use Rattle.counters.specs.declared.quotes.Terms.TheVariants.{Offers, Decli
 use crate::refusals::Refusal;
 
 // Document 01's six cases, and document 02's ring.
-#[derive(Drop)]
+#[derive(Clone, Copy)]
 pub enum QuotedCase {
     NewRun,
     Extended,
@@ -35,14 +35,14 @@ impl QuotedCase {
 }
 
 // The case and the number of re-hangings, or the refusal.
-#[derive(Drop)]
+#[derive(Clone, Copy)]
 pub enum Terms {
     Offers(QuotedCase, u32),
     Declines(Refusal),
 }
 
 // The pipe as it was asked for, in plain numbers, since it may be one that is refused; the terms; the counts at which it was made.
-#[derive(Drop)]
+#[derive(Clone, Copy)]
 pub struct Quote {
     pub first: u16,
     pub second: u16,
@@ -53,13 +53,13 @@ pub struct Quote {
     pub edges: u16,
 }
 
-#[derive(Drop)]
+#[derive(Clone, Copy)]
 pub enum QuoteAnswer {
     Quoted(Quote),
     Refused(Refusal),
 }
 
-#[derive(Drop)]
+#[derive(Clone, Copy)]
 pub enum CommitAnswer {
     Landed,
     Refused(Refusal),

@@ -11,7 +11,7 @@ use tables::rings::Round;
 use tables::walks::{Walker, leave_leaf, step_over};
 
 // Whether the edge would close a ring, and how many vertices would be relabelled.
-#[derive(Drop)]
+#[derive(Clone, Copy)]
 pub struct Estimate {
     pub ring: bool,
     pub count: u32,

@@ -9,7 +9,7 @@ use chains::rows::{Row, take_row};
 use counters::numbers::Edge;
 
 // The row at a place, and the place behind it; no row, past the last one; or refusal 33.
-#[derive(Drop)]
+#[derive(Clone, Copy)]
 pub enum Line {
     Row(Row, u16),
     Past,

@@ -15,7 +15,7 @@ use tables::access::{add32, one_more16};
 use tables::kinds::{put_ends, put_length, put_volume};
 
 // The counts after the edge (document 01: the head) and whether a ring may stand then; or the edge's refusal.
-#[derive(Drop)]
+#[derive(Clone, Copy)]
 pub enum Inserted {
     Done(Counts, bool),
     Refused(Refusal),

@@ -93,7 +93,7 @@ fn close_ring(
 }
 
 // The leaf whose chain keeps its labels, then the other; or neither, where no chain has a regular vertex.
-#[derive(Drop)]
+#[derive(Clone, Copy)]
 pub enum Keeper {
     Neither,
     Chain(Vertex, Vertex),
@@ -116,7 +116,7 @@ pub fn keeper_of(degrees: &[u16], meeting: Meeting, a: Vertex, b: Vertex) -> Kee
 }
 
 // What an edge between two leaves would make of their chains: whether it closes a ring; if not, which of the two keeps its labels.
-#[derive(Drop)]
+#[derive(Clone, Copy)]
 pub struct Merger {
     pub ring: bool,
     pub keeper: Keeper,

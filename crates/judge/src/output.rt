@@ -17,7 +17,7 @@ pub const LINE: usize = 40;
 const NEWLINE: u8 = 10;
 
 // So many bytes of the slice: the text that a sheet has to be, or the line of a list for which there is none.
-#[derive(Drop)]
+#[derive(Clone, Copy)]
 pub enum Expected {
     Sheet(usize),
     Nothing(usize),

@@ -12,7 +12,7 @@ use landing::records::grow_list;
 use listing::listing::put_listing;
 
 // So many bytes of the slice; or the record and the refusal of a list that stops.
-#[derive(Drop)]
+#[derive(Clone, Copy)]
 pub enum Right {
     Text(usize),
     Stopped(usize, Refusal),

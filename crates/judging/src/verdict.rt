@@ -10,7 +10,7 @@ use counters::refusals::Refusal;
 use listing::listing::ROOM;
 
 // That the sheet agrees, its first wrong line (from 1), or the record and the refusal of a list that stops.
-#[derive(Drop)]
+#[derive(Clone, Copy)]
 pub enum Verdict {
     Agrees,
     WrongLine(usize),

@@ -3,7 +3,7 @@ ghost use Rattle.std.specs.Prelude.{◌≡◌, true, false};
 
 // What an edge makes of the chains: the number of blocks (document 01: births) then, and of the vertices relabelled (re-hung); and
 // whether it closes a ring.
-#[derive(Drop)]
+#[derive(Clone, Copy)]
 pub struct ChainChange {
     pub blocks: u16,
     pub relabellings: u32,

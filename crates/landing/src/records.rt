@@ -20,7 +20,7 @@ use list::reader::record_at;
 use list::records::{Cursor, Header, Record, read_header};
 
 // What stands behind a record: the end of the list; the counts, whether a ring may stand, and the next record; or the record's refusal.
-#[derive(Drop)]
+#[derive(Clone, Copy)]
 pub enum Step {
     End,
     Landed(Counts, bool, Cursor),
@@ -28,7 +28,7 @@ pub enum Step {
 }
 
 // The counts that a list leaves, and how far it was landed.
-#[derive(Drop)]
+#[derive(Clone, Copy)]
 pub struct Reading {
     pub counts: Counts,
     pub stop: Stop,

@@ -16,7 +16,7 @@ use heads::sizes::houses_fit;
 use tables::access::at16;
 
 // The limit that the licence comes to, on the house's edges; or a refusal.
-#[derive(Drop)]
+#[derive(Clone, Copy)]
 pub enum Passed {
     Open(u16),
     Refused(Refusal),

@@ -24,21 +24,21 @@ const EDGE_SIZE: usize = 9;
 const VOLUME_SIZE: usize = 4;
 
 // The index of the next byte, and the list's version.
-#[derive(Drop)]
+#[derive(Clone, Copy)]
 pub struct Cursor {
     pub at: usize,
     pub version: u16,
 }
 
 // The cursor behind a good header, or the header's refusal.
-#[derive(Drop)]
+#[derive(Clone, Copy)]
 pub enum Header {
     Good(Cursor),
     Refused(Refusal),
 }
 
 // What stands at a cursor: the end of the list; a fitting; a pipe, its two fittings, its length and its volume; or a refusal.
-#[derive(Drop)]
+#[derive(Clone, Copy)]
 pub enum Record {
     End,
     Vertex(Cursor),

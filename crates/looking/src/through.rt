@@ -13,7 +13,7 @@ use tables::walks::{Walker, step_over};
 
 // What is known of the edges that a walk has gone along: the vertex that wears the label, as v + 1, or 0; the lengths before it and behind
 // it; the least number.
-#[derive(Drop)]
+#[derive(Clone, Copy)]
 pub struct Seen {
     pub wearer: u16,
     pub before: Millimetres,
@@ -22,14 +22,14 @@ pub struct Seen {
 }
 
 // Where a walk ends, and what is known then.
-#[derive(Drop)]
+#[derive(Clone, Copy)]
 pub struct Look {
     pub at: Vertex,
     pub known: Seen,
 }
 
 // The name of the chain that holds the label, the vertex that wears it, and the lengths from there to the low and to the high end.
-#[derive(Drop)]
+#[derive(Clone, Copy)]
 pub enum Found {
     Chain(Edge, Vertex, Millimetres, Millimetres),
     Nothing,

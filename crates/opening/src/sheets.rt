@@ -18,7 +18,7 @@ use fetching::lines::Line;
 // The counts of vertices and edges (document 01: fittings and pipes) at the opening, the place of the next line, and the house's count of
 // removals at the opening (document 02, S-11). It is its caller's to keep, and no part of the register: landing goes on meanwhile, and any
 // number of sheets may be open.
-#[derive(Drop)]
+#[derive(Clone, Copy)]
 pub struct OpenSheet {
     pub vertices: u16,
     pub edges: u16,
@@ -26,14 +26,14 @@ pub struct OpenSheet {
     pub removals: u32,
 }
 
-#[derive(Drop)]
+#[derive(Clone, Copy)]
 pub enum Opened {
     Sheet(OpenSheet),
     Refused(Refusal),
 }
 
 // A line, and the sheet at the next one; or the sheet as it was, which is done.
-#[derive(Drop)]
+#[derive(Clone, Copy)]
 pub enum Fetched {
     Line(Row, OpenSheet),
     Done(OpenSheet),

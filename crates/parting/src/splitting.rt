@@ -74,7 +74,7 @@ fn split_by(
 }
 
 // Which ends of an edge are regular: neither; one, and then the other end; both.
-#[derive(Drop)]
+#[derive(Clone, Copy)]
 pub enum Splits {
     Neither,
     One(Vertex, Vertex),
@@ -82,7 +82,7 @@ pub enum Splits {
 }
 
 // What lies round about the vertices that are split when their turn comes: the first, or the only one; and the second.
-#[derive(Drop)]
+#[derive(Clone, Copy)]
 pub struct Rounds {
     pub first: Round,
     pub second: Round,

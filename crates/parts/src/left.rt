@@ -4,14 +4,14 @@ use counters::quotes::CommitAnswer;
 use heads::heads::Heads;
 
 // Of a grow or a land.
-#[derive(Drop)]
+#[derive(Clone, Copy)]
 pub struct Landed {
     pub heads: Heads,
     pub answer: ListAnswer,
 }
 
 // Of a commit.
-#[derive(Drop)]
+#[derive(Clone, Copy)]
 pub struct Committed {
     pub heads: Heads,
     pub answer: CommitAnswer,

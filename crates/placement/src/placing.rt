@@ -15,7 +15,7 @@ use tables::kinds::{degree_of, put_sides};
 use tables::steps::raise_both;
 
 // The leaf whose chain goes on over the edge, if one does.
-#[derive(Drop)]
+#[derive(Clone, Copy)]
 pub enum Extension {
     Nothing,
     Leaf(Vertex),
@@ -23,7 +23,7 @@ pub enum Extension {
 
 // What is done for an edge: the chains of both ends are merged; or both ends are opened, those that are regular by a split, and then a
 // leaf's chain goes on.
-#[derive(Drop)]
+#[derive(Clone, Copy)]
 pub enum Work {
     Merge,
     Open(Splits, Extension),

@@ -11,7 +11,7 @@ use parting::splitting::{Rounds, rounds_for};
 
 // What is done by the case, and what the tables say to it: of the chains that are merged, or of what lies round about the vertices that are
 // split. All are fields, though work needs but one of the two: of an enum the compiler would keep copies in memory.
-#[derive(Drop)]
+#[derive(Clone, Copy)]
 pub struct Plan {
     pub work: Work,
     pub merger: Merger,

@@ -1,14 +1,14 @@
 // What the planner answers. Definitions, `number_of` and `planned_reply`, give document 02's number and values of each case.
 use crate::numbers::Beginning;
 
-#[derive(Drop)]
+#[derive(Clone, Copy)]
 pub enum Refusal {
     OutOfBounds,
     Windows,
 }
 
 // At: the first minute from which the whole transit lies inside one window. Never: document 02's "none".
-#[derive(Drop)]
+#[derive(Clone, Copy)]
 pub enum Planned {
     At(Beginning),
     Never,
@@ -17,7 +17,7 @@ pub enum Planned {
 }
 
 // The first minute in the windows of one week.
-#[derive(Drop)]
+#[derive(Clone, Copy)]
 pub enum Found {
     At(u16),
     Nothing,

@@ -7,10 +7,10 @@ ghost use Rattle.planner.specs.Numbers.{max_volume, max_flow, week, as_volume, a
 // The millilitres in a run, as the last number of a sheet's line has them; 0 is unknown. It is no volume of one pipe: that is at most
 // 1,000,000, and a run has up to 4,096 of them. One above the bound can be made without the constructor: no refusal names it, and it is
 // planned like any other.
-#[derive(Drop)]
+#[derive(Clone, Copy)]
 pub struct Volume(pub u32);
 
-#[derive(Drop)]
+#[derive(Clone, Copy)]
 pub enum CheckedVolume {
     Is(Volume),
     OutOfRange,
@@ -33,10 +33,10 @@ impl Volume {
 }
 
 // Millilitres a minute. One out of bounds can be made without the constructor: it is refused with 34.
-#[derive(Drop)]
+#[derive(Clone, Copy)]
 pub struct Flow(pub u32);
 
-#[derive(Drop)]
+#[derive(Clone, Copy)]
 pub enum CheckedFlow {
     Is(Flow),
     OutOfRange,
@@ -61,10 +61,10 @@ impl Flow {
 }
 
 // A minute of this week, from 0. One above the bound can be made without the constructor: it is refused with 34.
-#[derive(Drop)]
+#[derive(Clone, Copy)]
 pub struct Minute(pub u16);
 
-#[derive(Drop)]
+#[derive(Clone, Copy)]
 pub enum CheckedMinute {
     Is(Minute),
     OutOfRange,
@@ -87,10 +87,10 @@ impl Minute {
 }
 
 // A minute of this week, or of the next, whose minutes are counted on from 10,080: there a change begins.
-#[derive(Drop)]
+#[derive(Clone, Copy)]
 pub struct Beginning(pub u16);
 
-#[derive(Drop)]
+#[derive(Clone, Copy)]
 pub enum CheckedBeginning {
     Is(Beginning),
     OutOfRange,

@@ -13,7 +13,7 @@ use counters::numbers::{CheckedLabel, CheckedVertex, Label, Vertex};
 use tables::kinds::label_of;
 
 // What may be asked of the tags.
-#[derive(Drop)]
+#[derive(Clone, Copy)]
 pub enum Question {
     Find(u32),
     FindAt(u32),

@@ -15,7 +15,7 @@ use looking::through::Found;
 use tables::kinds::label_of;
 
 // The name of a chain, which is the lowest number of an edge there; the vertex; the lengths, to the low end first.
-#[derive(Drop)]
+#[derive(Clone, Copy)]
 pub enum FoundChain {
     Chain(Edge, Vertex, Millimetres, Millimetres),
     Refused(Refusal),

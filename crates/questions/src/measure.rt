@@ -14,7 +14,7 @@ use counters::refusals::Refusal;
 use search::shortest::{Distance, search};
 
 // What outsiders are answered.
-#[derive(Drop)]
+#[derive(Clone, Copy)]
 pub enum Measured {
     Distance(Distance),
     Refused(Refusal),

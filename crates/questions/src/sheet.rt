@@ -20,7 +20,7 @@ use counters::refusals::Refusal;
 use text::writing::put_u32;
 
 // How many chains have their rows in the slice.
-#[derive(Drop)]
+#[derive(Clone, Copy)]
 pub enum Listed {
     Chains(u16),
     Refused(Refusal),

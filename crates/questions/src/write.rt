@@ -9,7 +9,7 @@ use counters::refusals::Refusal;
 use list::writing::put_list;
 
 // How many bytes of the slice are the list.
-#[derive(Drop)]
+#[derive(Clone, Copy)]
 pub enum Written {
     Bytes(u32),
     Refused(Refusal),

@@ -24,21 +24,21 @@ use placement::planning::{Plan, plan_work};
 use tables::kinds::degree_of;
 
 // What the commit of a quote does: the edge is placed as planned, or refused.
-#[derive(Drop)]
+#[derive(Clone, Copy)]
 pub enum Intent {
     Place(Vertex, Vertex, Millimetres, Millilitres, Plan),
     Refuse(Refusal),
 }
 
 // A quote, with what its commit does.
-#[derive(Drop)]
+#[derive(Clone, Copy)]
 pub struct Prepared {
     pub quote: Quote,
     pub intent: Intent,
 }
 
 // The terms of an edge that no refusal holds of, with its plan.
-#[derive(Drop)]
+#[derive(Clone, Copy)]
 pub struct Offer {
     pub terms: Terms,
     pub plan: Plan,

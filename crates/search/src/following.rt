@@ -50,7 +50,7 @@ fn other_end(front: u16, behind: u16, back: u16) -> u16 {
 }
 
 // Where a walk along a chain goes on: the list entry of the next edge end, or 0 where it stops. A branch that it stops at is to be queued.
-#[derive(Drop)]
+#[derive(Clone, Copy)]
 pub struct Onward {
     pub entry: u16,
     pub branch: u16,

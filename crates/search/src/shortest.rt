@@ -14,7 +14,7 @@ use relaxing::relax::settle;
 use tables::access::{of32, put32};
 
 // A distance, or that there is no way.
-#[derive(Drop)]
+#[derive(Clone, Copy)]
 pub enum Distance {
     Joined(Millimetres),
     NotJoined,

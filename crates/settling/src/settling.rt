@@ -18,14 +18,14 @@ use replacing::copying::copy_tables;
 const CHANGE: usize = 3;
 
 // How many fittings are reported in the slice.
-#[derive(Drop)]
+#[derive(Clone, Copy)]
 pub enum Removed {
     Reported(u16),
     Refused(Refusal),
 }
 
 // Of a remove on the tables of one house.
-#[derive(Drop)]
+#[derive(Clone, Copy)]
 pub struct RemovedOwn {
     pub counts: Counts,
     pub answer: Removed,

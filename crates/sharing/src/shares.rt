@@ -12,7 +12,7 @@ use counters::sizes::MAX_EDGES;
 use heads::heads::Heads;
 use licence::gate::{Passed, pass_others};
 
-#[derive(Drop)]
+#[derive(Clone, Copy)]
 pub enum SharesAnswer {
     Set,
     Refused(Refusal),

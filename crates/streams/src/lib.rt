@@ -1,3 +1,5 @@
 // What the programs read, and write on standard output and standard error.
+#![tactic(auto)]
+
 pub mod reading;
 pub mod writing;

@@ -6,14 +6,14 @@ ghost use Rattle.streams.specs.Input.{step_after, Held};
 pub const MAX_LIST: usize = 65536;
 
 // What reading gave: so many bytes at the slice's start, or that a read failed.
-#[derive(Drop)]
+#[derive(Clone, Copy)]
 pub enum ReadAnswer {
     Bytes(usize),
     Failed,
 }
 
 // How reading goes on behind a read: with so many bytes more, or not.
-#[derive(Drop)]
+#[derive(Clone, Copy)]
 pub enum ReadStep {
     More(usize),
     Stop(ReadAnswer),

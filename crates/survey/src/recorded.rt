@@ -16,7 +16,7 @@ use pnl::answers::refused;
 use recording::lists::record_list;
 
 // What may be asked where no tag is hung.
-#[derive(Drop)]
+#[derive(Clone, Copy)]
 pub enum Survey {
     Sheet,
     Distance(u32, u32),

@@ -10,7 +10,7 @@ use counters::numbers::{Edge, Vertex};
 
 // What lies round about a vertex: no ring; or a ring, with so many other vertices. Shared: one of them is the vertex that was asked
 // about beside it.
-#[derive(Drop)]
+#[derive(Clone, Copy)]
 pub enum Round {
     NoRing,
     Ring(u16),

@@ -8,14 +8,14 @@ use crate::steps::{far_end, turn_at};
 use counters::numbers::{Edge, Vertex};
 
 // A walker stands at a vertex, which it reached by an edge.
-#[derive(Drop)]
+#[derive(Clone, Copy)]
 pub struct Walker {
     pub edge: Edge,
     pub at: Vertex,
 }
 
 // Where two walks in lockstep stand when one has come to a singular vertex, and the steps of each.
-#[derive(Drop)]
+#[derive(Clone, Copy)]
 pub struct Meeting {
     pub first: Walker,
     pub second: Walker,

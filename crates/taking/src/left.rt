@@ -2,7 +2,7 @@
 use heads::heads::Heads;
 use settling::settling::Removed;
 
-#[derive(Drop)]
+#[derive(Clone, Copy)]
 pub struct Removal {
     pub heads: Heads,
     pub answer: Removed,

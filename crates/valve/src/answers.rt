@@ -8,7 +8,7 @@ ghost use Rattle.valve.specs.Answers.{as_window};
 use crate::numbers::{Minute, Recipe};
 
 // The slot that takes the next record, which is the oldest one's, and the stated sum of the window's records, at most 1,440,000,000 ml.
-#[derive(Drop)]
+#[derive(Clone, Copy)]
 pub struct Head {
     pub next: Minute,
     pub sum: u32,
@@ -26,7 +26,7 @@ impl Head {
     }
 }
 
-#[derive(Drop)]
+#[derive(Clone, Copy)]
 pub enum Refusal {
     WrongSize,
     NotFromArrivals,
@@ -34,14 +34,14 @@ pub enum Refusal {
 }
 
 // The record was taken, and this is the head from now on: the caller keeps it, with the tables. Or nothing has changed.
-#[derive(Drop)]
+#[derive(Clone, Copy)]
 pub enum Arrived {
     Taken(Head),
     Refused(Refusal),
 }
 
 // The recipe at the valve; or what is there is older than the window.
-#[derive(Drop)]
+#[derive(Clone, Copy)]
 pub enum AtValve {
     Recipe(Recipe),
     Older,

@@ -5,10 +5,10 @@ ghost use Rattle.counters.specs.Numbers.{within};
 ghost use Rattle.valve.specs.Numbers.{max_recipe, max_amount, slots, as_recipe, as_amount, as_minute};
 
 // The number of a recipe, of 16 bits.
-#[derive(Drop)]
+#[derive(Clone, Copy)]
 pub struct Recipe(pub u16);
 
-#[derive(Drop)]
+#[derive(Clone, Copy)]
 pub enum CheckedRecipe {
     Is(Recipe),
     OutOfRange,
@@ -29,10 +29,10 @@ impl Recipe {
 
 // The millilitres that passed in one minute. One above the bound can be made without the constructor: `arrive` refuses it with 40. The
 // water down to a valve and the sum of a window are other numbers, of any 32 bits.
-#[derive(Drop)]
+#[derive(Clone, Copy)]
 pub struct Amount(pub u32);
 
-#[derive(Drop)]
+#[derive(Clone, Copy)]
 pub enum CheckedAmount {
     Is(Amount),
     OutOfRange,
@@ -52,10 +52,10 @@ impl Amount {
 }
 
 // A minute of the window, and so the slot of its record; the record of 1,440 minutes later takes the same.
-#[derive(Drop)]
+#[derive(Clone, Copy)]
 pub struct Minute(pub u16);
 
-#[derive(Drop)]
+#[derive(Clone, Copy)]
 pub enum CheckedMinute {
     Is(Minute),
     OutOfRange,
