@@ -3,17 +3,8 @@ use lib.ListN.{replicate}
 use Rattle.model.specs.Tables as T
 use Rattle.nursery.specs.Nursery.{no_houses}
 use Rattle.heads.specs.Meaning.{as_heads, as_removals}
-use borrow.Author.Rules.{rules}
-use Rattle.heads.proofs.heads.Heads.none.Statement.{statement}
-use Rattle.heads.proofs.heads.Heads.none.Tie as tie
+use Rattle.heads.proofs.heads.Heads.none.Goals as goal
 
-returns : tie.Need-returns
+pub returns : goal.returns
 unfolding no_houses as_heads as_removals
 returns c = (ap (λ (x : T.Counts). replicate 8 x) c.none.ensures, refl)
-
-pub none_spec : {M : Type 1} → statement M
-none_spec =
-    tie.close
-    (tie.spec
-    (λ c κs. search rules)
-    returns)
