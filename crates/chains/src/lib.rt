@@ -1,4 +1,6 @@
 // Chains found by walking over the lent tables: names, and rows of the sheet.
+#![tactic(auto)]
+
 pub mod marks;
 pub mod names;
 pub mod numbers;

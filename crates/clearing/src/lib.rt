@@ -1,2 +1,4 @@
 // Whole tables: cleared, and compared.
+#![tactic(auto)]
+
 pub mod whole;

@@ -1,2 +1,4 @@
 // A chain looked through for a label.
+#![tactic(auto)]
+
 pub mod through;

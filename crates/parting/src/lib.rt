@@ -1,2 +1,4 @@
 // A chain becomes two, or a ring a loop.
+#![tactic(auto)]
+
 pub mod splitting;
