@@ -3,7 +3,6 @@ use Rattle.chains.proofs.SheetLaws.{put_none, put_on, put_all}
 use Rattle.chains.proofs.NameLaws.{sweep_start, sweep_on, sweep_end, unmarked_less}
 use mathlib.Core.List.{[], ◌∷◌, ◌++◌}
 use mathlib.Core.Path.{refl, ◌∙◌}
-use Prim.Native.Nat.{◌+◌, ◌-◌}
 use native.Mathlib.Omega.{arith}
 use Rattle.listing.proofs.listing.put_sheet_lines.Goals as goal
 
