@@ -1,4 +1,5 @@
 -- A remove on the tables of one house, from what the functions have computed to what the call is defined to leave and answer.
+use Rattle.std.specs.Prelude.{if◌then◌else◌}
 use mathlib.Core.Path.{◌≡◌, refl, sym, ap, ◌∙◌}
 use Prim.Native.Nat.{ℕ, ◌*◌, ◌<◌}
 use native.Mathlib.Omega.{arith}
@@ -8,7 +9,7 @@ use mathlib.Core.List.{List}
 use lib.ListN.{length}
 use lib.Dec.{leb, ltb}
 use borrow.Author.Tests.{leb-false, lt-leb}
-use Rattle.model.specs.Basics.{if◌then◌else◌, max_vertices}
+use Rattle.model.specs.Basics.{max_vertices}
 use Rattle.model.specs.Register.{Register, landed}
 use Rattle.model.specs.Queries.{refuses}
 use Rattle.model.specs.Tables.{Tables, Counts, cleared, counts_of, fits, grow_from, right_sizes, sizes, stored_of, tables_of}
