@@ -40,12 +40,12 @@ use Rattle.rest.proofs.RestLeft.{Left, rest_left}
 -- ---- the other edges, landed or not
 
 -- tables that keep their lengths keep their sizes
-pub sizes_kept : (t t' : Tables) {R : Type 0}
+pub sizes_kept : (t t' : Tables)
     → (length t'.degrees ≡ length t.degrees) × ((length t'.sides ≡ length t.sides) × ((length t'.ends ≡ length t.ends)
-    × ((length t'.lengths ≡ length t.lengths) × ((length t'.volumes ≡ length t.volumes) × ((length t'.labels ≡ length t.labels) × R)))))
+    × ((length t'.lengths ≡ length t.lengths) × ((length t'.volumes ≡ length t.volumes) × (length t'.labels ≡ length t.labels)))))
     → sizes t' ≡ sizes t
 unfolding sizes
-sizes_kept t t' k = rw (k.0, k.1.0, k.1.1.0, k.1.1.1.0, k.1.1.1.1.0, k.1.1.1.1.1.0)
+sizes_kept t t' k = rw (k.0, k.1.0, k.1.1.0, k.1.1.1.0, k.1.1.1.1.0, k.1.1.1.1.1)
 
 module _ (t s s' : Tables) (c : Counts) (d : ℕ) (xs : List ℕ) (a : AnswerIn) (e : landing_in s' a ≡ rest_in t.ends t.lengths t.volumes c d s) where
   tables_are : (rest_in t.ends t.lengths t.volumes c d s).tables ≡ s'
