@@ -10,7 +10,7 @@ use Rattle.growing.proofs.land.land_with.Goals as goal
 
 pub land_house-requires : goal.land_house-requires
 land_house-requires c =
-    λ κs. let k = open_known _ _ _ _ _ _ _ (ap as_passed (sym c.in-Open.is) ∙ c.pass_others-passed.ensures.0) in (k.0, k.1)
+    let k = open_known _ _ _ _ _ _ _ (ap as_passed (sym c.in-Open.is) ∙ c.pass_others-passed.ensures.0) in (k.0, k.1)
 
 pub shape_of-degrees-in-Open : goal.shape_of-degrees-in-Open
 shape_of-degrees-in-Open c =
