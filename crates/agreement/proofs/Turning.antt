@@ -5,7 +5,7 @@ use Prim.Native.Nat.{ℕ, zero, suc, ◌+◌, ◌*◌, ◌≤◌, ◌<◌}
 use native.Mathlib.Omega.{arith}
 use mathlib.Core.Bool.{Bool, true, false}
 use mathlib.Core.List.{List, ◌∷◌}
-use lib.ListN.{length, get_or, replicate}
+use lib.ListN.{length, get_or, set, replicate}
 use lib.Dec.{eqb}
 use Rattle.model.specs.Basics.{max_edges, max_vertices}
 use Rattle.model.specs.Graph.{Edge, degree, far, turn}
@@ -14,7 +14,7 @@ use Rattle.model.specs.Queries.{sheet}
 use Rattle.model.specs.Tables.{Tables, counts_of, tables_of}
 use Rattle.model.specs.Notions.{Reachable}
 use Rattle.tables.specs.Steps.{far_in, turn_in}
-use Rattle.chains.specs.Chains.{Marked, WalkEnd, goes_on_in, mark_chain_in, mark_in, names_in, row_in, rows_in, sheet_in, sweep_in, walk_in, walk_volume_in}
+use Rattle.chains.specs.Chains.{Marked, plus_volume32, WalkEnd, goes_on_in, mark_chain_in, mark_in, names_in, row_in, rows_in, sheet_in, sweep_in, walk_in, walk_volume_in}
 use Rattle.chains.proofs.WalkLaws.{walk_in_on, walk_in_stop}
 use Rattle.chains.proofs.VolumeLaws.{volume_on, volume_stop}
 use Rattle.chains.proofs.NameLaws.{mark_on, mark_stop}
@@ -49,14 +49,14 @@ module _ (ds ss ts es : List ℕ) (home : ℕ) where
   volume_alike vs known no_steps = refl
   volume_alike vs known (stays {n} {d} {v} q) = sym (volume_stop ds ss es vs home n known d v q) ∙ volume_stop ds ts es vs home n known d v q
   volume_alike vs known (passes {n} {d} {v} {c} {w} q i j f k) =
-      rw (volume_on ds ss es vs home n known d v c w q i f, volume_on ds ts es vs home n known d v c w q j f) (volume_alike vs _ k)
+      rw (volume_on ds ss es vs home n known d v c w q i f, volume_on ds ts es vs home n known d v c w q j f) (volume_alike vs (plus_volume32 known (get_or vs c 0)) k)
 
   mark_alike : (ms : List ℕ) {n d v : ℕ} → Alike ds ss ts es home n d v → mark_in ds ss es home n ms d v ≡ mark_in ds ts es home n ms d v
   unfolding mark_in
   mark_alike ms no_steps = refl
   mark_alike ms (stays {n} {d} {v} q) = sym (mark_stop ds ss es home n ms d v q) ∙ mark_stop ds ts es home n ms d v q
   mark_alike ms (passes {n} {d} {v} {c} {w} q i j f k) =
-      rw (mark_on ds ss es home n ms d v c w q i f, mark_on ds ts es home n ms d v c w q j f) (mark_alike _ k)
+      rw (mark_on ds ss es home n ms d v c w q i f, mark_on ds ts es home n ms d v c w q j f) (mark_alike (set ms c 1) k)
 
 -- where all walks from the two ends of an edge turn alike, so are the rows
 module _ (ds ss ts es ls vs : List ℕ) (n : ℕ) (first : (home e : ℕ) → e < n → Alike ds ss ts es home n e (get_or es (2 * e) 0))

@@ -1,5 +1,7 @@
 // For the tests alone: the search, and a round behind it that lowers what it can. That it finds nothing to lower is not proved, since the answer
 // does not rest on it; tests/confirming shows it on full-size houses.
+#![tactic(auto)]
+
 ghost use Rattle.std.specs.Prelude.{◌≤◌, ◌<◌, length};
 ghost use Rattle.model.specs.Basics.{max_vertices};
 ghost use Rattle.relaxing.specs.Distances.{Searchable};

@@ -1,4 +1,3 @@
 pub mod HeaderLaws
 pub mod RecordLaws
-pub mod Passed
 pub mod WritingLaws

@@ -3,6 +3,8 @@
 // call; lent: the same as C calls it, with an answer as one number; lines: the same from a line of a register's sheet.
 // Not for outsiders, since they pass 34 and 35 by: windows: 35, and the windows of one week.
 // It stands on no crate that touches a register: it knows one by its sheet's numbers alone.
+#![tactic(auto)]
+
 pub mod answers;
 pub mod lent;
 pub mod lines;

@@ -3,6 +3,8 @@
 // lent: the same as C calls it, with the head lent and an answer as one number.
 // Not for outsiders, since they pass 25, 21 and 40 by: slots: reads, and the slots of the ring; window: one record more, the walk
 // back, and whether arrivals from empty leave a window.
+#![tactic(auto)]
+
 pub mod answers;
 pub mod calls;
 pub mod lent;

@@ -1,0 +1,9 @@
+use Rattle.counters.proofs.Within.{within_yes, within_above}
+use native.Mathlib.Omega.{arith}
+use Rattle.valve.proofs.numbers.Minute.new.Goals as goal
+
+pub returns-then-n : goal.returns-then-n
+returns-then-n c = within_yes _ _ _ (omega arith) (omega arith)
+
+pub returns : goal.returns
+returns c = within_above _ _ _ (omega arith) (omega arith)
