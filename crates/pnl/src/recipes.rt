@@ -24,13 +24,7 @@ pub fn pnl_valve_arrive(
 }
 
 // The recipe at a valve with `volume` ml between the mixer and itself.
-pub fn pnl_valve_recipe(
-    recipes: &[u16],
-    amounts: &[u32],
-    next: u16,
-    sum: u32,
-    volume: u32,
-) -> i32
+pub fn pnl_valve_recipe(recipes: &[u16], amounts: &[u32], next: u16, sum: u32, volume: u32) -> i32
     ensures { in_c (window recipes.now amounts.now next sum) result
         ≡ outcome_in_c (asks volume (window recipes.now amounts.now next sum)) }
 {
