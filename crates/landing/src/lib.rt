@@ -1,2 +1,4 @@
 // Landing a list; records.rt has the functions.
+#![tactic(auto)]
+
 pub mod records;

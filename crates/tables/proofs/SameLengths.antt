@@ -17,9 +17,9 @@ pub record SameLengths (d₀ s₀ e₀ l₀ v₀ t₀ d s e l v t : List ℕ) : 
 pub same_refl : (d s e l v t : List ℕ) → SameLengths d s e l v t d s e l v t
 same_refl d s e l v t = record { degrees = refl; sides = refl; ends = refl; lengths = refl; volumes = refl; labels = refl }
 
--- .. and keep them in one call more, which may keep others too
-pub same_on : {d₀ s₀ e₀ l₀ v₀ t₀ d s e l v t d' s' e' l' v' t' : List ℕ} {R : Type 0}
-    → (length d' ≡ length d) × ((length s' ≡ length s) × ((length e' ≡ length e) × ((length l' ≡ length l) × ((length v' ≡ length v) × ((length t' ≡ length t) × R)))))
+-- .. and keep them in one call more
+pub same_on : {d₀ s₀ e₀ l₀ v₀ t₀ d s e l v t d' s' e' l' v' t' : List ℕ}
+    → (length d' ≡ length d) × ((length s' ≡ length s) × ((length e' ≡ length e) × ((length l' ≡ length l) × ((length v' ≡ length v) × (length t' ≡ length t)))))
     → SameLengths d₀ s₀ e₀ l₀ v₀ t₀ d s e l v t → SameLengths d₀ s₀ e₀ l₀ v₀ t₀ d' s' e' l' v' t'
 same_on k same = record {
   degrees = k.0 ∙ same.degrees;
@@ -27,5 +27,5 @@ same_on k same = record {
   ends = k.1.1.0 ∙ same.ends;
   lengths = k.1.1.1.0 ∙ same.lengths;
   volumes = k.1.1.1.1.0 ∙ same.volumes;
-  labels = k.1.1.1.1.1.0 ∙ same.labels;
+  labels = k.1.1.1.1.1 ∙ same.labels;
 }
