@@ -2,6 +2,8 @@
 // and nothing is kept between calls; `recipes` has the two on a valve's window, and `windows` the one that plans a change, which take no list.
 // The sheet and the distance stand in `survey`, the quote in `costs`, each in an object of its own; `pnl_c` exports the calls of this crate.
 // include/pnl.h says the same in C.
+#![tactic(auto)]
+
 pub mod answers;
 pub mod asked;
 mod finding;
