@@ -1,13 +1,13 @@
 -- The ways out of `canonical_list`, and what its answer counts.
 use mathlib.Core.Path.{◌≡◌, sym, ap, subst, ◌∙◌}
-use Prim.Native.Nat.{ℕ, ◌+◌, ◌*◌, ◌≤◌, ◌<◌}
+use Prim.Native.Nat.{ℕ, ◌≤◌, ◌<◌}
 use native.Mathlib.Omega.{arith}
 use mathlib.Core.List.{List}
 use lib.ListN.{length, take}
 use borrow.Author.Tests.{lt-ltb, le-ltb}
 use Rattle.model.specs.Basics.{max_edges, max_vertices}
 use Rattle.model.specs.Register.{Register}
-use Rattle.model.specs.Format.{Read, Stop, whole, stopped, grow_list, written}
+use Rattle.model.specs.Format.{Stop, whole, stopped, grow_list, written}
 use Rattle.model.specs.Tables.{counts_of, cleared, no_counts}
 use Rattle.model.specs.Printing.{ascii, stop_line}
 use Rattle.model.specs.Notions.{Reachable}

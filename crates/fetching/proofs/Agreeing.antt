@@ -64,9 +64,9 @@ module _ (r : Register) (g : Reachable r) (s : OpenSheet) where
   agrees_so h l q = subst (λ (x : Landed). Agrees x (regrown t c)) (grows_so h ∙ q) (regrow_agrees t c)
 
   -- the line over what the landing left
-  line_on : (q : Register) → Reachable q → (counts_of q).edges ≡ s.edges → left_by (regrown t c) ≡ some (stored (tables_of q) (counts_of q))
+  line_on_lem : (q : Register) → Reachable q → (counts_of q).edges ≡ s.edges → left_by (regrown t c) ≡ some (stored (tables_of q) (counts_of q))
       → line_on s (regrown t c).tables (regrown t c).answer ≡ fetch_line s (line_at s.place (sheet q))
-  line_on q k n e = go (regrown t c).answer refl
+  line_on_lem q k n e = go (regrown t c).answer refl
     where
       go : (a : AnswerIn) → (regrown t c).answer ≡ a → line_on s (regrown t c).tables (regrown t c).answer ≡ fetch_line s (line_at s.place (sheet q))
       go (done c' rings) p =
@@ -94,7 +94,7 @@ module _ (r : Register) (g : Reachable r) (s : OpenSheet) where
           let b : is_beyond r s ≡ false = rw (p, q) w in
           let n : NamedIn r s = named r g s b in
           let a = agrees_so (ltb-false (length r.edges) s.edges q) (landed n.register) n.grown in
-          rw (p, q, w) (line_on n.register n.reachable n.edges_counted a ∙ ap (λ (rows : List (List ℕ)). fetch_line s (line_at s.place rows)) (sym n.lines_are))
+          rw (p, q, w) (line_on_lem n.register n.reachable n.edges_counted a ∙ ap (λ (rows : List (List ℕ)). fetch_line s (line_at s.place rows)) (sym n.lines_are))
 
   -- a sheet with the count of removals that the house has
   pub fetch_agrees : (removals : ℕ) → s.removals ≡ removals → fetched_over ≡ fetch removals r s

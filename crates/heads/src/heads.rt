@@ -9,7 +9,7 @@ ghost use Rattle.heads.specs.Meaning.{as_heads, as_removals};
 use counters::counts::Counts;
 
 // Each house has its head, and its count of removals beside it (document 02, S-11).
-#[derive(Drop)]
+#[derive(Clone, Copy)]
 pub struct Heads {
     pub counts: [Counts; 8],
     pub removals: [u32; 8],

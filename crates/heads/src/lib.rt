@@ -1,6 +1,8 @@
 // Eight houses on one licence (document 02, S-10). The tables of all houses are lent as one, each eight times as long; house h has the part
 // from h times its own size on.
 // heads: the head of each house; reserves: the sum that the licence bounds; sizes: 25.
+#![tactic(auto)]
+
 pub mod heads;
 pub mod reserves;
 pub mod sizes;

@@ -1,98 +1,40 @@
--- What an answer of the system's read means: by the tests on it, and by the room that it was given.
-use Prim.Native.Nat.{ℕ, zero, suc, ◌≤◌, ◌<◌, zero-le, suc-le-suc}
-use native.Mathlib.Nat.{not-suc-le-zero}
-use mathlib.Core.Bool.{Bool, true, false}
-use mathlib.Core.List.{List}
-use mathlib.Core.Path.{◌≡◌, refl, sym, ap, subst, ◌∙◌}
-use lib.Dec.{T, ltb→lt, lt→ltb}
-use lib.IntN.{ℤ, pos, negsuc, nat_abs}
-use lib.ListN.{length}
-use lib.Seq.{length-take-le}
-use lib.Signed.{lt_z, non_neg}
-use mir.Facts.{Fits-nat_abs}
-use mir.Syntax.{w64}
-use mir.Val.{Fits, SFits, to_z, of_z}
-use mir.ValLaws.{to_z-of_z}
+-- What a read's answer means, and what stands in the slice behind it.
+use Rattle.std.specs.Prelude.{ℕ, zero, suc, ◌≡◌, ◌+◌, ◌≤◌, List, ◌++◌, length, take, drop, Option, Result, Ok, Err}
+use Rattle.std.proofs.Common.{sym, ap, subst, ◌∙◌, arith, le_refl, drop_at, length-take-le}
+use Rattle.std.proofs.KnownBytes.{Consumes-trans}
+use Rattle.std.proofs.lemmas.Slice.{take-put_mid_below}
+use Rattle.std.specs.Io.{ReadsAtMost}
+use Rattle.std.specs.Io.KnownBytes.{Consumes, ReadConsumes}
+use borrow.Rule.Slice.PartMut.{put_mid, post_of}
+use lib.Seq.{take-add, take-append-le}
 use Rattle.io.specs.Counts.{IsPrefixLen}
-use Rattle.libc.specs.Io.{Moved}
 use Rattle.streams.specs.Input.{step_after, Held}
 use Rattle.streams.specs.declared.reading.ReadAnswer.{ReadAnswer}
-use Rattle.streams.specs.declared.reading.ReadAnswer.TheVariants.{Bytes, Failed}
-use Rattle.streams.specs.declared.reading.ReadStep.{ReadStep}
-use Rattle.streams.specs.declared.reading.ReadStep.TheVariants.{More, Stop}
+use Rattle.streams.specs.declared.reading.ReadAnswer.TheVariants.{Bytes}
+use Rattle.streams.specs.declared.reading.ReadStep.TheVariants.{More}
 
--- a test that held, against what it tests
-refused : (b : Bool) → b ≡ true → (T b → ⊥) → ⊥
-refused b e h = h (subst T (sym e) tt)
+-- what a read put behind the first d bytes, as far as it counts
+put_front : (d k m : ℕ) (xs ys : List ℕ) → d ≤ length xs → k ≤ length ys → take (d + k) (put_mid d m xs ys) ≡ take d xs ++ take k ys
+put_front d k m xs ys within fits =
+    let behind : drop d (put_mid d m xs ys) ≡ ys ++ post_of d m xs = drop_at (take d xs) (ys ++ post_of d m xs) d (length-take-le d xs within) in
+    let part : take k (drop d (put_mid d m xs ys)) ≡ take k ys = ap (take k) behind ∙ take-append-le k ys (post_of d m xs) fits in
+    let front : take d (put_mid d m xs ys) ≡ take d xs = take-put_mid_below d m xs ys d (le_refl d) within in
+    take-add d k (put_mid d m xs ys) ∙ ap (λ l. l ++ take k (drop d (put_mid d m xs ys))) front ∙ ap (λ l. take d xs ++ l) part
 
-below : (d : ℕ) (z : ℤ) → lt_z z (pos 0) ≡ true → Stop Failed ≡ step_after d z
-below d (pos n) e = absurd (refused _ e (λ t. not-suc-le-zero (ltb→lt n 0 t)))
-below d (negsuc n) e = refl
-
-above : (d : ℕ) (z : ℤ) → lt_z (pos 0) z ≡ true → T (non_neg z) × (More (nat_abs z) ≡ step_after d z)
-above d (pos zero) e = absurd (refused _ e (λ t. not-suc-le-zero (ltb→lt 0 0 t)))
-above d (pos (suc n)) e = (tt, refl)
-above d (negsuc n) e = absurd (refused _ e (λ t. t))
-
-between : (d : ℕ) (z : ℤ) → lt_z z (pos 0) ≡ false → lt_z (pos 0) z ≡ false → Stop (Bytes d) ≡ step_after d z
-between d (pos zero) e f = refl
-between d (pos (suc n)) e f = absurd (subst T f (lt→ltb 0 (suc n) (suc-le-suc zero-le)))
-between d (negsuc n) e f = absurd (subst T e tt)
-
--- the number as the machine reads it back from its bits
-abbrev pub back : ℤ → ℤ
-back z = to_z w64 (of_z w64 z)
-
-same_step : (d : ℕ) (z : ℤ) → SFits w64 z → step_after d (back z) ≡ step_after d z
-same_step d z fits = ap (step_after d) (to_z-of_z w64 z fits)
-
-module _ (d : ℕ) (z : ℤ) (fits : SFits w64 z) where
-  -- below 0: reading failed; above: so many bytes more; 0: the end
-  pub step_failed : lt_z (back z) (pos 0) ≡ true → Stop Failed ≡ step_after d z
-  step_failed e = below d (back z) e ∙ same_step d z fits
-
-  pub step_more : lt_z (pos 0) (back z) ≡ true → More (nat_abs (back z)) ≡ step_after d z
-  step_more e = (above d (back z) e).1 ∙ same_step d z fits
-
-  pub step_end : lt_z (back z) (pos 0) ≡ false → lt_z (pos 0) (back z) ≡ false → Stop (Bytes d) ≡ step_after d z
-  step_end e f = between d (back z) e f ∙ same_step d z fits
-
-  -- a number above 0 fits as a count of bytes
-  pub more_fits : lt_z (pos 0) (back z) ≡ true → T (non_neg (back z)) × Fits w64 (nat_abs (back z))
-  more_fits e = ((above d (back z) e).0, Fits-nat_abs tt (subst (SFits w64) (sym (to_z-of_z w64 z fits)) fits))
-
-abbrev is_more : ReadStep → Bool
-is_more (More n) = true
-is_more (Stop a) = false
-
-abbrev size : ReadStep → ℕ
-size (More n) = n
-size (Stop a) = 0
-
-abbrev answer : ReadStep → ReadAnswer
-answer (More n) = Failed
-answer (Stop a) = a
-
-moved : (d n k : ℕ) (z : ℤ) → Moved n z → More k ≡ step_after d z → (0 < k) × (k ≤ n)
-moved d n k (pos zero) m e = absurd (subst T (ap is_more e) tt)
-moved d n k (pos (suc l)) m e =
-    let same : k ≡ suc l = ap size e in
-    (subst (λ (x : ℕ). 0 < x) (sym same) (suc-le-suc zero-le), subst (λ (x : ℕ). x ≤ n) (sym same) m)
-moved d n k (negsuc l) m e = absurd (subst T (ap is_more e) tt)
-
--- more bytes are at least one, and no more than there was room for
-pub more_moved : (d n k : ℕ) (z : ℤ) → SFits w64 z → Moved n z → More k ≡ step_after d (back z) → (0 < k) × (k ≤ n)
-more_moved d n k z fits m e = moved d n k z m (e ∙ same_step d z fits)
+-- more bytes are those of a read that gave as many: they too are taken from the source
+pub more_taken : {E : Type 0} (d k m : ℕ) (r : Result ℕ E) (a b c : Option (List ℕ)) (xs ys : List ℕ) → More k ≡ step_after d r → d ≤ length xs
+    → Consumes a b (take d xs) → ReadsAtMost r ys → ReadConsumes b c r ys → Consumes a c (take (d + k) (put_mid d m xs ys))
+more_taken d k m (Ok zero) a b c xs ys e within before bound read = absurd (cc)
+more_taken d k m (Ok (suc n)) a b c xs ys e within before bound read =
+    let same : k ≡ suc n = cc in
+    let fits : k ≤ length ys = omega (arith, bound.0) in
+    let took : Consumes b c (take k ys) = subst (λ (x : ℕ). Consumes b c (take x ys)) (sym same) read.0 in
+    subst (Consumes a c) (sym (put_front d k m xs ys within fits)) (Consumes-trans a b c _ _ before took)
+more_taken d k m (Err x) a b c xs ys e within before bound read = absurd (cc)
 
 -- so many bytes are counted in front of a slice that has them
 pub counted : (n : ℕ) (xs : List ℕ) → n ≤ length xs → IsPrefixLen n xs
 counted n xs h = (h, sym (length-take-le n xs h))
-
--- where reading stops, what was read stands in the slice
-pub stop_held : (d : ℕ) (a : ReadAnswer) (z : ℤ) (xs : List ℕ) → Stop a ≡ step_after d z → d ≤ length xs → Held a xs
-stop_held d a (pos zero) xs e h = subst (λ (r : ReadAnswer). Held r xs) (sym (ap answer e)) (counted d xs h)
-stop_held d a (pos (suc n)) xs e h = subst (λ (r : ReadAnswer). Held r xs) (sym (ap answer e)) tt
-stop_held d a (negsuc n) xs e h = subst (λ (r : ReadAnswer). Held r xs) (sym (ap answer e)) tt
 
 -- so many bytes were read, and stand there
 pub bytes_held : (r : ReadAnswer) (n : ℕ) (xs : List ℕ) → r ≡ Bytes n → Held r xs → IsPrefixLen n xs

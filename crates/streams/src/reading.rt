@@ -1,6 +1,9 @@
 // Reading a list, where a read that fails is not taken for the list's end.
 ghost use Rattle.std.specs.Prelude.{◌≡◌};
-ghost use Rattle.streams.specs.Input.{step_after, Held};
+ghost use Rattle.streams.specs.Input.{step_after, Held, Took};
+
+use std::io;
+use std::io::{Input, Read};
 
 // "At most 65,536 bytes": a longer list is not read as one.
 pub const MAX_LIST: usize = 65536;
@@ -19,28 +22,28 @@ pub enum ReadStep {
     Stop(ReadAnswer),
 }
 
-// What the system's read answered, behind so many bytes. One that a signal interrupted has failed too: nothing says that asking again
-// would end, and the program handles no signal, so a file, a pipe or a terminal gives it none.
-fn step_after(done: usize, got: isize) -> ReadStep
+// What a read answered, behind so many bytes. One that a signal interrupted has failed too: std's `read` does not ask again, nothing says that
+// asking again would end, and the program handles no signal, so a file, a pipe or a terminal gives it none.
+fn step_after(done: usize, got: io::Result<usize>) -> ReadStep
     ensures { result ≡ step_after done got }
 {
-    if got < 0 {
-        return ReadStep::Stop(ReadAnswer::Failed);
+    match got {
+        Ok(0) => ReadStep::Stop(ReadAnswer::Bytes(done)),
+        Ok(count) => ReadStep::More(count),
+        Err(_) => ReadStep::Stop(ReadAnswer::Failed),
     }
-    if 0 < got {
-        return ReadStep::More(got as usize);
-    }
-    ReadStep::Stop(ReadAnswer::Bytes(done))
 }
 
-// Reads from a descriptor until the slice is full, the input ends or a read fails. Which bytes a read gives, and what it answers, no contract
-// can say: so what an answer means is all in `step_after`, and here it is only handed on.
-pub fn read_from(source: i32, list: &mut [u8]) -> ReadAnswer
-    ensures { Held result list.new }
+// Reads from a source until the slice is full, the input ends or a read fails. Which bytes a read of a file gives, and what it answers, no
+// contract can say: so what an answer means is all in `step_after`, and here it is only handed on. Of a source that says which bytes it has
+// left, as one over memory, it takes those.
+pub fn read_from<R: Read>(source: &mut R, list: &mut [u8]) -> ReadAnswer
+    ensures held { Held result list.new }
+    ensures took { Took (R.remaining source.old) (R.remaining source.new) result list.new }
 {
     let mut done = 0;
     while done < list.len() {
-        let got = libc::read(source, &mut list[done..]);
+        let got = source.read(&mut list[done..]);
         let step = step_after(done, got);
         match step {
             ReadStep::More(count) => done += count,
@@ -51,8 +54,8 @@ pub fn read_from(source: i32, list: &mut [u8]) -> ReadAnswer
 }
 
 // The same from standard input.
-pub fn read_list(list: &mut [u8]) -> ReadAnswer
+pub fn read_list<R: Input>(rt: &R, list: &mut [u8]) -> ReadAnswer
     ensures { Held result list.new }
 {
-    read_from(libc::STDIN_FILENO, list)
+    read_from(&mut rt.reader(), list)
 }

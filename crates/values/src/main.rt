@@ -1,5 +1,7 @@
 // Runs the values of document 01 that are not marked M, and the limits, at full size. Each line of the output is: fittings, pipes, and
 // where the list stopped (record and refusal, or 0 0).
+#![tactic(auto)]
+
 mod lists;
 
 use calls::grow::grow_own;
@@ -7,6 +9,8 @@ use counters::answers::{ListAnswer, Stop};
 use counters::counts::Counts;
 use counters::sizes::{EDGES, ENDS, MAX_EDGES, SIDES, VERTICES};
 use lists::{put_edges, put_start};
+use std::io;
+use std::io::Print;
 use text::lines::put_line4;
 use text::records::put_edge;
 use text::writing::put_byte;
@@ -79,13 +83,14 @@ fn put_result(out: &mut [u8], at: usize, bytes: &[u8], n: usize) -> usize {
     )
 }
 
-fn show(text: &[u8], n: usize) {
+fn show<P: Print>(output: &P, text: &[u8], n: usize) -> io::Result<()> {
     if n <= text.len() {
-        io::write_all(1, &text[..n]);
+        output.write_all(&text[..n])?;
     }
+    Ok(())
 }
 
-fn main() {
+fn main(rt: HostRuntime) -> io::Result<()> {
     let mut out = [0u8; 1024];
     let mut list = [0u8; 65536];
 
@@ -112,5 +117,5 @@ fn main() {
     // A last record of the one byte 0x00: 4.
     let zero = put_byte(&mut list, full, 0);
     at = put_result(&mut out, at, &list, zero);
-    show(&out, at);
+    show(&rt, &out, at)
 }

@@ -1,28 +1,10 @@
-use Rattle.streams.proofs.Input.{more_moved, counted, stop_held, back}
-use Prim.Native.Nat.{◌-◌}
-use mathlib.Core.Path.{sym, ◌∙◌}
-use native.Mathlib.Omega.{arith}
-use borrow.Author.Rules.{sfits_of}
+use Rattle.std.proofs.Common.{rules}
+use Rattle.streams.proofs.Input.{more_taken}
 use Rattle.streams.proofs.reading.read_from.Goals as goal
 
-pub overflow_add-done : goal.overflow_add-done
-overflow_add-done c =
-    let m = more_moved c.loop-done.done _ _ c.read-got.result (sfits_of c.read-got.type-inv) c.read-got.ensures (sym c.in-More.is ∙ c.step_after-step.ensures) in
-    omega (arith, m.1)
-
-pub loop-done-smaller : goal.loop-done-smaller
-loop-done-smaller c =
-    let m = more_moved c.loop-done.done _ _ c.read-got.result (sfits_of c.read-got.type-inv) c.read-got.ensures (sym c.in-More.is ∙ c.step_after-step.ensures) in
-    omega (arith, m.0, m.1)
-
 pub loop-done-preserved : goal.loop-done-preserved
-loop-done-preserved c =
-    let m = more_moved c.loop-done.done _ _ c.read-got.result (sfits_of c.read-got.type-inv) c.read-got.ensures (sym c.in-More.is ∙ c.step_after-step.ensures) in
-    (omega (arith, m.1), omega arith)
-
-pub returns-in-Stop : goal.returns-in-Stop
-returns-in-Stop c =
-    stop_held c.loop-done.done _ (back c.read-got.result) _ (sym c.in-Stop.is ∙ c.step_after-step.ensures) (omega arith)
-
-pub returns : goal.returns
-returns c = counted _ _ (omega arith)
+loop-done-preserved g c = record {
+  within = search rules;
+  same_length = search rules;
+  taken = more_taken c.loop-done.done c.in-More.count _ _ _ _ _ c.loop-done.list c.read-got.new.buf c.in-More.ensures c.loop-done.invariant.within c.loop-done.invariant.taken c.read-got.ensures.bound c.read-got.ensures.bytes;
+}

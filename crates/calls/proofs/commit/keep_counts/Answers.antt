@@ -1,0 +1,7 @@
+use Rattle.calls.proofs.commit.keep_counts.Goals as goal
+
+pub returns-in-Done : goal.returns-in-Done
+returns-in-Done c = (rw c.in-Done.is, rw c.in-Done.is)
+
+pub returns-in-Refused : goal.returns-in-Refused
+returns-in-Refused c = (rw c.in-Refused.is, rw c.in-Refused.is)
