@@ -4,7 +4,7 @@ use Rattle.chains.proofs.NameLaws.{sweep_start, sweep_on, sweep_end, unmarked_le
 use Rattle.text.specs.Pages.{Page}
 use lib.ListN.{length, length-append}
 use native.Mathlib.Omega.{arith}
-use Prim.Native.Nat.{ℕ, ◌-◌}
+use Prim.Native.Nat.{ℕ}
 use mathlib.Core.List.{List, [], ◌∷◌, ◌++◌}
 use mathlib.Core.Path.{refl, ap, ◌∙◌}
 use Rattle.survey.proofs.sheet.put_sheet_bytes.Goals as goal
