@@ -1,7 +1,6 @@
 -- The refusal before every call but grow, and what grow clears.
-use Rattle.std.specs.Prelude.{ℕ, Bool, not}
+use Rattle.std.specs.Prelude.{ℕ, Bool, not, if◌then◌else◌}
 use Rattle.std.proofs.Math.Option.{Option, none, some}
-use Rattle.model.specs.Basics.{if◌then◌else◌}
 use Rattle.model.specs.Tables.{Tables, held}
 use Rattle.admission.specs.Own.{Lent, all_fit}
 use Rattle.counters.specs.Refusals.{number_of}

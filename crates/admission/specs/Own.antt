@@ -1,8 +1,7 @@
 -- What is done on the tables of one house alone, which are its part of those of all eight: 25 and 21 of this house, then the effect of the call.
 -- What stands before it, of the other houses and of the licence, is in `licence`; the limit and the count of removals come from there.
-use Rattle.std.specs.Prelude.{ℕ, Bool, not, ◌&&◌, List}
+use Rattle.std.specs.Prelude.{ℕ, Bool, not, ◌&&◌, List, if◌then◌else◌}
 use Rattle.std.proofs.Math.Option.{Option, none, some}
-use Rattle.model.specs.Basics.{if◌then◌else◌}
 use Rattle.model.specs.Register.{Register, empty}
 use Rattle.model.specs.Queries.{Reply, refuses}
 use Rattle.model.specs.Tables.{Tables, Stored, cleared, fits, held, stored_of}

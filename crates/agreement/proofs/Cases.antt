@@ -1,4 +1,5 @@
 -- Which table function an insertion is, by two tests of each end: is it a leaf, is it regular.
+use Rattle.std.specs.Prelude.{if◌then◌else◌}
 use mathlib.Core.Path.{◌≡◌, refl}
 use Prim.Native.Nat.{ℕ, zero, suc}
 use native.Mathlib.Omega.{arith}
@@ -6,7 +7,6 @@ use mathlib.Core.Bool.{Bool, true, false}
 use mathlib.Core.List.{List}
 use lib.Dec.{eqb}
 use borrow.Author.Tests.{ne_eqb}
-use Rattle.model.specs.Basics.{if◌then◌else◌}
 use Rattle.model.specs.Cases.{Class, branch, case_of, class_of, isolated, leaf, regular}
 use Rattle.counters.specs.Numbers.{vertex_of}
 use Rattle.parting.specs.declared.splitting.Splits.TheVariants.{Both, Neither, One}

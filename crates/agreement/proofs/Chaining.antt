@@ -1,5 +1,6 @@
 -- A walk over the tables of a register is the walk over its edges until its home: it ends where that one ends, passes as many regular
 -- vertices, and the sum of its lengths is never cut at 32 bits, nor that of its volumes where all of them fit.
+use Rattle.std.specs.Prelude.{if◌then◌else◌}
 use mathlib.Core.Path.{◌≡◌, refl, sym, ap, ◌∙◌, subst}
 use mathlib.Core.Logic.{◌≢◌, ◌⊎◌, inl, inr}
 use Prim.Native.Nat.{ℕ, zero, suc, ◌+◌, ◌*◌, ◌≤◌, ◌<◌, min}
@@ -10,7 +11,7 @@ use lib.Dec.{eqb}
 use mathlib.Core.Bool.{Bool, true, false, ◌&&◌, ◌||◌}
 use mathlib.Core.List.{List, [], ◌∷◌, map}
 use lib.ListN.{length, get_or, length-map, get_or-eq_default}
-use Rattle.model.specs.Basics.{if◌then◌else◌, max_edges, max_length, sum}
+use Rattle.model.specs.Basics.{max_edges, max_length, sum}
 use Rattle.model.specs.Graph.{Edge, Pass, after_of, at_of, edge_at, end_of, far, is_regular, length_at, lengths_of, no_edge, turn, until, volume_at, walk}
 use Rattle.model.specs.Register.{Register}
 use Rattle.model.specs.Tables.{Tables, tables_of}

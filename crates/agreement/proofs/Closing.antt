@@ -1,4 +1,5 @@
 -- Both ends are the leaves of one chain: the edge closes a ring.
+use Rattle.std.specs.Prelude.{if◌then◌else◌}
 use mathlib.Core.Path.{◌≡◌, refl, sym, ap, ◌∙◌}
 use mathlib.Core.Logic.{◌≢◌}
 use Prim.Native.Nat.{ℕ, ◌+◌, ◌*◌, ◌<◌}
@@ -9,7 +10,7 @@ use lib.ListN.{length, get_or, set}
 use lib.Seq.{get_or-set_other}
 use lib.Dec.{eqb}
 use borrow.Author.Tests.{eqb-true}
-use Rattle.model.specs.Basics.{if◌then◌else◌, max_vertices}
+use Rattle.model.specs.Basics.{max_vertices}
 use Rattle.model.specs.Graph.{Edge, Pass, degree, ends_at, far, is_regular, only_edge}
 use Rattle.model.specs.Cases.{closes_ring}
 use Rattle.model.specs.Labels.{Marks, attach, base, close, close_over, inwards, label_path, mark, next, relabel_count}

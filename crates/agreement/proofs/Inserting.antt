@@ -1,5 +1,6 @@
 -- One edge into the tables of a register that landing leaves, in every case: the degrees, sides, labels and counts that the definitions
 -- leave, and whether it closes a ring.
+use Rattle.std.specs.Prelude.{if◌then◌else◌}
 use mathlib.Core.Path.{◌≡◌, refl, sym, ap₂, ◌∙◌}
 use mathlib.Core.Logic.{◌≢◌}
 use Prim.Native.Nat.{ℕ, ◌<◌}
@@ -10,7 +11,7 @@ use mathlib.Core.List.{List, [], ◌∷◌, ◌++◌}
 use lib.ListN.{length, get_or}
 use lib.Dec.{eqb}
 use borrow.Author.Tests.{eq-eqb, ne_eqb}
-use Rattle.model.specs.Basics.{if◌then◌else◌, max_vertices}
+use Rattle.model.specs.Basics.{max_vertices}
 use Rattle.model.specs.Graph.{Edge, degree, ends_at, is_leaf, is_regular}
 use Rattle.model.specs.Cases.{closes_ring}
 use Rattle.model.specs.Labels.{Marks, close, label_edge}

@@ -1,5 +1,6 @@
 -- Landing an edge on the tables of a register that landing leaves: the tables, counts and refusals of the definition, and whether a
 -- ring may stand then.
+use Rattle.std.specs.Prelude.{if◌then◌else◌}
 use mathlib.Core.Path.{◌≡◌, refl, sym, ap, ap₂, ◌∙◌}
 use mathlib.Core.Logic.{◌≢◌}
 use Prim.Native.Nat.{ℕ, ◌+◌, ◌≤◌, ◌<◌}
@@ -11,7 +12,7 @@ use lib.ListN.{length, set}
 use lib.Dec.{eqb, leb, ltb}
 use native.Mathlib.Decide.{dec_lt}
 use borrow.Author.Tests.{lt-ltb, le-ltb}
-use Rattle.model.specs.Basics.{if◌then◌else◌, max_edges, max_length, max_vertices, max_volume}
+use Rattle.model.specs.Basics.{max_edges, max_length, max_vertices, max_volume}
 use Rattle.model.specs.Graph.{Edge}
 use Rattle.model.specs.Cases.{closes_ring}
 use Rattle.model.specs.Labels.{label_edge, relabel_count}

@@ -1,4 +1,5 @@
 -- Labels laid along a path of the tables: the sides and labels that the marks say, and the number of vertices relabelled.
+use Rattle.std.specs.Prelude.{if◌then◌else◌}
 use mathlib.Core.Path.{◌≡◌, refl, sym, ap, ◌∙◌}
 use mathlib.Core.Logic.{◌≢◌}
 use Prim.Native.Nat.{ℕ, zero, suc, ◌+◌, ◌*◌, ◌≤◌, ◌<◌}
@@ -9,7 +10,7 @@ use mathlib.Core.Bool.{Bool, true, false}
 use mathlib.Core.List.{List, [], ◌∷◌}
 use lib.ListN.{length, get_or, set, length-set}
 use lib.Seq.{get_or-set_other}
-use Rattle.model.specs.Basics.{if◌then◌else◌, max_vertices}
+use Rattle.model.specs.Basics.{max_vertices}
 use Rattle.model.specs.Graph.{Edge, Pass, far, is_regular, turn}
 use Rattle.model.specs.Labels.{Marks, label_path, mark, next, relabel_count}
 use Rattle.tables.specs.Steps.{most32, set_pair, turn_in}

@@ -1,4 +1,5 @@
 -- Linked: at a vertex the table of sides says what the edges say. Then turns and far ends by the tables are those of the edges.
+use Rattle.std.specs.Prelude.{if◌then◌else◌}
 use mathlib.Core.Path.{◌≡◌, sym, ◌∙◌}
 use mathlib.Core.Logic.{◌≢◌, ◌⊎◌, inl, inr}
 use Prim.Native.Nat.{ℕ, ◌+◌, ◌*◌, ◌<◌}
@@ -9,7 +10,6 @@ use lib.ListN.{length, get_or, set}
 use lib.Seq.{get_or-set_same, get_or-set_other}
 use lib.Dec.{eqb}
 use borrow.Author.Tests.{eq-eqb, ne_eqb}
-use Rattle.model.specs.Basics.{if◌then◌else◌}
 use Rattle.model.specs.Graph.{Edge, degree, edge_at, ends_at, far, incident, only_edge, turn}
 use Rattle.tables.specs.Steps.{far_in, set_pair, turn_in}
 use Rattle.model.proofs.Walks.Degree.{Proper, degree_snoc, ends_at_le, two_ends, zero_or_one}

@@ -1,4 +1,5 @@
 -- Both ends are leaves: two chains become one, or the edge closes a ring.
+use Rattle.std.specs.Prelude.{if◌then◌else◌}
 use mathlib.Core.Path.{◌≡◌, refl, sym, ap, ◌∙◌}
 use mathlib.Core.Logic.{◌≢◌}
 use Prim.Native.Nat.{ℕ, ◌*◌, ◌≤◌, ◌<◌}
@@ -9,7 +10,6 @@ use mathlib.Core.List.{List, [], ◌∷◌, ◌++◌}
 use lib.ListN.{length, get_or}
 use lib.Dec.{eqb}
 use borrow.Author.Tests.{eq-eqb, eqb-false, eqb-true, le-leb, lt-leb}
-use Rattle.model.specs.Basics.{if◌then◌else◌}
 use Rattle.model.specs.Graph.{Edge, Pass, degree, end_of, end_onwards, ends_at, far, is_leaf, only_edge, onwards}
 use Rattle.model.specs.Cases.{closes_ring}
 use Rattle.model.specs.Labels.{Labelling, Marks, attach, inwards, join_path, merge}

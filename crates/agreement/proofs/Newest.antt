@@ -1,4 +1,5 @@
 -- The search from the newest chain over the tables takes what the search of model takes, and tells of the vertex whose chain that one names.
+use Rattle.std.specs.Prelude.{if◌then◌else◌}
 use mathlib.Core.Path.{◌≡◌, refl, sym, ap, ◌∙◌, subst}
 use mathlib.Core.Logic.{◌≢◌, ◌⊎◌, inl, inr}
 use Prim.Native.Nat.{ℕ, zero, suc, ◌+◌, ◌-◌, ◌*◌, ◌≤◌, ◌<◌, min, max}
@@ -15,7 +16,6 @@ use mathlib.Core.List.{List, [], ◌∷◌, map, Memᴰ as Mem}
 use lib.ListN.{length, get_or}
 use lib.Dec.{eqb, ltb}
 use borrow.Author.Tests.{eq-eqb, ne_eqb, lt-ltb, le-ltb, ltb-true}
-use Rattle.model.specs.Basics.{if◌then◌else◌}
 use Rattle.model.specs.Graph.{Edge, Pass, at_of, chain_of, edge_at, edge_on_ring, far, is_regular, lower_numbered, once_round, onwards, turn, until, walk}
 use Rattle.model.specs.Register.{Register, label_of, low_edge_of, marks_of}
 use Rattle.model.specs.Queries.{Reply, chain_at, found_at}

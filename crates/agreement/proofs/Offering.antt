@@ -1,5 +1,6 @@
 -- What is read for an edge that passed the refusals (document 02, S-5): whether it would close a ring, and how many vertices it would relabel.
 -- By the degrees of its ends the one or the other work is done for it, and for each what is read before is what the work then does.
+use Rattle.std.specs.Prelude.{if◌then◌else◌}
 use mathlib.Core.Path.{◌≡◌, refl, sym, ap, ap₂, ◌∙◌}
 use mathlib.Core.Logic.{◌≢◌, ◌⊎◌, inl, inr}
 use Prim.Native.Nat.{ℕ, zero, suc, ◌+◌, ◌<◌}
@@ -7,7 +8,7 @@ use native.Mathlib.Omega.{arith}
 use mathlib.Core.Bool.{Bool, true, false}
 use mathlib.Core.List.{List}
 use lib.ListN.{length}
-use Rattle.model.specs.Basics.{if◌then◌else◌, max_vertices}
+use Rattle.model.specs.Basics.{max_vertices}
 use Rattle.model.specs.Graph.{Edge, degree}
 use Rattle.model.specs.Cases.{Class, branch, case_at, case_of, class_of, closes, closes_ring, isolated, leaf, regular}
 use Rattle.model.specs.Labels.{base, relabel_count}

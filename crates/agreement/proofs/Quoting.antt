@@ -1,5 +1,6 @@
 -- Document 02, S-5: what a quote reads from the tables of a register that landing leaves is the quote of the definition. So whoever compares
 -- a quote with the one that is read, and then lands its edge, does what the commit of the definition does.
+use Rattle.std.specs.Prelude.{if◌then◌else◌}
 use mathlib.Core.Path.{◌≡◌, refl, sym, ap, ◌∙◌}
 use mathlib.Core.Logic.{◌≢◌}
 use Prim.Native.Nat.{ℕ}
@@ -8,7 +9,6 @@ use mathlib.Core.Option.{Option, none, some}
 use lib.ListN.{length}
 use lib.Dec.{eqb}
 use borrow.Author.Tests.{eqb-true}
-use Rattle.model.specs.Basics.{if◌then◌else◌}
 use Rattle.model.specs.Graph.{Edge}
 use Rattle.model.specs.Register.{Quote, Register, Terms, commit, commit_made, declines, edge_refusal, eq_edge, eq_quote, eq_terms, land_edge_within, offers, quote, refused}
 use Rattle.model.specs.Tables.{counts_of, tables_of}

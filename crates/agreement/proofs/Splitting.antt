@@ -1,4 +1,5 @@
 -- Regular ends of the new edge are split, and their rings tapped: the sides, labels and counts that the definitions say.
+use Rattle.std.specs.Prelude.{if◌then◌else◌}
 use mathlib.Core.Path.{◌≡◌, refl, sym, ◌∙◌}
 use mathlib.Core.Logic.{◌≢◌, ◌⊎◌, inl, inr}
 use Prim.Native.Nat.{ℕ, ◌+◌, ◌*◌, ◌≤◌, ◌<◌}
@@ -8,7 +9,7 @@ use mathlib.Core.Bool.{Bool, true, false}
 use mathlib.Core.List.{List, [], ◌∷◌}
 use lib.ListN.{length, get_or, set, length-set, get_or-eq_default}
 use lib.Seq.{get_or-set_same, get_or-set_other}
-use Rattle.model.specs.Basics.{if◌then◌else◌, max_vertices}
+use Rattle.model.specs.Basics.{max_vertices}
 use Rattle.model.specs.Graph.{Edge, Pass, degree, lower_numbered, once_round}
 use Rattle.model.specs.Labels.{Labelling, Marks, base, label_path, mark, next, relabel_count, vertex_on_ring, split, split_or_tap, tap}
 use Rattle.tables.specs.Steps.{most16, most32, set_pair}

@@ -1,6 +1,5 @@
 -- What the program writes for the bytes that it read.
-use Rattle.std.specs.Prelude.{ℕ, List, [], length, take, ltb}
-use Rattle.model.specs.Basics.{if◌then◌else◌}
+use Rattle.std.specs.Prelude.{ℕ, List, [], length, take, ltb, if◌then◌else◌}
 use Rattle.model.specs.Format.{Read, whole, stopped, grow_list, written}
 use Rattle.model.specs.Printing.{ascii, stop_line}
 use Rattle.canonical.specs.declared.output.Output.{Output}

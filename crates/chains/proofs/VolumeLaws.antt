@@ -1,4 +1,5 @@
 -- The volume along a walk: two volumes together, the two ways in which the loop ends, and a turn of it.
+use Rattle.std.specs.Prelude.{if◌then◌else◌}
 use mathlib.Core.Path.{◌≡◌, refl, sym}
 use mathlib.Core.Bool.{Bool, true, false, ◌||◌}
 use mathlib.Core.List.{List}
@@ -8,7 +9,6 @@ use native.Mathlib.Numerals.{sub-one}
 use borrow.Author.Tests.{eq-eqb, ne_eqb}
 use lib.ListN.{get_or}
 use lib.Dec.{eqb}
-use Rattle.model.specs.Basics.{if◌then◌else◌}
 use Rattle.tables.specs.Steps.{far_in, turn_in, sum32}
 use Rattle.chains.specs.Chains.{goes_on_in, plus_volume32, walk_volume_in}
 

@@ -1,7 +1,6 @@
 -- Chains found by walking over the lent tables, as functions of lists that mirror the code. A walker stands at vertex v, which it
 -- reached by edge d; n bounds its steps.
-use Rattle.std.specs.Prelude.{ℕ, zero, suc, ◌+◌, ◌*◌, min, max, Bool, true, false, not, ◌&&◌, ◌||◌, List, [], ◌∷◌, map, get_or, set, eqb}
-use Rattle.model.specs.Basics.{if◌then◌else◌}
+use Rattle.std.specs.Prelude.{ℕ, zero, suc, ◌+◌, ◌*◌, min, max, Bool, true, false, not, ◌&&◌, ◌||◌, List, [], ◌∷◌, map, get_or, set, eqb, if◌then◌else◌}
 use Rattle.tables.specs.Steps.{far_in, turn_in, sum32}
 
 -- Whether a walker goes on at vertex v: it is regular, and not the walker's home, where a walk round a ring ends.

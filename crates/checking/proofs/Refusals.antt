@@ -1,4 +1,5 @@
 -- The refusals of an edge, in their order.
+use Rattle.std.specs.Prelude.{if◌then◌else◌}
 use mathlib.Core.Path.{◌≡◌, refl, sym, ap, ◌∙◌}
 use mathlib.Core.Bool.{Bool, true, false, ◌||◌}
 use mathlib.Core.Option.{none, some}
@@ -7,7 +8,7 @@ use native.Mathlib.Omega.{arith}
 use native.Mathlib.Decide.{dec_le, dec_lt}
 use borrow.Author.Tests.{eq-eqb, ne_eqb, lt-ltb, le-ltb, le-leb, lt-leb}
 use lib.Dec.{eqb, ltb}
-use Rattle.model.specs.Basics.{if◌then◌else◌, max_edges, max_length, max_volume}
+use Rattle.model.specs.Basics.{max_edges, max_length, max_volume}
 use Rattle.model.specs.Graph.{Edge}
 use Rattle.model.specs.Tables.{Counts}
 use Rattle.counters.specs.Numbers.{is_landed, within, volume_of}

@@ -1,7 +1,7 @@
 -- The refusals of an edge, in their order.
-use Rattle.std.specs.Prelude.{ℕ, not, ◌&&◌, ◌||◌, eqb, leb, ltb}
+use Rattle.std.specs.Prelude.{ℕ, not, ◌&&◌, ◌||◌, eqb, leb, ltb, if◌then◌else◌}
 use Rattle.std.proofs.Math.Option.{Option, none, some}
-use Rattle.model.specs.Basics.{if◌then◌else◌, max_edges, max_length, max_volume}
+use Rattle.model.specs.Basics.{max_edges, max_length, max_volume}
 use Rattle.model.specs.Graph.{Edge}
 use Rattle.model.specs.Tables.{Counts}
 use Rattle.counters.specs.Numbers.{Volume, known, unknown, out_of_range, is_landed}

@@ -1,6 +1,5 @@
 -- What the commit of a quote does to the tables (document 02, S-5), as a function of lists that mirrors the code.
-use Rattle.std.specs.Prelude.{ℕ, Bool, not}
-use Rattle.model.specs.Basics.{if◌then◌else◌}
+use Rattle.std.specs.Prelude.{ℕ, Bool, not, if◌then◌else◌}
 use Rattle.model.specs.Register.{Quote, eq_quote}
 use Rattle.model.specs.Tables.{Tables, Counts}
 use Rattle.insertion.specs.Insertion.{LandingIn, landing_in, land_in, refused_in}

@@ -1,5 +1,6 @@
 -- The verdict by bytes: two texts agree if they have all bytes in common, and else the first wrong line is behind as many line ends as they
 -- have in common at their beginning.
+use Rattle.std.specs.Prelude.{if◌then◌else◌}
 use mathlib.Core.Path.{◌≡◌, refl, sym, ap, subst, ◌∙◌}
 use Prim.Native.Nat.{ℕ, zero, suc, ◌+◌, ◌≤◌, ◌<◌}
 use native.Mathlib.Omega.{arith}
@@ -9,7 +10,6 @@ use mathlib.Core.List.{List, [], ◌∷◌, ◌++◌}
 use lib.ListN.{length, take, length-append}
 use lib.Dec.{eqb}
 use borrow.Author.Tests.{eq-eqb, ne_eqb, eqb-true, eqb-false}
-use Rattle.model.specs.Basics.{if◌then◌else◌}
 use Rattle.model.specs.Tables.{eq_list}
 use Rattle.model.specs.Judging.{Verdict, agrees, wrong_line, ahead, split_lines, compare_lines, compare_texts}
 use Rattle.theory.proofs.Judging.{Full, lines_full, same_agrees}

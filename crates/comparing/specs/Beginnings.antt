@@ -1,6 +1,5 @@
 -- What two texts have in common at their beginning, in bytes and in line ends; and the verdict for which a comparison stands.
-use Rattle.std.specs.Prelude.{ℕ, suc, ◌+◌, true, false, List, [], ◌∷◌, eqb}
-use Rattle.model.specs.Basics.{if◌then◌else◌}
+use Rattle.std.specs.Prelude.{ℕ, suc, ◌+◌, true, false, List, [], ◌∷◌, eqb, if◌then◌else◌}
 use Rattle.model.specs.Judging.{Verdict, agrees, wrong_line}
 use Rattle.comparing.specs.declared.comparison.Comparison.{Comparison}
 use Rattle.comparing.specs.declared.comparison.Comparison.TheVariants.{Same, Differ}

@@ -1,7 +1,7 @@
 -- What the checked constructors answer: the number, or none where it is out of its bounds.
-use Rattle.std.specs.Prelude.{ℕ, Bool, ◌&&◌, eqb, leb, ltb}
+use Rattle.std.specs.Prelude.{ℕ, Bool, ◌&&◌, eqb, leb, ltb, if◌then◌else◌}
 use Rattle.std.proofs.Math.Option.{Option, none, some}
-use Rattle.model.specs.Basics.{if◌then◌else◌, max_vertices, max_volume}
+use Rattle.model.specs.Basics.{max_vertices, max_volume}
 use Rattle.counters.specs.declared.numbers.Vertex.{Vertex}
 use Rattle.counters.specs.declared.numbers.CheckedVertex.{CheckedVertex}
 use Rattle.counters.specs.declared.numbers.CheckedVertex.TheVariants as vertex

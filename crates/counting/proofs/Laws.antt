@@ -1,4 +1,5 @@
 -- Laws of the counts that are read: the loop along a chain, two chains joined, taps, and that they are those of what was decided.
+use Rattle.std.specs.Prelude.{if◌then◌else◌}
 use mathlib.Core.Path.{◌≡◌, refl, sym}
 use mathlib.Core.Bool.{Bool, true, false}
 use mathlib.Core.List.{List}
@@ -9,7 +10,6 @@ use native.Mathlib.Omega.{arith}
 use borrow.Author.Tests.{eq-eqb, ne_eqb}
 use lib.Dec.{eqb}
 use lib.ListN.{get_or}
-use Rattle.model.specs.Basics.{if◌then◌else◌}
 use Rattle.model.specs.Labels.{is_relabelled}
 use Rattle.model.proofs.Basics.Booleans.{one_most}
 use Rattle.counters.specs.declared.numbers.Vertex.{Vertex}

@@ -1,6 +1,5 @@
 -- How many vertices an edge would relabel, read from the tables before anything is written, as functions of lists that mirror the code.
-use Rattle.std.specs.Prelude.{ℕ, zero, suc, ◌+◌, ◌*◌, ◌-◌, Bool, true, false, List, get_or, eqb}
-use Rattle.model.specs.Basics.{if◌then◌else◌}
+use Rattle.std.specs.Prelude.{ℕ, zero, suc, ◌+◌, ◌*◌, ◌-◌, Bool, true, false, List, get_or, eqb, if◌then◌else◌}
 use Rattle.model.specs.Labels.{is_relabelled}
 use Rattle.tables.specs.Steps.{far_in, turn_in}
 use Rattle.tables.specs.Walks.{Met, lockstep_in}

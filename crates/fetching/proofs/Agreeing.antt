@@ -1,4 +1,5 @@
 -- What is fetched over the tables of a register is what is defined to be fetched from it.
+use Rattle.std.specs.Prelude.{if◌then◌else◌}
 use mathlib.Core.Path.{◌≡◌, refl, sym, ap, ◌∙◌, subst}
 use mathlib.Core.Logic.{◌≢◌}
 use Prim.Native.Nat.{ℕ, zero, suc, ◌≤◌}
@@ -10,7 +11,7 @@ use mathlib.Core.Option.{some}
 use lib.ListN.{length, take}
 use lib.Dec.{ltb}
 use borrow.Author.Tests.{eq-eqb, ltb-false}
-use Rattle.model.specs.Basics.{count_from, if◌then◌else◌, max_edges, up_to}
+use Rattle.model.specs.Basics.{count_from, max_edges, up_to}
 use Rattle.model.specs.Graph.{Edge}
 use Rattle.model.specs.Register.{Landed, Register, landed, refused}
 use Rattle.model.specs.Queries.{OpenSheet, Reply, refuses, sheet}

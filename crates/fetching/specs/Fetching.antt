@@ -1,6 +1,6 @@
 -- A fetch over lent tables, as a function that mirrors the code.
-use Rattle.std.specs.Prelude.{ℕ, List, replicate, ltb}
-use Rattle.model.specs.Basics.{if◌then◌else◌, max_edges}
+use Rattle.std.specs.Prelude.{ℕ, List, replicate, ltb, if◌then◌else◌}
+use Rattle.model.specs.Basics.{max_edges}
 use Rattle.model.specs.Queries.{OpenSheet, Reply, refuses}
 use Rattle.model.specs.Opened.{fetch_line, line_at}
 use Rattle.model.specs.Tables.{Counts, Tables}

@@ -1,7 +1,7 @@
 -- The tables' own edges landed again on other tables, as functions that mirror the code.
-use Rattle.std.specs.Prelude.{◌≡◌, ℕ, zero, suc, ◌+◌, Bool, true, false, List, leb}
+use Rattle.std.specs.Prelude.{◌≡◌, ℕ, zero, suc, ◌+◌, Bool, true, false, List, leb, if◌then◌else◌}
 use Rattle.std.proofs.Math.Option.{Option, none, some}
-use Rattle.model.specs.Basics.{if◌then◌else◌, max_edges, max_vertices}
+use Rattle.model.specs.Basics.{max_edges, max_vertices}
 use Rattle.model.specs.Tables.{Tables, Counts, Stored}
 use Rattle.counters.specs.Answers.{counts}
 use Rattle.tables.specs.Meaning.{stored}

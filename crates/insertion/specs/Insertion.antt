@@ -1,6 +1,6 @@
 -- One vertex or one edge into the six tables: what it leaves and its answer.
-use Rattle.std.specs.Prelude.{ℕ, Bool, ◌||◌, set, leb}
-use Rattle.model.specs.Basics.{if◌then◌else◌, max_vertices}
+use Rattle.std.specs.Prelude.{ℕ, Bool, ◌||◌, set, leb, if◌then◌else◌}
+use Rattle.model.specs.Basics.{max_vertices}
 use Rattle.model.specs.Graph.{Edge}
 use Rattle.model.specs.Tables.{Tables, Counts}
 use Rattle.counters.specs.Answers.{counts}

@@ -1,6 +1,5 @@
 -- Two chains become one, or one a ring, as functions of lists that mirror the code.
-use Rattle.std.specs.Prelude.{ℕ, ◌+◌, ◌*◌, Bool, true, false, List, get_or, eqb}
-use Rattle.model.specs.Basics.{if◌then◌else◌}
+use Rattle.std.specs.Prelude.{ℕ, ◌+◌, ◌*◌, Bool, true, false, List, get_or, eqb, if◌then◌else◌}
 use Rattle.model.specs.Labels.{base}
 use Rattle.counters.specs.Numbers.{vertex_of}
 use Rattle.tables.specs.Steps.{far_in, more16}

@@ -1,6 +1,5 @@
 -- What the program writes for the list and the sheet that it read.
-use Rattle.std.specs.Prelude.{ℕ, List, [], ◌∷◌, ◌++◌, length, take, ltb}
-use Rattle.model.specs.Basics.{if◌then◌else◌}
+use Rattle.std.specs.Prelude.{ℕ, List, [], ◌∷◌, ◌++◌, length, take, ltb, if◌then◌else◌}
 use Rattle.model.specs.Format.{Read, whole, stopped, grow_list}
 use Rattle.model.specs.Printing.{ascii, line, stop_line, listing}
 use Rattle.model.specs.Judging.{Verdict, agrees, wrong_line, not_judged, compare_texts}

@@ -1,4 +1,5 @@
 -- A vertex labelled, a chain relabelled, a chain extended.
+use Rattle.std.specs.Prelude.{if◌then◌else◌}
 use mathlib.Core.Path.{◌≡◌, refl, sym, ap}
 use mathlib.Core.Bool.{Bool, true, false}
 use mathlib.Core.List.{List}
@@ -9,7 +10,6 @@ use native.Mathlib.Omega.{arith}
 use borrow.Author.Tests.{eq-eqb, ne_eqb}
 use lib.Dec.{eqb}
 use lib.ListN.{get_or, set}
-use Rattle.model.specs.Basics.{if◌then◌else◌}
 use Rattle.model.specs.Labels.{base, is_relabelled, next}
 use Rattle.model.proofs.Basics.Booleans.{one_most}
 use Rattle.tables.specs.Steps.{far_in, turn_in, more16, more32, most32}

@@ -1,6 +1,5 @@
 -- What an insertion does to the sides and the labels, as functions of lists that mirror the code.
-use Rattle.std.specs.Prelude.{ℕ, zero, suc, ◌+◌, ◌*◌, ◌-◌, Bool, true, not, List, get_or, set, eqb}
-use Rattle.model.specs.Basics.{if◌then◌else◌}
+use Rattle.std.specs.Prelude.{ℕ, zero, suc, ◌+◌, ◌*◌, ◌-◌, Bool, true, not, List, get_or, set, eqb, if◌then◌else◌}
 use Rattle.model.specs.Labels.{base, is_relabelled}
 use Rattle.tables.specs.Steps.{far_in, turn_in, set_pair, more16, more32}
 

@@ -1,5 +1,6 @@
 -- A list is landed on a register, and on tables by whatever an edge does there. If the tables follow the register at every record, they follow
 -- it to the end of the list, which stops at the same record for the same refusal.
+use Rattle.std.specs.Prelude.{if◌then◌else◌}
 use mathlib.Core.Path.{◌≡◌, refl, sym, ◌∙◌}
 use Prim.Native.Nat.{ℕ, zero, suc, ◌+◌}
 use mathlib.Core.Bool.{Bool, true, false, not}
@@ -8,7 +9,6 @@ use mathlib.Core.Option.{Option, none, some}
 use lib.ListN.{length, drop}
 use lib.Seq.{drop-drop}
 use lib.Dec.{eqb, ltb}
-use Rattle.model.specs.Basics.{if◌then◌else◌}
 use Rattle.model.specs.Graph.{Edge}
 use Rattle.model.specs.Register.{Landed, Register, land_edge_within, land_vertex, landed, refused}
 use Rattle.model.specs.Format.{Read, Record, bad, edge, edge_body, first_record, header_refusal, land_list, land_records, u16_at, u32_at, version_of, vertex, volume_in}

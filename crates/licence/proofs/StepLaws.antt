@@ -1,4 +1,5 @@
 -- The call of a house joined from the gate of the other houses and what is done on its own part of the tables.
+use Rattle.std.specs.Prelude.{if◌then◌else◌}
 use mathlib.Core.Path.{◌≡◌, refl, sym, ap, ap₂, ◌∙◌, subst}
 use mathlib.Core.Logic.{◌≢◌}
 use Prim.Native.Nat.{ℕ, zero, suc, ◌+◌, ◌*◌, ◌-◌, ◌≤◌, ◌<◌}
@@ -12,7 +13,7 @@ use lib.ListN.{length, get_or, set, take, drop, length-drop}
 use lib.Seq.{length-take-le, set-get_or}
 use lib.Dec.{eqb, leb, ltb}
 use borrow.Author.Tests.{eq-eqb, eqb-true, leb-false, le-ltb, lt-ltb, ltb-false, ltb-true, ne_eqb, not-false}
-use Rattle.model.specs.Basics.{count_from, if◌then◌else◌, max_edges, max_vertices, up_to}
+use Rattle.model.specs.Basics.{count_from, max_edges, max_vertices, up_to}
 use Rattle.model.specs.Register.{Landed, Quote, Register, commit, empty, landed, refused}
 use Rattle.model.specs.Format.{land_list}
 use Rattle.model.specs.Queries.{Reply, refuses, reported}

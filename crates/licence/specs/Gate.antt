@@ -1,7 +1,7 @@
 -- What stands before a call for a house, but for 21 of that house, which the call looks at itself.
-use Rattle.std.specs.Prelude.{ℕ, ◌+◌, ◌-◌, max, Bool, true, false, not, ◌&&◌, ◌||◌, List, get_or, ltb}
+use Rattle.std.specs.Prelude.{ℕ, ◌+◌, ◌-◌, max, Bool, true, false, not, ◌&&◌, ◌||◌, List, get_or, ltb, if◌then◌else◌}
 use Rattle.std.proofs.Math.Option.{Option, none, some}
-use Rattle.model.specs.Basics.{if◌then◌else◌, up_to}
+use Rattle.model.specs.Basics.{up_to}
 use Rattle.model.specs.Tables.{Tables, cleared, fits}
 use Rattle.counters.specs.Refusals.{number_of}
 use Rattle.nursery.specs.Licence.{houses, limit_of, overfull}

@@ -1,4 +1,5 @@
 -- A chain looked through: the ways out of the functions, and a turn of the loop.
+use Rattle.std.specs.Prelude.{if◌then◌else◌}
 use mathlib.Core.Path.{◌≡◌, refl, sym}
 use mathlib.Core.Logic.{◌≢◌}
 use mathlib.Core.Bool.{Bool, true, false, not}
@@ -9,7 +10,6 @@ use native.Mathlib.Nat.{not-suc-le-zero}
 use native.Mathlib.Numerals.{sub-one}
 use lib.ListN.{get_or}
 use borrow.Author.Tests.{eq-eqb, ne_eqb}
-use Rattle.model.specs.Basics.{if◌then◌else◌}
 use Rattle.model.specs.Queries.{Reply, found}
 use Rattle.tables.specs.Steps.{far_in, more16, turn_in, sum32}
 use Rattle.chains.specs.Chains.{goes_on_in}

@@ -1,8 +1,7 @@
 -- A chain looked through for a label in one walk, as functions of lists that mirror the code. A walker stands at vertex v, which it reached
 -- by edge d; n bounds its steps. A vertex v stands for "v or nobody" as v + 1, and 0 is nobody.
-use Rattle.std.specs.Prelude.{ℕ, zero, suc, ◌+◌, ◌*◌, min, Bool, not, List, get_or, eqb}
+use Rattle.std.specs.Prelude.{ℕ, zero, suc, ◌+◌, ◌*◌, min, Bool, not, List, get_or, eqb, if◌then◌else◌}
 use Rattle.std.proofs.Math.Option.{Option, none, some}
-use Rattle.model.specs.Basics.{if◌then◌else◌}
 use Rattle.model.specs.Queries.{Reply, found}
 use Rattle.tables.specs.Steps.{far_in, more16, turn_in, sum32}
 use Rattle.chains.specs.Chains.{goes_on_in}

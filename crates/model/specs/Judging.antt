@@ -1,6 +1,5 @@
 -- Document 02, S-9: the verdict on a contractor's sheet, and what is claimed of it.
-use Rattle.std.specs.Prelude.{◌≡◌, ◌≢◌, ℕ, zero, suc, ◌+◌, ◌<◌, true, false, List, [], ◌∷◌, get_or, eqb}
-use Rattle.model.specs.Basics.{if◌then◌else◌}
+use Rattle.std.specs.Prelude.{◌≡◌, ◌≢◌, ℕ, zero, suc, ◌+◌, ◌<◌, true, false, List, [], ◌∷◌, get_or, eqb, if◌then◌else◌}
 use Rattle.model.specs.Format.{whole, stopped, grow_list}
 use Rattle.model.specs.Tables.{eq_list}
 use Rattle.model.specs.Printing.{listing, printed}

@@ -1,4 +1,5 @@
 -- The last clearing of a house, in demand 3's sense: its last grow not refused with 25, 21 or 37, its last removal not refused, or the start.
+use Rattle.std.specs.Prelude.{if◌then◌else◌}
 use mathlib.Core.Path.{◌≡◌, refl, sym, ap, ◌∙◌}
 use mathlib.Core.Logic.{◌⊎◌, inl, inr}
 use Prim.Native.Nat.{ℕ}
@@ -7,7 +8,6 @@ use mathlib.Core.Bool.{Bool, true, false}
 use mathlib.Core.List.{List, [], ◌∷◌, ◌++◌, append_assoc, append-nil}
 use lib.ListN.{length}
 use borrow.Author.Tests.{eq-eqb, ne_eqb}
-use Rattle.model.specs.Basics.{if◌then◌else◌}
 use Rattle.model.specs.Register.{Register, commit, empty}
 use Rattle.model.specs.Calls.{House}
 use Rattle.model.specs.Series.{Landing, committed_by, landed_by}

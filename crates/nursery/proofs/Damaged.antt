@@ -1,5 +1,6 @@
 -- Document 02, S-10: "its 21 looks at every one, and holds too where the larger of share and pipes, summed over them, passes 4,096. A grow counts its
 -- own house as empty there, and gives 21 for the rest": when 21 holds, and when it does not.
+use Rattle.std.specs.Prelude.{if◌then◌else◌}
 use mathlib.Core.Path.{◌≡◌, refl, sym, ap}
 use mathlib.Core.Logic.{◌≢◌, ◌⊎◌, inl, inr}
 use Prim.Native.Nat.{ℕ, zero, suc, ◌+◌, ◌≤◌, ◌<◌}
@@ -14,7 +15,7 @@ use mathlib.Core.List.{List, [], ◌∷◌, Memᴰ as Mem}
 use lib.ListN.{set}
 use lib.Dec.{eqb}
 use borrow.Author.Tests.{eqb-false, le-ltb, lt-ltb, ltb-true, ne_eqb}
-use Rattle.model.specs.Basics.{count_from, if◌then◌else◌, sum, up_to}
+use Rattle.model.specs.Basics.{count_from, sum, up_to}
 use Rattle.model.specs.Register.{Register}
 use Rattle.model.specs.Tables.{held}
 use Rattle.model.proofs.Basics.Booleans.{not_both}

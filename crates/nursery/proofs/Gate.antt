@@ -1,4 +1,5 @@
 -- Calls over whatever is lent: what bars them and what is known if nothing does; a call for one house leaves the others as they were.
+use Rattle.std.specs.Prelude.{if◌then◌else◌}
 use mathlib.Core.Path.{◌≡◌, refl, sym, ap, ◌∙◌, subst}
 use mathlib.Core.Logic.{◌≢◌, ◌⊎◌, inl, inr}
 use Prim.Native.Nat.{ℕ, zero, suc, ◌+◌, ◌≤◌, ◌<◌}
@@ -15,7 +16,7 @@ use lib.ListN.{length, get_or, set}
 use lib.Seq.{get_or-set_other, get_or-set_same, set-get_or}
 use lib.Dec.{ltb}
 use borrow.Author.Tests.{ltb-false, ltb-true, not-false}
-use Rattle.model.specs.Basics.{count_from, if◌then◌else◌, sum, up_to}
+use Rattle.model.specs.Basics.{count_from, sum, up_to}
 use Rattle.model.specs.Register.{Register}
 use Rattle.model.specs.Queries.{refuses}
 use Rattle.model.specs.Tables.{Counts, Stored, Tables, cleared, counts_of, fits, held, no_counts, stored_of, tables_of}

@@ -1,4 +1,5 @@
 -- Of series of calls: 21 holds in none, and 25 only of what a call brings; and a call for one house changes no answer of another.
+use Rattle.std.specs.Prelude.{if◌then◌else◌}
 use mathlib.Core.Path.{◌≡◌, refl, sym, ap, ◌∙◌}
 use mathlib.Core.Logic.{◌≢◌}
 use Prim.Native.Nat.{ℕ, ◌<◌}
@@ -8,7 +9,6 @@ use mathlib.Core.List.{List}
 use lib.ListN.{length}
 use lib.Dec.{ltb}
 use borrow.Author.Tests.{ltb-true, not-false}
-use Rattle.model.specs.Basics.{if◌then◌else◌}
 use Rattle.model.specs.Register.{Landed, Quote, commit, landed, refused}
 use Rattle.model.specs.Queries.{refuses}
 use Rattle.model.specs.Tables.{Tables, fits}

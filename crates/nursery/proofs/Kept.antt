@@ -1,4 +1,5 @@
 -- What a call does to eight houses: they stay sound, and the nursery holds what the calls alone settle.
+use Rattle.std.specs.Prelude.{if◌then◌else◌}
 use mathlib.Core.Path.{◌≡◌, refl, sym, ap, ◌∙◌, subst}
 use mathlib.Core.Logic.{◌≢◌}
 use Prim.Native.Nat.{ℕ, zero, suc, ◌≤◌, ◌<◌, max}
@@ -10,7 +11,7 @@ use lib.ListN.{length, get_or, set, length-set}
 use lib.Seq.{get_or-set_same, get_or-set_other}
 use lib.Dec.{eqb, ltb}
 use borrow.Author.Tests.{eq-eqb, ne_eqb, eqb-true, ltb-true, ltb-false, not-false}
-use Rattle.model.specs.Basics.{if◌then◌else◌, sum}
+use Rattle.model.specs.Basics.{sum}
 use Rattle.model.specs.Register.{Register, empty}
 use Rattle.model.specs.Tables.{Counts, Tables, counts_of, fits, tables_of}
 use Rattle.model.specs.Series.{Landing}

@@ -1,5 +1,6 @@
 -- Document 02, S-6 and S-11: a call that does not clear a house leaves the vertices and edges that were there, lands more behind them, and
 -- leaves the count of removals. Without a grow that count never falls, and a removal raises it.
+use Rattle.std.specs.Prelude.{if◌then◌else◌}
 use mathlib.Core.Path.{◌≡◌, refl, sym, ap, ◌∙◌, subst}
 use mathlib.Core.Logic.{inl, inr}
 use Prim.Native.Nat.{ℕ, ◌+◌, ◌≤◌, ◌<◌}
@@ -9,7 +10,6 @@ use mathlib.Core.Bool.{Bool, true, false}
 use mathlib.Core.List.{List, [], ◌∷◌}
 use lib.ListN.{length}
 use lib.Seq.{get_or-set_same}
-use Rattle.model.specs.Basics.{if◌then◌else◌}
 use Rattle.model.specs.Register.{Landed, Quote, Register, commit, landed, refused}
 use Rattle.model.specs.Calls.{House}
 use Rattle.model.specs.Notions.{LandedSince}

@@ -1,4 +1,5 @@
 -- Document 02, S-11: the remaining edges always land, what they leave, and the report.
+use Rattle.std.specs.Prelude.{if◌then◌else◌}
 use mathlib.Core.Path.{◌≡◌, refl, sym, ap, ◌∙◌, subst}
 use mathlib.Core.Logic.{◌≢◌, ◌⊎◌, inl, inr}
 use Prim.Native.Nat.{ℕ, zero, suc, ◌+◌, ◌*◌, ◌≤◌, ◌<◌}
@@ -14,7 +15,7 @@ use lib.ListN.{length, get_or, take, drop, length-append, length-drop}
 use lib.Seq.{append_snoc, length-take-le}
 use lib.Dec.{eqb, leb, ltb}
 use borrow.Author.Tests.{leb-true, leb-false, ltb-true, ltb-false, eqb-false, ne_eqb}
-use Rattle.model.specs.Basics.{if◌then◌else◌, max_edges}
+use Rattle.model.specs.Basics.{max_edges}
 use Rattle.model.specs.Graph.{Edge, edge_at}
 use Rattle.model.specs.Register.{Landed, Register, empty, land_edge, land_vertex, landed, refused, with_edge}
 use Rattle.model.specs.Tables.{grow_from, land_edges, land_vertices}

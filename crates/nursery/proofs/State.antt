@@ -1,4 +1,5 @@
 -- Eight houses as the calls alone settle them, and a nursery that holds them; what is read there, and what bars a call.
+use Rattle.std.specs.Prelude.{if◌then◌else◌}
 use mathlib.Core.Path.{◌≡◌, refl, sym, ap, ap₂, ◌∙◌, subst}
 use Prim.Native.Nat.{ℕ, zero, suc, ◌+◌, ◌≤◌, ◌<◌}
 use native.Mathlib.Omega.{arith}
@@ -9,7 +10,7 @@ use mathlib.Core.List.{List, [], ◌∷◌, map}
 use lib.ListN.{length, get_or, set, length-map, get_or-replicate, get_or-map}
 use lib.Seq.{set_out}
 use borrow.Author.Tests.{le-ltb}
-use Rattle.model.specs.Basics.{count_from, if◌then◌else◌, sum, up_to}
+use Rattle.model.specs.Basics.{count_from, sum, up_to}
 use Rattle.model.specs.Register.{Register, empty}
 use Rattle.model.specs.Tables.{Counts, Tables, cleared, counts_of, fits, held, no_counts, stored_of, tables_of}
 use Rattle.model.specs.Calls.{House}

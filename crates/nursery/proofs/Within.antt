@@ -1,5 +1,6 @@
 -- Document 02, S-10: a list within a limit on the register's edges. It never passes the limit; where it stops with 36 the limit is reached,
 -- where with 23 the register is full; and a list that leaves no more edges than the limit is read as without one.
+use Rattle.std.specs.Prelude.{if◌then◌else◌}
 use mathlib.Core.Path.{◌≡◌, refl, sym, ap, ◌∙◌, subst}
 use mathlib.Core.Logic.{◌≢◌}
 use Prim.Native.Nat.{ℕ, zero, suc, ◌+◌, ◌≤◌, ◌<◌, max}
@@ -10,7 +11,7 @@ use mathlib.Core.Option.{Option, none, some, none-ne-some}
 use lib.ListN.{length, drop}
 use lib.Dec.{eqb, leb, ltb}
 use borrow.Author.Tests.{leb-true}
-use Rattle.model.specs.Basics.{if◌then◌else◌, max_edges, max_length, max_vertices, max_volume}
+use Rattle.model.specs.Basics.{max_edges, max_length, max_vertices, max_volume}
 use Rattle.model.specs.Graph.{Edge}
 use Rattle.model.specs.Register.{Landed, Register, edge_refusal, empty, land_edge_within, land_vertex, landed, refused, with_edge, with_vertex}
 use Rattle.model.specs.Format.{Read, Record, Stop, bad, edge, edge_body, first_record, grow_list, has_mark, header_refusal, land_list, land_records, stopped, version_of, vertex, whole}

@@ -1,5 +1,6 @@
 -- Document 02, S-1, of the calls: whatever `write` is lent for a house, if it answers a count of bytes, then `grow` from these bytes leaves in a
 -- house the tables and the head that were lent to `write`, if the limit there is as large as the pipes are many; in the same house it is.
+use Rattle.std.specs.Prelude.{if◌then◌else◌}
 use mathlib.Core.Path.{◌≡◌, refl, sym, ap, ◌∙◌, subst}
 use mathlib.Core.Logic.{◌≢◌}
 use Prim.Native.Nat.{ℕ, ◌≤◌, ◌<◌}
@@ -11,7 +12,7 @@ use lib.ListN.{length, take, drop, set}
 use lib.Seq.{take-append_seam}
 use lib.Dec.{ltb}
 use borrow.Author.Tests.{le-ltb, lt-ltb}
-use Rattle.model.specs.Basics.{if◌then◌else◌, in_front, max_edges, sum, up_to}
+use Rattle.model.specs.Basics.{in_front, max_edges, sum, up_to}
 use Rattle.model.specs.Register.{Register, empty}
 use Rattle.model.specs.Format.{Read, grow_list, land_list, whole, written}
 use Rattle.model.specs.Queries.{read, refuses, wrote}

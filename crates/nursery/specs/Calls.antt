@@ -1,8 +1,8 @@
 -- Document 01, "What may be called" and the order of refusals, for eight houses and with every call of document 02: what each call leaves and
 -- answers, whatever it is lent.
-use Rattle.std.specs.Prelude.{ℕ, ◌+◌, ◌*◌, Bool, true, false, not, ◌&&◌, ◌||◌, List, [], ◌∷◌, map, length, set, eqb, ltb}
+use Rattle.std.specs.Prelude.{ℕ, ◌+◌, ◌*◌, Bool, true, false, not, ◌&&◌, ◌||◌, List, [], ◌∷◌, map, length, set, eqb, ltb, if◌then◌else◌}
 use Rattle.std.proofs.Math.Option.{Option, none, some}
-use Rattle.model.specs.Basics.{if◌then◌else◌, in_front, sum, up_to}
+use Rattle.model.specs.Basics.{in_front, sum, up_to}
 use Rattle.model.specs.Graph.{Edge}
 use Rattle.model.specs.Register.{Register, Landed, Quote, empty, landed, refused, commit}
 use Rattle.model.specs.Format.{Read, land_list}

@@ -1,6 +1,5 @@
 -- Document 02, S-11, "Taking pipes out": the register without an edge, and the report.
-use Rattle.std.specs.Prelude.{ℕ, suc, true, false, ◌||◌, List, [], ◌∷◌, ◌++◌, length, take, drop, eqb, leb, ltb}
-use Rattle.model.specs.Basics.{if◌then◌else◌}
+use Rattle.std.specs.Prelude.{ℕ, suc, true, false, ◌||◌, List, [], ◌∷◌, ◌++◌, length, take, drop, eqb, leb, ltb, if◌then◌else◌}
 use Rattle.model.specs.Graph.{Edge}
 use Rattle.model.specs.Register.{Register, empty, landed, refused, land_edge}
 use Rattle.model.specs.Tables.{land_vertices, grow_from}

@@ -1,8 +1,8 @@
 -- Document 01, "What demand 3 speaks of", with document 02's S-5, S-10 and S-11: one series of calls for eight houses, what the calls
 -- alone settle, and the claim for each house.
-use Rattle.std.specs.Prelude.{◌≡◌, ℕ, ◌*◌, ◌≤◌, ◌<◌, Bool, true, not, ◌&&◌, List, [], ◌∷◌, ◌++◌, map, length, get_or, set, replicate, eqb}
+use Rattle.std.specs.Prelude.{◌≡◌, ℕ, ◌*◌, ◌≤◌, ◌<◌, Bool, true, not, ◌&&◌, List, [], ◌∷◌, ◌++◌, map, length, get_or, set, replicate, eqb, if◌then◌else◌}
 use Rattle.std.proofs.Math.Option.{some}
-use Rattle.model.specs.Basics.{if◌then◌else◌, sum, floor_log}
+use Rattle.model.specs.Basics.{sum, floor_log}
 use Rattle.model.specs.Register.{Register, empty, commit}
 use Rattle.model.specs.Queries.{Reply, allotted, refuses}
 use Rattle.model.specs.Tables.{Tables, fits, held, stored_of}

@@ -1,6 +1,5 @@
 -- A chain is split, or a ring tapped, as functions of lists that mirror the code.
-use Rattle.std.specs.Prelude.{ℕ, Bool, true, false, List, set}
-use Rattle.model.specs.Basics.{if◌then◌else◌}
+use Rattle.std.specs.Prelude.{ℕ, Bool, true, false, List, set, if◌then◌else◌}
 use Rattle.model.specs.Labels.{base}
 use Rattle.tables.specs.Steps.{far_in, set_pair, more16, sum32}
 use Rattle.tables.specs.Rounds.{lower_in, ring_in}

@@ -1,6 +1,5 @@
 -- What an edge does to the degrees, the sides and the labels, as functions of lists that mirror the code.
-use Rattle.std.specs.Prelude.{ℕ, Bool, false, List, get_or, eqb}
-use Rattle.model.specs.Basics.{if◌then◌else◌}
+use Rattle.std.specs.Prelude.{ℕ, Bool, false, List, get_or, eqb, if◌then◌else◌}
 use Rattle.model.specs.Graph.{Edge}
 use Rattle.model.specs.Cases.{Case, new_chain, extends, merges, closes, split_extends, split_new, split_both, first_named, second_named, class_of, case_of}
 use Rattle.model.specs.Tables.{Tables, Counts}

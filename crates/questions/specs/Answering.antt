@@ -1,6 +1,6 @@
 -- The sheet and the list written to a slice, as functions that mirror the code.
-use Rattle.std.specs.Prelude.{ℕ, ◌*◌, List, length, ltb}
-use Rattle.model.specs.Basics.{if◌then◌else◌, row_size}
+use Rattle.std.specs.Prelude.{ℕ, ◌*◌, List, length, ltb, if◌then◌else◌}
+use Rattle.model.specs.Basics.{row_size}
 use Rattle.model.specs.Queries.{Reply, concat, listed, refuses, wrote}
 use Rattle.model.specs.Tables.{Tables, Counts}
 use Rattle.model.specs.Calls.{Answer, fills}

@@ -1,6 +1,6 @@
 -- The call over the tables of a register, as a function that mirrors the code, and what it asks of them.
-use Rattle.std.specs.Prelude.{ℕ, ◌≤◌, not, ◌&&◌, List, ltb}
-use Rattle.model.specs.Basics.{if◌then◌else◌, max_vertices}
+use Rattle.std.specs.Prelude.{ℕ, ◌≤◌, not, ◌&&◌, List, ltb, if◌then◌else◌}
+use Rattle.model.specs.Basics.{max_vertices}
 use Rattle.model.specs.Distance.{distance}
 use Rattle.model.specs.Queries.{Reply, measured, refuses}
 use Rattle.model.specs.Tables.{Tables, Counts, stored_edges}

@@ -1,6 +1,5 @@
 -- What a quote reads from the tables (document 02, S-5), as functions of lists that mirror the code.
-use Rattle.std.specs.Prelude.{ℕ, Bool, false, List, get_or}
-use Rattle.model.specs.Basics.{if◌then◌else◌}
+use Rattle.std.specs.Prelude.{ℕ, Bool, false, List, get_or, if◌then◌else◌}
 use Rattle.model.specs.Graph.{Edge}
 use Rattle.model.specs.Cases.{Case, class_of, case_of}
 use Rattle.model.specs.Register.{Quote, Terms, offers, declines, case_number}

@@ -1,4 +1,5 @@
 -- A remove on the tables of one house, from what the functions have computed to what the call is defined to leave and answer.
+use Rattle.std.specs.Prelude.{if◌then◌else◌}
 use mathlib.Core.Path.{◌≡◌, refl, sym, ap, ◌∙◌}
 use Prim.Native.Nat.{ℕ, ◌*◌, ◌<◌}
 use native.Mathlib.Omega.{arith}
@@ -8,7 +9,7 @@ use mathlib.Core.List.{List}
 use lib.ListN.{length}
 use lib.Dec.{leb, ltb}
 use borrow.Author.Tests.{leb-false, lt-leb}
-use Rattle.model.specs.Basics.{if◌then◌else◌, max_vertices}
+use Rattle.model.specs.Basics.{max_vertices}
 use Rattle.model.specs.Register.{Register, landed}
 use Rattle.model.specs.Queries.{refuses}
 use Rattle.model.specs.Tables.{Tables, Counts, cleared, counts_of, fits, grow_from, right_sizes, sizes, stored_of, tables_of}
@@ -40,12 +41,12 @@ use Rattle.rest.proofs.RestLeft.{Left, rest_left}
 -- ---- the other edges, landed or not
 
 -- tables that keep their lengths keep their sizes
-pub sizes_kept : (t t' : Tables) {R : Type 0}
+pub sizes_kept : (t t' : Tables)
     → (length t'.degrees ≡ length t.degrees) × ((length t'.sides ≡ length t.sides) × ((length t'.ends ≡ length t.ends)
-    × ((length t'.lengths ≡ length t.lengths) × ((length t'.volumes ≡ length t.volumes) × ((length t'.labels ≡ length t.labels) × R)))))
+    × ((length t'.lengths ≡ length t.lengths) × ((length t'.volumes ≡ length t.volumes) × (length t'.labels ≡ length t.labels)))))
     → sizes t' ≡ sizes t
 unfolding sizes
-sizes_kept t t' k = rw (k.0, k.1.0, k.1.1.0, k.1.1.1.0, k.1.1.1.1.0, k.1.1.1.1.1.0)
+sizes_kept t t' k = rw (k.0, k.1.0, k.1.1.0, k.1.1.1.0, k.1.1.1.1.0, k.1.1.1.1.1)
 
 module _ (t s s' : Tables) (c : Counts) (d : ℕ) (xs : List ℕ) (a : AnswerIn) (e : landing_in s' a ≡ rest_in t.ends t.lengths t.volumes c d s) where
   tables_are : (rest_in t.ends t.lengths t.volumes c d s).tables ≡ s'

@@ -1,6 +1,5 @@
 -- The vertices whose labels differ, as functions that mirror the code.
-use Rattle.std.specs.Prelude.{ℕ, zero, suc, ◌+◌, List, [], ◌∷◌, ◌++◌, get_or, eqb}
-use Rattle.model.specs.Basics.{if◌then◌else◌}
+use Rattle.std.specs.Prelude.{ℕ, zero, suc, ◌+◌, List, [], ◌∷◌, ◌++◌, get_or, eqb, if◌then◌else◌}
 use Rattle.nursery.specs.Removal.{Change}
 
 -- vertex v, where its label differs

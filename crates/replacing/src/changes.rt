@@ -1,6 +1,5 @@
 // The fittings whose labels differ: how many there are, and the report of them.
-ghost use Rattle.std.specs.Prelude.{◌≡◌, eqb, length};
-ghost use Rattle.model.specs.Basics.{if◌then◌else◌};
+ghost use Rattle.std.specs.Prelude.{◌≡◌, eqb, length, if◌then◌else◌};
 ghost use Rattle.text.specs.Pages.{page, write};
 ghost use Rattle.nursery.specs.Removal.{change_numbers};
 ghost use Rattle.replacing.specs.Changes.{change_at, changes_in};

@@ -1,6 +1,6 @@
 -- What a removal comes to once the other edges stand landed in scratch, as a function that mirrors the code.
-use Rattle.std.specs.Prelude.{ℕ, ◌*◌, List, length, ltb}
-use Rattle.model.specs.Basics.{if◌then◌else◌, in_front, max_vertices}
+use Rattle.std.specs.Prelude.{ℕ, ◌*◌, List, length, ltb, if◌then◌else◌}
+use Rattle.model.specs.Basics.{in_front, max_vertices}
 use Rattle.model.specs.Queries.{reported, refuses}
 use Rattle.model.specs.Tables.{Tables, Counts}
 use Rattle.nursery.specs.Removal.{change_numbers}

@@ -1,6 +1,6 @@
 -- What the answer to setting the shares stands for, and the last step of the call.
-use Rattle.std.specs.Prelude.{ℕ, ◌||◌, List, map, ltb}
-use Rattle.model.specs.Basics.{if◌then◌else◌, sum}
+use Rattle.std.specs.Prelude.{ℕ, ◌||◌, List, map, ltb, if◌then◌else◌}
+use Rattle.model.specs.Basics.{sum}
 use Rattle.model.specs.Queries.{Reply, allotted, refuses}
 use Rattle.model.specs.Tables.{Counts}
 use Rattle.counters.specs.Refusals.{number_of}

@@ -1,4 +1,5 @@
 -- What is worked out over the tables that a list was recorded in is what the definitions answer of its register.
+use Rattle.std.specs.Prelude.{if◌then◌else◌}
 use mathlib.Core.Path.{◌≡◌, refl, sym, ap, ◌∙◌, subst}
 use Prim.Native.Nat.{ℕ}
 use native.Mathlib.Omega.{arith}
@@ -6,7 +7,7 @@ use mathlib.Core.Bool.{Bool, true, false, not, ◌&&◌}
 use mathlib.Core.List.{List}
 use lib.ListN.{replicate}
 use lib.Dec.{ltb}
-use Rattle.model.specs.Basics.{if◌then◌else◌, max_edges}
+use Rattle.model.specs.Basics.{max_edges}
 use Rattle.model.specs.Register.{Register, empty}
 use Rattle.model.specs.Format.{Stop, grow_list}
 use Rattle.model.specs.FromC.{returns_numbers, returns_reply}

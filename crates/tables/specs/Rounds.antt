@@ -1,6 +1,5 @@
 -- Whether a regular vertex lies on a ring, as functions of lists that mirror the code.
-use Rattle.std.specs.Prelude.{ℕ, zero, suc, ◌+◌, ◌*◌, Bool, false, ◌||◌, List, get_or, eqb, ltb}
-use Rattle.model.specs.Basics.{if◌then◌else◌}
+use Rattle.std.specs.Prelude.{ℕ, zero, suc, ◌+◌, ◌*◌, Bool, false, ◌||◌, List, get_or, eqb, ltb, if◌then◌else◌}
 use Rattle.tables.specs.Steps.{far_in, turn_in}
 use Rattle.tables.specs.declared.rings.Round.{Round}
 use Rattle.tables.specs.declared.rings.Round.TheVariants.{NoRing, Ring, Shared}

@@ -1,7 +1,6 @@
 -- Single steps on the lent tables, as functions of lists that mirror the code. A read past a table's end gives 0 and a write past it
 -- changes nothing; a sum stops at the largest number of its type. That no register meets these ends is a theorem on the definitions.
-use Rattle.std.specs.Prelude.{◌≡◌, ℕ, ◌+◌, ◌*◌, min, Bool, true, List, [], length, get_or, set, replicate, eqb}
-use Rattle.model.specs.Basics.{if◌then◌else◌}
+use Rattle.std.specs.Prelude.{◌≡◌, ℕ, ◌+◌, ◌*◌, min, Bool, true, List, [], length, get_or, set, replicate, eqb, if◌then◌else◌}
 use Rattle.model.specs.Graph.{Edge}
 use Rattle.model.specs.Tables.{Tables, stored_edge, stored_edges}
 use Rattle.tables.specs.Meaning.{tables}

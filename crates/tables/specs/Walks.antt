@@ -1,6 +1,5 @@
 -- Walks along a chain, of at most n steps. A walker stands at vertex v, which it reached by edge d.
-use Rattle.std.specs.Prelude.{ℕ, zero, suc, ◌+◌, List, get_or, eqb}
-use Rattle.model.specs.Basics.{if◌then◌else◌}
+use Rattle.std.specs.Prelude.{ℕ, zero, suc, ◌+◌, List, get_or, eqb, if◌then◌else◌}
 use Rattle.tables.specs.Steps.{far_in, turn_in}
 
 -- where two walks in lockstep stand when one of them has come to a singular vertex, and the number of steps of each

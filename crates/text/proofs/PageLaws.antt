@@ -1,4 +1,5 @@
 -- Writing one list of numbers after the other, and what a page holds then.
+use Rattle.std.specs.Prelude.{if◌then◌else◌}
 use mathlib.Core.Path.{◌≡◌, refl, sym, ap, ◌∙◌}
 use Prim.Native.Nat.{ℕ, suc, ◌+◌, ◌≤◌, ◌<◌}
 use native.Mathlib.Omega.{arith}
@@ -11,7 +12,7 @@ use lib.ListN.{length, set, take, length-set}
 use lib.Seq.{sets, sets-eq, take-suc-set, append_snoc}
 use lib.Dec.{ltb}
 use borrow.Author.Tests.{lt-ltb, le-ltb}
-use Rattle.model.specs.Basics.{if◌then◌else◌, in_front}
+use Rattle.model.specs.Basics.{in_front}
 use Rattle.text.specs.Pages.{Page, page, put, write}
 
 -- one list behind the other is written as one

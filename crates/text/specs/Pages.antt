@@ -1,6 +1,5 @@
 -- A slice of numbers, bytes or wider ones, that is written from a position on.
-use Rattle.std.specs.Prelude.{ℕ, ◌+◌, List, [], ◌∷◌, length, set, ltb}
-use Rattle.model.specs.Basics.{if◌then◌else◌}
+use Rattle.std.specs.Prelude.{ℕ, ◌+◌, List, [], ◌∷◌, length, set, ltb, if◌then◌else◌}
 
 pub record Page : Type 0 where
   pub slice : List ℕ

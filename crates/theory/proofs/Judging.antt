@@ -1,4 +1,5 @@
 -- Document 02, S-9: each verdict is given exactly where it is right, and our own print agrees.
+use Rattle.std.specs.Prelude.{if◌then◌else◌}
 use mathlib.Core.Path.{◌≡◌, refl, sym, ap, subst, ◌∙◌}
 use mathlib.Core.Logic.{◌≢◌}
 use Prim.Native.Nat.{ℕ, zero, suc, ◌+◌, ◌<◌}
@@ -9,7 +10,6 @@ use mathlib.Core.List.{List, [], ◌∷◌}
 use lib.ListN.{length, get_or}
 use lib.Dec.{eqb}
 use borrow.Author.Tests.{le-ltb}
-use Rattle.model.specs.Basics.{if◌then◌else◌}
 use Rattle.model.specs.Format.{Stop, whole, stopped, grow_list}
 use Rattle.model.specs.Tables.{eq_list}
 use Rattle.model.specs.Queries.{concat}

@@ -2,6 +2,7 @@
 -- registers are what growing leaves and what landing a list in one of them leaves (`reachable_grown` and `reachable_list` in Series/Landings), what
 -- lent tables hold (`only_held` in Registers/OnlyHeld), and what a series of calls leaves in each house (`nursery`).
 -- docs/THEORY.md has the argument, and the files on which each proof rests.
+use Rattle.std.specs.Prelude.{if◌then◌else◌}
 use mathlib.Core.Path.{◌≡◌, sym, ap, ◌∙◌, refl}
 use mathlib.Core.Logic.{◌≢◌, ◌⊎◌}
 use Prim.Native.Nat.{ℕ, ◌+◌, ◌*◌, ◌^◌, ◌≤◌, ◌<◌}
@@ -12,7 +13,7 @@ use mathlib.Core.List.{List, [], ◌∷◌, ◌++◌, map, Memᴰ as Mem}
 use mathlib.Core.Option.{some}
 use lib.ListN.{length, get_or}
 use lib.Dec.{eqb-suc-suc}
-use Rattle.model.specs.Basics.{floor_log, sum, up_to, max_vertices, if◌then◌else◌}
+use Rattle.model.specs.Basics.{floor_log, sum, up_to, max_vertices}
 use Rattle.model.specs.Graph.{Chain, Edge, chain_length, chain_of, chain_volume, volume_at, volume_sum, degree, edge_at, end_onwards, ends_at, is_leaf, is_regular, name_of, onwards, walk, far, incident, lengths_of, lower_numbered, edge_on_ring, once_round, only_edge}
 use Rattle.model.specs.Register.{Quote, Register, case_number, commit, declines, edge_refusal, label_of, land_edge, land_edge_within, land_vertex, landed, marks_of, offers, quote, refused, relabels_of, with_edge, with_vertex}
 use Rattle.model.specs.Format.{Read, grow_list, whole, written}

@@ -1,4 +1,5 @@
 -- Every series of calls from empty leaves a window whose records are the last 1,440 that arrived.
+use Rattle.std.specs.Prelude.{if◌then◌else◌}
 use mathlib.Core.Path.{◌≡◌, refl, sym, ap, ◌∙◌}
 use Prim.Native.Nat.{ℕ, zero, suc, ◌+◌, ◌-◌, ◌*◌, ◌≤◌}
 use native.Mathlib.Omega.{arith}
@@ -8,7 +9,6 @@ use lib.ListN.{get_or, take, replicate, length-replicate}
 use lib.Seq.{take_all, take-take, take-nil}
 use lib.Dec.{ltb}
 use borrow.Author.Tests.{ltb-false, le-ltb}
-use Rattle.model.specs.Basics.{if◌then◌else◌}
 use Rattle.valve.specs.Numbers.{slots, max_amount}
 use Rattle.valve.specs.Window.{Record, record_of, total, Window, window, empty, before, newest, records_of, sizes_fit, all_within, held}
 use Rattle.valve.specs.Valve.{taken, older, refuses, at_valve}

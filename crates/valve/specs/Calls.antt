@@ -1,6 +1,5 @@
 -- Document 02, S-13: the two calls, what each leaves and answers.
-use Rattle.std.specs.Prelude.{ℕ, not, List, set, ltb}
-use Rattle.model.specs.Basics.{if◌then◌else◌}
+use Rattle.std.specs.Prelude.{ℕ, not, List, set, ltb, if◌then◌else◌}
 use Rattle.valve.specs.Numbers.{slots, max_amount}
 use Rattle.valve.specs.Window.{Record, total, Window, window, after, newest, records_of, sizes_fit, held}
 use Rattle.valve.specs.Valve.{Reply, taken, refuses, at_valve}

@@ -1,6 +1,5 @@
 -- Series of calls on one window from empty, and what is claimed of them.
-use Rattle.std.specs.Prelude.{◌≡◌, ℕ, ◌+◌, ◌*◌, ◌≤◌, ◌<◌, true, List, [], ◌∷◌, ◌++◌, map, take, ltb}
-use Rattle.model.specs.Basics.{if◌then◌else◌}
+use Rattle.std.specs.Prelude.{◌≡◌, ℕ, ◌+◌, ◌*◌, ◌≤◌, ◌<◌, true, List, [], ◌∷◌, ◌++◌, map, take, ltb, if◌then◌else◌}
 use Rattle.valve.specs.Numbers.{slots, max_amount, max_recipe}
 use Rattle.valve.specs.Window.{Record, Window, total, empty, records_of, sizes_fit, held}
 use Rattle.valve.specs.Valve.{taken, recipe_is, older, refuses, at_valve}

@@ -1,6 +1,5 @@
 -- Document 02, S-13: records, a window of them as a ring of 1,440 slots, and the windows that are refused.
-use Rattle.std.specs.Prelude.{ℕ, zero, suc, ◌+◌, ◌-◌, Bool, true, ◌&&◌, List, [], ◌∷◌, length, get_or, replicate, eqb, leb, ltb}
-use Rattle.model.specs.Basics.{if◌then◌else◌}
+use Rattle.std.specs.Prelude.{ℕ, zero, suc, ◌+◌, ◌-◌, Bool, true, ◌&&◌, List, [], ◌∷◌, length, get_or, replicate, eqb, leb, ltb, if◌then◌else◌}
 use Rattle.valve.specs.Numbers.{slots, max_amount}
 
 -- "one record a minute, a 16-bit recipe number and the ml passed"

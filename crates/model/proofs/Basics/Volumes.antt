@@ -1,4 +1,5 @@
 -- Volumes of which one may be unknown: which lists have one volume, and their volume added up number by number.
+use Rattle.std.specs.Prelude.{if◌then◌else◌}
 use mathlib.Core.Path.{◌≡◌, refl, sym, ap, ◌∙◌}
 use mathlib.Core.Logic.{◌⊎◌, inl, inr}
 use Prim.Native.Nat.{ℕ, ◌+◌, ◌≤◌}
@@ -11,7 +12,7 @@ use mathlib.Core.List.Memᴰ.{tail as in_Tail}
 use mathlib.Core.List.{List, [], ◌∷◌, ◌++◌, map, reverse, map-append, append_assoc, reverse-cons, Memᴰ as Mem}
 use lib.Dec.{eqb}
 use borrow.Author.Tests.{eq-eqb, eqb-true, eqb-false, ne_eqb}
-use Rattle.model.specs.Basics.{if◌then◌else◌, sum}
+use Rattle.model.specs.Basics.{sum}
 use Rattle.model.specs.Graph.{any_unknown, volume_sum}
 use Rattle.model.proofs.Basics.Booleans.{true_or_false}
 use Rattle.model.proofs.Basics.Lists.{weights_append, weights_reverse}

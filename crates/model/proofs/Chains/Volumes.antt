@@ -1,4 +1,5 @@
 -- The volume of a chain or ring, added up along the walks from its edge d, and where it is unknown.
+use Rattle.std.specs.Prelude.{if◌then◌else◌}
 use mathlib.Core.Path.{◌≡◌, refl, sym, ap, ◌∙◌}
 use mathlib.Core.Logic.{◌⊎◌, inl, inr}
 use Prim.Native.Nat.{ℕ, ◌+◌, ◌≤◌}
@@ -7,7 +8,7 @@ use mathlib.Core.Bool.{Bool, true, false}
 use mathlib.Core.List.Memᴰ.{cases_cons as mem-cases}
 use mathlib.Core.List.Memᴰ.{not-nil as mem-nil}
 use mathlib.Core.List.{List, [], ◌∷◌, ◌++◌, map, map-append, Memᴰ as Mem}
-use Rattle.model.specs.Basics.{if◌then◌else◌, sum}
+use Rattle.model.specs.Basics.{sum}
 use Rattle.model.specs.Graph.{Edge, after_of, any_unknown, chain_of, chain_volume, edge_at, edge_on_ring, once_round, onwards, open_chain, ring_chain, volume_at, volume_sum, Pass}
 use Rattle.model.proofs.Basics.Volumes.{onto_append, unknown_in, volume_around, volume_fold, volume_onto}
 use Rattle.model.proofs.Chains.Same.{chain_open, chain_ring}

@@ -1,4 +1,5 @@
 -- Numbers read back from their bytes; and how long a list can be that is read whole: 5 bytes, one for each vertex and at most 13 for each edge.
+use Rattle.std.specs.Prelude.{if◌then◌else◌}
 use mathlib.Core.Path.{◌≡◌, refl, subst}
 use mathlib.Core.Logic.{◌≢◌}
 use Prim.Native.Nat.{ℕ, zero, suc, ◌+◌, ◌*◌, ◌/◌, ◌%◌, ◌≤◌, ◌<◌}
@@ -8,7 +9,7 @@ use mathlib.Core.List.{List, [], ◌∷◌, ◌++◌}
 use mathlib.Core.Option.{Option, none, some}
 use lib.ListN.{length, drop, length-drop, length-append}
 use lib.Dec.{eqb, ltb}
-use Rattle.model.specs.Basics.{if◌then◌else◌, bytes2, bytes4, max_edges, max_vertices}
+use Rattle.model.specs.Basics.{bytes2, bytes4, max_edges, max_vertices}
 use Rattle.model.specs.Graph.{Edge}
 use Rattle.model.specs.Register.{Landed, Register, empty, land_edge_within, land_vertex, landed, refused, with_edge, with_vertex}
 use Rattle.model.specs.Format.{whole, stopped, Record, vertex, edge, bad, byte_at, u16_at, u32_at, volume_in, edge_body, first_record, land_records, header_refusal, version_of, land_list, grow_list}

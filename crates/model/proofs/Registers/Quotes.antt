@@ -1,5 +1,6 @@
 -- Document 02, S-5. The test of two quotes finds just what is equal; so what a commit does, with whatever quote it comes. An edge of a list, which
 -- goes through the pair, lands exactly if no refusal holds of it.
+use Rattle.std.specs.Prelude.{if◌then◌else◌}
 use mathlib.Core.Path.{◌≡◌, refl, sym, ap, ◌∙◌, subst}
 use mathlib.Core.Logic.{◌≢◌, ◌⊎◌, inl, inr}
 use Prim.Native.Nat.{ℕ}
@@ -9,7 +10,7 @@ use mathlib.Core.Option.{Option, none, some}
 use lib.ListN.{length}
 use lib.Dec.{eqb, leb, ltb}
 use borrow.Author.Tests.{eq-eqb, eqb-true}
-use Rattle.model.specs.Basics.{if◌then◌else◌, max_edges, max_length, max_volume}
+use Rattle.model.specs.Basics.{max_edges, max_length, max_volume}
 use Rattle.model.specs.Graph.{Edge}
 use Rattle.model.specs.Cases.{case_at}
 use Rattle.model.specs.Register.{Landed, Quote, Register, Terms, case_number, commit, commit_made, declines, edge_refusal, eq_edge, eq_quote, eq_terms, land_edge_within, landed, offers, quote, refused, relabels_of, with_edge}

@@ -1,4 +1,5 @@
 -- Ghost state: groups of edges. The edges of a group follow each other on a path, its course, which no split cuts.
+use Rattle.std.specs.Prelude.{if◌then◌else◌}
 use mathlib.Core.Path.{◌≡◌, refl, sym, ap, ◌∙◌}
 use mathlib.Core.Logic.{◌≢◌, ◌⊎◌, inl, inr}
 use Prim.Native.Nat.{ℕ, zero, suc, ◌+◌, ◌*◌, ◌≤◌, ◌<◌}
@@ -10,7 +11,7 @@ use mathlib.Core.List.{List, []}
 use lib.ListN.{length}
 use lib.Dec.{eqb}
 use borrow.Author.Tests.{eq-eqb, ne_eqb}
-use Rattle.model.specs.Basics.{floor_log, if◌then◌else◌}
+use Rattle.model.specs.Basics.{floor_log}
 use Rattle.model.proofs.Basics.Booleans.{not_both}
 use Rattle.model.specs.Graph.{Edge, degree, far, same}
 use Rattle.model.proofs.Walks.Degree.{Proper}

@@ -1,4 +1,5 @@
 -- The six cases of one more edge, by two tests of each end: is it a leaf, is it regular.
+use Rattle.std.specs.Prelude.{if◌then◌else◌}
 use mathlib.Core.Path.{◌≡◌, refl}
 use Prim.Native.Nat.{ℕ, zero, suc}
 use native.Mathlib.Omega.{arith}
@@ -6,7 +7,6 @@ use mathlib.Core.Bool.{Bool, true, false}
 use mathlib.Core.List.{List, [], ◌∷◌, ◌++◌}
 use lib.Dec.{eqb}
 use borrow.Author.Tests.{ne_eqb}
-use Rattle.model.specs.Basics.{if◌then◌else◌}
 use Rattle.model.specs.Graph.{Edge, degree, is_leaf, is_regular}
 use Rattle.model.specs.Cases.{Class, isolated, leaf, regular, branch, case_at, case_of, class_of, closes, closes_ring, opposite, vertex_at}
 use Rattle.model.specs.Labels.{Labelling, Marks, close, extend, label_case, label_edge, merge, split_or_tap, split_two}

@@ -1,8 +1,8 @@
 -- The case of an edge is the closing exactly if the edge closes a ring.
+use Rattle.std.specs.Prelude.{if◌then◌else◌}
 use mathlib.Core.Path.{◌≡◌, refl, ap}
 use mathlib.Core.Bool.{Bool, true, false}
 use mathlib.Core.List.{List}
-use Rattle.model.specs.Basics.{if◌then◌else◌}
 use Rattle.model.specs.Graph.{Edge, degree}
 use Rattle.model.specs.Cases.{Case, Class, branch, case_at, case_of, class_of, closes, closes_ring, extends, isolated, leaf, merges, new_chain, regular, split_both, split_extends, split_new}
 use Rattle.model.proofs.Basics.Booleans.{not_both}

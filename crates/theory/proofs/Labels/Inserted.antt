@@ -1,4 +1,5 @@
 -- Each case of one more edge has the form that Labels/Laid states.
+use Rattle.std.specs.Prelude.{if◌then◌else◌}
 use mathlib.Core.Path.{◌≡◌, refl, sym, ◌∙◌}
 use mathlib.Core.Logic.{◌≢◌, ◌⊎◌, inl, inr}
 use Prim.Native.Nat.{ℕ, ◌≤◌}
@@ -9,7 +10,6 @@ use mathlib.Core.List.{List, [], ◌∷◌, ◌++◌}
 use lib.ListN.{length}
 use lib.Dec.{leb}
 use borrow.Author.Tests.{eq-eqb, ne_eqb}
-use Rattle.model.specs.Basics.{if◌then◌else◌}
 use Rattle.model.specs.Graph.{Edge, Pass, degree, ends_at, far, is_leaf, is_regular, only_edge, onwards}
 use Rattle.model.specs.Cases.{closes_ring}
 use Rattle.model.specs.Labels.{Labelling, Marks, attach, close, extend, inner_count, inwards, join_path, label_edge, merge}

@@ -1,4 +1,5 @@
 -- How many vertices are relabelled: by one label set, and by a path.
+use Rattle.std.specs.Prelude.{if◌then◌else◌}
 use mathlib.Core.Path.{◌≡◌, refl, sym, ◌∙◌}
 use Prim.Native.Nat.{ℕ, zero, suc, ◌+◌, ◌≤◌}
 use native.Mathlib.Omega.{arith}
@@ -8,7 +9,6 @@ use mathlib.Core.List.{List, [], ◌∷◌}
 use lib.ListN.{length, get_or, set}
 use lib.Dec.{eqb}
 use borrow.Author.Tests.{eq-eqb}
-use Rattle.model.specs.Basics.{if◌then◌else◌}
 use Rattle.model.specs.Graph.{Pass}
 use Rattle.model.specs.Labels.{Marks, is_relabelled, label_path, mark, relabel_count, relabelled, relabelled_from}
 use Rattle.model.proofs.Basics.Booleans.{one_most}

@@ -1,11 +1,11 @@
 -- The tables of the marks keep their sizes, in every case of one more edge.
+use Rattle.std.specs.Prelude.{if◌then◌else◌}
 use mathlib.Core.Path.{refl, ◌∙◌}
 use Prim.Native.Nat.{ℕ}
 use mathlib.Core.Bool.{Bool, true, false}
 use mathlib.Core.List.{List, [], ◌∷◌}
 use lib.ListN.{length-set}
 use lib.Dec.{leb}
-use Rattle.model.specs.Basics.{if◌then◌else◌}
 use Rattle.model.specs.Graph.{Edge, Pass, degree}
 use Rattle.model.specs.Cases.{Class, isolated, leaf, regular, branch, case_at, case_of, class_of, closes, closes_ring, opposite, vertex_at}
 use Rattle.model.specs.Labels.{Labelling, Marks, attach, close, close_over, extend, inner_count, inwards, label_case, label_edge, label_path, mark, merge, next, on_one_ring, vertex_on_ring, split, split_or_tap, split_two, tap}

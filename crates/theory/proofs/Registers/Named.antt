@@ -1,4 +1,5 @@
 -- Document 02, S-6: the counts of an opened sheet name a register in each register of which 33 does not hold, and landing more leaves it.
+use Rattle.std.specs.Prelude.{if◌then◌else◌}
 use mathlib.Core.Path.{◌≡◌, refl, sym, ap, ◌∙◌, subst}
 use Prim.Native.Nat.{ℕ, zero, suc, ◌+◌, ◌≤◌}
 use native.Mathlib.Omega.{arith}
@@ -10,7 +11,7 @@ use lib.ListN.{length, take, length-append, length-take}
 use lib.Seq.{length-take-le, get_or-take, take-append-le, take-length}
 use lib.Dec.{ltb}
 use borrow.Author.Tests.{ltb-true, ltb-false, lt-ltb, le-ltb, not-false}
-use Rattle.model.specs.Basics.{if◌then◌else◌, max_edges, up_to}
+use Rattle.model.specs.Basics.{max_edges, up_to}
 use Rattle.model.specs.Graph.{Edge, edge_at, no_edge}
 use Rattle.model.specs.Register.{Landed, Register, edge_refusal, land_edge, landed, refused, with_edge}
 use Rattle.model.specs.Queries.{OpenSheet, rows_of, sheet}

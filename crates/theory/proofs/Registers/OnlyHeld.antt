@@ -1,10 +1,10 @@
 -- What is held is what is stored for a register that landing leaves, and for no other.
+use Rattle.std.specs.Prelude.{if◌then◌else◌}
 use mathlib.Core.Path.{◌≡◌, refl, sym, ap, ◌∙◌, subst}
 use Prim.Native.Nat.{ℕ, zero, suc}
 use mathlib.Core.Bool.{Bool, true, false}
 use mathlib.Core.Option.{none, some, none-ne-some, some-injective}
 use mathlib.Core.List.{List, [], ◌∷◌}
-use Rattle.model.specs.Basics.{if◌then◌else◌}
 use Rattle.model.specs.Graph.{Edge}
 use Rattle.model.specs.Register.{Landed, Register, empty, land_vertex, landed, refused}
 use Rattle.model.specs.Tables.{Stored, counts_of, stored_edges, eq_stored, grow_from, held, land_edges, land_vertices, stored_of, tables_of}

@@ -1,5 +1,6 @@
 -- Document 02, S-10: an edge within a limit on the register's edges. Below the limit it changes nothing; once it is reached, 36 holds of just
 -- those edges of which no other refusal does.
+use Rattle.std.specs.Prelude.{if◌then◌else◌}
 use mathlib.Core.Path.{◌≡◌, refl, sym, ap, ◌∙◌}
 use mathlib.Core.Logic.{◌≢◌}
 use Prim.Native.Nat.{ℕ, ◌≤◌, ◌<◌}
@@ -9,7 +10,7 @@ use mathlib.Core.Option.{Option, none, some, some-injective, none-ne-some}
 use lib.ListN.{length}
 use lib.Dec.{leb}
 use borrow.Author.Tests.{le-leb, le-ltb, leb-true, lt-leb, lt-ltb, ne_eqb}
-use Rattle.model.specs.Basics.{if◌then◌else◌, max_edges, max_length, max_volume}
+use Rattle.model.specs.Basics.{max_edges, max_length, max_volume}
 use Rattle.model.specs.Graph.{Edge}
 use Rattle.model.specs.Register.{Register, edge_refusal, land_edge, land_edge_within}
 use Rattle.model.specs.Notions.{Admissible}

@@ -1,4 +1,5 @@
 -- A list leaves the vertices and edges that were there, and lands more behind them; so does a commit.
+use Rattle.std.specs.Prelude.{if◌then◌else◌}
 use mathlib.Core.Path.{◌≡◌, refl, sym, ap, ◌∙◌, subst}
 use Prim.Native.Nat.{ℕ, zero, suc, ◌+◌}
 use native.Mathlib.Omega.{arith}
@@ -6,7 +7,6 @@ use mathlib.Core.Bool.{Bool, true, false}
 use mathlib.Core.List.{List, [], ◌∷◌, ◌++◌, append_assoc, append-nil}
 use mathlib.Core.Option.{Option, none, some}
 use lib.ListN.{length, drop}
-use Rattle.model.specs.Basics.{if◌then◌else◌}
 use Rattle.model.specs.Graph.{Edge}
 use Rattle.model.specs.Register.{Landed, Quote, Register, commit, land_edge_within, land_vertex, landed, refused, with_edge, with_vertex}
 use Rattle.model.specs.Format.{Record, bad, edge, first_record, header_refusal, land_list, land_records, version_of, vertex}
