@@ -18,11 +18,11 @@ crates_of() {
     END { visit(crate) }' "$root/crates.txt"
 }
 
-# is_newest FILE: whether nothing that crates are made from has changed since (a file that is moved or copied here keeps its old time, so
-# what counts is when it was put there).
+# is_newest FILE [CRATE]: whether nothing that the crate, or any, is made from has changed since (a file that is moved or copied here keeps its
+# old time, so what counts is when it was put there).
 is_newest() {
     local changed
-    changed=$(find "$root/crates.txt" -newercm "$1" && find "$root/crates" -mindepth 2 -name out -prune -o -newercm "$1" -print -quit) && [ -z "$changed" ]
+    changed=$(find "$root/crates.txt" -newercm "$1" && find "$root/crates"/${2:-*} -mindepth 1 -name out -prune -o -newercm "$1" -print -quit) && [ -z "$changed" ]
 }
 
 # is_proved PROGRAM: it is used only if nothing that it could be made from has changed since.
@@ -66,7 +66,7 @@ is_of_ci() {
     local crate
     for crate in $(crates_of "$1"); do
         [ "$crate" != "$1" ] || continue
-        [ -d "$root/crates/$crate/out/rlib/$crate.rlib" ] && [ ! -e "$root/crates/$crate/out/rlib/stamp" ] && is_newest "$root/crates/$crate/out/rlib/$crate.rlib" || return
+        [ -d "$root/crates/$crate/out/rlib/$crate.rlib" ] && [ ! -e "$root/crates/$crate/out/rlib/stamp" ] && is_newest "$root/crates/$crate/out/rlib/$crate.rlib" $crate || return
     done
 }
 
