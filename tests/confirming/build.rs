@@ -1,5 +1,5 @@
 fn main() {
-    println!("cargo:rustc-link-search=native=../../target/staticlib");
+    println!("cargo:rustc-link-search=native=../../crates/confirming/out");
     println!("cargo:rustc-link-lib=static=confirming");
-    println!("cargo:rerun-if-changed=../../target/staticlib/libconfirming.a");
+    println!("cargo:rerun-if-changed=../../crates/confirming/out/libconfirming.a");
 }

@@ -1,5 +1,7 @@
 // A quote from C (document 02, S-5). It is compiled into an object of its own: within that of `pnl` a second caller would keep what lands a
 // pipe from becoming part of the growing, and growing took up to twice as long.
+#![tactic(auto)]
+
 mod terms;
 
 ghost use Rattle.std.specs.Prelude.{◌≡◌};

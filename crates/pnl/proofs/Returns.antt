@@ -62,7 +62,7 @@ module _ (x : Refusal) (n : ℕ) (e : n ≡ number_of x) where
 
 -- the value of a call that is handed on
 pub value_kept : {v : ℤ} → mag v < 2147483648 → to_z w32 (of_z w32 v) ≡ v
-value_kept h = to_z-of_z (record { sfits = h })
+value_kept h = to_z-of_z {w = w32} (record { sfits = h })
 
 -- the value of an inner call is read back as it was
 pub handed : {s : List ℕ} {v : ℤ} {z : Returned} → mag v < 2147483648 → returned s v ≡ z → returned s (to_z w32 (of_z w32 v)) ≡ z

@@ -8,8 +8,7 @@ ghost use Rattle.valve.specs.FromC.{in_c, outcome_in_c};
 use valve::lent::{arrive_lent, recipe_lent};
 
 // Arrive: a record of this minute.
-#[unsafe(no_mangle)]
-pub extern "C" fn pnl_valve_arrive(
+pub fn pnl_valve_arrive(
     recipes: &mut [u16],
     amounts: &mut [u32],
     next: &mut u16,
@@ -25,14 +24,7 @@ pub extern "C" fn pnl_valve_arrive(
 }
 
 // The recipe at a valve with `volume` ml between the mixer and itself.
-#[unsafe(no_mangle)]
-pub extern "C" fn pnl_valve_recipe(
-    recipes: &[u16],
-    amounts: &[u32],
-    next: u16,
-    sum: u32,
-    volume: u32,
-) -> i32
+pub fn pnl_valve_recipe(recipes: &[u16], amounts: &[u32], next: u16, sum: u32, volume: u32) -> i32
     ensures { in_c (window recipes.now amounts.now next sum) result
         ≡ outcome_in_c (asks volume (window recipes.now amounts.now next sum)) }
 {

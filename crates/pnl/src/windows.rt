@@ -7,8 +7,7 @@ ghost use Rattle.planner.specs.FromC.{number_in_c};
 use planner::lent::plan_lent;
 
 // Plan: the first minute from which the whole transit lies inside one window.
-#[unsafe(no_mangle)]
-pub extern "C" fn pnl_plan(windows: &[u16], volume: u32, flow: u32, minute: u32) -> i32
+pub fn pnl_plan(windows: &[u16], volume: u32, flow: u32, minute: u32) -> i32
     ensures { result ≡ number_in_c (plan volume flow minute (windows_in windows.now)) }
 {
     plan_lent(windows, volume, flow, minute)

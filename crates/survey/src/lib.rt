@@ -1,5 +1,7 @@
 // The calls from C that need no tags: the sheet and the distance. The list is recorded in arrays of the call, and no label is hung. They are
 // compiled into an object of their own: within that of `pnl` what reads and tests a record would have two callers, and become part of neither.
+#![tactic(auto)]
+
 mod distances;
 mod recorded;
 mod sheet;
