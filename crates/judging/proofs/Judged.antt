@@ -1,6 +1,6 @@
 -- The ways out of `right_text` and of `judge`.
 use mathlib.Core.Path.{◌≡◌, refl, sym, ap, subst, ◌∙◌}
-use Prim.Native.Nat.{ℕ, ◌+◌, ◌*◌, ◌≤◌, ◌<◌}
+use Prim.Native.Nat.{ℕ, ◌+◌, ◌*◌, ◌≤◌}
 use native.Mathlib.Omega.{arith}
 use mathlib.Core.List.{List}
 use lib.ListN.{length, take}
@@ -8,11 +8,10 @@ use Rattle.model.specs.Basics.{max_edges}
 use Rattle.model.specs.Format.{Read, Stop, whole, stopped, grow_list}
 use Rattle.model.specs.Tables.{cleared, no_counts}
 use Rattle.model.specs.Printing.{listing}
-use Rattle.model.specs.Judging.{Verdict, agrees, wrong_line, not_judged, compare_texts, judge}
+use Rattle.model.specs.Judging.{Verdict, not_judged, compare_texts, judge}
 use Rattle.theory.proofs.Judging.{refused_told, whole_judged}
 use Rattle.agreement.proofs.Sheeting.{sheet_over}
 use Rattle.landing.specs.Records.{ReadingIn, land_list_in}
-use Rattle.landing.proofs.ListAgrees.{shown_read}
 use Rattle.landing.proofs.Growing.{list_leaves}
 use Rattle.io.specs.Counts.{IsPrefixLen as Counted}
 use Rattle.streams.proofs.Input.{counted}

@@ -1,7 +1,6 @@
 -- Document 02, S-9: verdicts that tell readings apart.
 use Rattle.std.specs.Prelude.{◌≡◌, ℕ, List, [], ◌∷◌, ◌++◌}
 use Prim.Native.String.{String}
-use Rattle.model.specs.Format.{list_of}
 use Rattle.model.specs.Printing.{ascii, printed}
 use Rattle.model.specs.Judging.{Verdict, agrees, wrong_line, not_judged, judge}
 use Rattle.model.specs.Values.{list1, house, ring, one_edge, one_filled, filled_house, filled_ring}

@@ -30,7 +30,8 @@ use Rattle.nursery.proofs.State.{holds_empty, sound_empty}
 use Rattle.nursery.proofs.Kept.{call_does}
 use Rattle.nursery.proofs.Whole.{from_start}
 use Rattle.nursery.proofs.Clearing.{Clears, NoneClears}
-use Rattle.nursery.proofs.Fetching.{NoneBetween, fetched_settled, fetches_at, sheets_of}
+use Rattle.nursery.proofs.Fetching.{NoneBetween}
+use Rattle.nursery.proofs.Fetched.{fetched_settled, fetches_at, sheets_of}
 
 -- ---- whether a call clears a house, as a test
 

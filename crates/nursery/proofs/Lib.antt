@@ -45,6 +45,8 @@ pub mod Quoting
 pub mod Writing
 -- opened sheets, fetched line by line with calls between; and when they are ended
 pub mod Fetching
+-- .. proved
+pub mod Fetched
 -- theorems 12 and 13
 pub mod Theorems
 -- demand 3 of the six series

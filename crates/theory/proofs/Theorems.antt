@@ -2,23 +2,21 @@
 -- registers are what growing leaves and what landing a list in one of them leaves (`reachable_grown` and `reachable_list` in Series/Landings), what
 -- lent tables hold (`only_held` in Registers/OnlyHeld), and what a series of calls leaves in each house (`nursery`).
 -- docs/THEORY.md has the argument, and the files on which each proof rests.
-use Rattle.std.specs.Prelude.{if◌then◌else◌}
-use mathlib.Core.Path.{◌≡◌, sym, ap, ◌∙◌, refl}
+use mathlib.Core.Path.{◌≡◌, sym, ap, ◌∙◌}
 use mathlib.Core.Logic.{◌≢◌, ◌⊎◌}
 use Prim.Native.Nat.{ℕ, ◌+◌, ◌*◌, ◌^◌, ◌≤◌, ◌<◌}
 use native.Mathlib.Omega.{arith}
 use native.Mathlib.Numerals.{add-one}
-use mathlib.Core.Bool.{Bool, true, false}
+use mathlib.Core.Bool.{true, false}
 use mathlib.Core.List.{List, [], ◌∷◌, ◌++◌, map, Memᴰ as Mem}
 use mathlib.Core.Option.{some}
 use lib.ListN.{length, get_or}
 use lib.Dec.{eqb-suc-suc}
 use Rattle.model.specs.Basics.{floor_log, sum, up_to, max_vertices}
-use Rattle.model.specs.Graph.{Chain, Edge, chain_length, chain_of, chain_volume, volume_at, volume_sum, degree, edge_at, end_onwards, ends_at, is_leaf, is_regular, name_of, onwards, walk, far, incident, lengths_of, lower_numbered, edge_on_ring, once_round, only_edge}
-use Rattle.model.specs.Register.{Quote, Register, case_number, commit, declines, edge_refusal, label_of, land_edge, land_edge_within, land_vertex, landed, marks_of, offers, quote, refused, relabels_of, with_edge, with_vertex}
+use Rattle.model.specs.Graph.{Chain, Edge, chain_length, chain_of, chain_volume, volume_at, volume_sum, degree, edge_at, end_onwards, ends_at, is_leaf, is_regular, name_of, onwards, walk, far, incident, lengths_of, edge_on_ring, once_round, only_edge}
+use Rattle.model.specs.Register.{Quote, Register, case_number, commit, declines, edge_refusal, label_of, land_edge, land_edge_within, land_vertex, landed, offers, quote, refused, relabels_of, with_edge, with_vertex}
 use Rattle.model.specs.Format.{Read, grow_list, whole, written}
-use Rattle.model.specs.Cases.{Case, Class, branch, case_at, case_of, class_of, closes, closes_ring, extends, isolated, leaf, merges, new_chain, regular, split_both, split_extends, split_new}
-use Rattle.model.specs.Labels.{vertex_on_ring}
+use Rattle.model.specs.Cases.{case_at, closes, closes_ring}
 use Rattle.model.specs.Distance.{ChainWay, IsDistance, LooseWay, Way, distance, joined, Joins, length_via}
 use Rattle.model.specs.Queries.{OpenSheet, chain_at, fetched, find, find_at, finished, found, measure, measured, refuses, sheet, sheet_numbers, length_to}
 use Rattle.model.specs.Opened.{any_beyond, fetch, is_beyond, moved_on, opened_edges, opened_lines, opening_of}
@@ -26,7 +24,6 @@ use Rattle.model.specs.Newest.{chain_in, newest_first, search}
 use Rattle.model.specs.Tables.{Stored, edge_lengths, grow_from, held, stored_of}
 use Rattle.model.specs.Series.{FindsOwn, OwnChain, landed_edges, length_column, relabelled_by}
 use Rattle.model.specs.Notions.{Admissible, ComesBack, IsChain, IsRing, LandedAs, LandedSince, NamedIn, NoTwice, Reachable, RisesRound, SameChain, SameEdges, SameRing, SheetNames, ShorterWay, Upwards, history, leaf_room, most_times, reversed, times_relabelled}
-use Rattle.model.proofs.Basics.Booleans.{not_both}
 use Rattle.model.proofs.Walks.Degree.{Proper, degree_snoc, is_two, proper_snoc}
 use Rattle.model.proofs.Walks.Turn.{At}
 use Rattle.model.proofs.Walks.Joins.{across, joins_at, joins_back}

@@ -19,7 +19,7 @@ use Rattle.model.proofs.Walks.Joins.{Across, across, far_ne}
 use Rattle.model.proofs.Walks.Trail.{Trail, done, pass, Front, front, first, nothing, Next, next_edge, afters}
 use Rattle.model.proofs.Walks.Returns.{ended_ring, first_regular}
 use Rattle.model.proofs.Chains.Same.{line_chain, Line, LineOf}
-use Rattle.model.proofs.Chains.Partition.{first_at, own_line}
+use Rattle.model.proofs.Chains.Partition.{own_line}
 use Rattle.model.proofs.Chains.Exact.{line_back, line_back_chain}
 use Rattle.model.proofs.Labels.Following.{label_at, low_at}
 use Rattle.theory.proofs.Labels.Rise.{IsSeam, OneLow, Rise, Sided, Step, down_to, first_low, rises, seam, second_low, step_low, up_to}

@@ -20,7 +20,7 @@ use Rattle.model.proofs.Basics.Counting.{Distinct, mem_occurs, occurs, same_eq}
 use Rattle.model.proofs.Walks.Degree.{Proper, is_two}
 use Rattle.model.proofs.Walks.Turn.{At, Turned, turned, two_edges}
 use Rattle.model.proofs.Walks.Joins.{Across, across, far_ne}
-use Rattle.model.proofs.Walks.Trail.{Trail, done, pass, first, afters}
+use Rattle.model.proofs.Walks.Trail.{Trail, done, pass, afters}
 use Rattle.model.proofs.Walks.Round.{Round, ring_round}
 use Rattle.model.proofs.Walks.Loops.{SameLoop, last_on, loop_both, loop_distinct, loop_ends, loop_regular, loop_edges, loop_inner, loops_same}
 use Rattle.model.proofs.Chains.Partition.{RingAgain, chain_again, chain_back, chain_has, first_at, own_round, ring_again, ring_edges_lem}

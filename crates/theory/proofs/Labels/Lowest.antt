@@ -10,10 +10,10 @@ use mathlib.Core.List.Memᴰ.{cases_cons as mem-cases}
 use mathlib.Core.List.Memᴰ.{head as at_head}
 use mathlib.Core.List.Memᴰ.{not-nil as mem-nil}
 use mathlib.Core.List.Memᴰ.{tail as in_Tail}
-use mathlib.Core.List.{List, [], ◌∷◌, ◌++◌, map, reverse, reverse-reverse, Memᴰ as Mem}
+use mathlib.Core.List.{List, [], ◌∷◌, ◌++◌, map, reverse-reverse, Memᴰ as Mem}
 use lib.ListN.{length}
 use Rattle.model.specs.Basics.{count_from}
-use Rattle.model.specs.Graph.{Chain, Edge, chain_of, edge_at, edge_on_ring, far, is_regular}
+use Rattle.model.specs.Graph.{Chain, Edge, chain_of, edge_on_ring, far, is_regular}
 use Rattle.model.specs.Register.{Register, label_of, low_edge_of, marks_of}
 use Rattle.model.specs.Notions.{IsChain, IsRing, PathOver, RisesRound, Upwards, UpwardsRound, edge_on, one_edge_lem, reversed}
 use Rattle.model.proofs.Basics.Booleans.{true_or_false}

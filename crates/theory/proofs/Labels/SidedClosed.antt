@@ -15,7 +15,7 @@ use Rattle.model.proofs.Basics.Counting.{below_mem}
 use Rattle.model.proofs.Walks.Degree.{Proper, no_end, proper_snoc, two_ends}
 use Rattle.model.proofs.Walks.Turn.{At, OneEdge, one_edge_lem}
 use Rattle.model.proofs.Walks.Joins.{across, other_end}
-use Rattle.model.proofs.Walks.Trail.{Trail, first, trail_nil}
+use Rattle.model.proofs.Walks.Trail.{Trail, trail_nil}
 use Rattle.model.proofs.Walks.NewEdge.{Which, at_last, at_new, at_old, is_new, is_old, last_at, length_new, which}
 use Rattle.model.proofs.Walks.Ring.{no_ring, ring_decides}
 use Rattle.model.proofs.Chains.Partition.{each_once}

@@ -6,12 +6,11 @@ use native.Mathlib.Omega.{arith}
 use native.Mathlib.Decide.{ℕ_discrete}
 use mathlib.Core.Bool.{Bool, true, false, ◌&&◌}
 use mathlib.Core.Option.{Option, none, some}
-use mathlib.Core.List.{List, [], ◌∷◌, Memᴰ as Mem}
-use lib.ListN.{length}
+use mathlib.Core.List.{List, [], ◌∷◌}
 use lib.Dec.{eqb}
 use borrow.Author.Tests.{eq-eqb, eqb-true, lt-ltb, ne_eqb}
 use Rattle.model.specs.Basics.{count_from, up_to}
-use Rattle.model.specs.Graph.{chain_length, chain_of, is_regular, lower_numbered, turn}
+use Rattle.model.specs.Graph.{chain_length, is_regular, lower_numbered, turn}
 use Rattle.model.specs.Labels.{vertex_on_ring}
 use Rattle.model.specs.Register.{Register, label_of, low_edge_of, marks_of}
 use Rattle.model.specs.Distance.{distance}

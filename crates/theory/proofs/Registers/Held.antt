@@ -9,7 +9,7 @@ use mathlib.Core.List.{List, [], ◌∷◌, ◌++◌}
 use lib.ListN.{replicate}
 use Rattle.model.specs.Basics.{max_vertices}
 use Rattle.model.specs.Graph.{Edge}
-use Rattle.model.specs.Register.{Landed, Register, empty, land_edge, land_vertex, landed, marks_of, refused, with_edge, with_vertex}
+use Rattle.model.specs.Register.{Landed, Register, empty, land_edge, land_vertex, landed, refused, with_edge, with_vertex}
 use Rattle.model.specs.Tables.{Stored, counts_of, stored_edges, eq_stored, grow_from, held, land_edges, land_vertices, stored_of}
 use Rattle.model.specs.Notions.{Admissible}
 use Rattle.model.proofs.Registers.Accepted.{accepted, commute, edge_lands, landed_is, vertex_lands}

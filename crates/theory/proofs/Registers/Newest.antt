@@ -1,9 +1,9 @@
 -- The chains and rings with labels by falling lowest label: which they are, and that the search among them gives the one that find names.
-use mathlib.Core.Path.{◌≡◌, refl, sym, ap, ◌∙◌, subst}
+use mathlib.Core.Path.{◌≡◌, refl, sym, ap, ◌∙◌}
 use mathlib.Core.Logic.{◌≢◌, ◌⊎◌, inl, inr}
 use Prim.Native.Nat.{ℕ, zero, suc, ◌+◌, ◌≤◌, ◌<◌}
 use native.Mathlib.Omega.{arith}
-use mathlib.Core.Bool.{Bool, true, false, not, ◌&&◌}
+use mathlib.Core.Bool.{Bool, true, false, not}
 use mathlib.Core.Option.{Option, none, some}
 use mathlib.Core.List.Memᴰ
 use mathlib.Core.List.Memᴰ.{cases_cons as mem-cases}
@@ -15,10 +15,10 @@ use lib.ListN.{length}
 use lib.Dec.{eqb, ltb}
 use borrow.Author.Tests.{eq-eqb, eqb-true, eqb-false, ltb-true, ltb-false, ne_eqb}
 use Rattle.model.specs.Basics.{count_from, up_to}
-use Rattle.model.specs.Graph.{Edge, chain_of, edge_on_ring, is_regular, lower_numbered, name_of}
+use Rattle.model.specs.Graph.{chain_of, edge_on_ring, is_regular, name_of}
 use Rattle.model.specs.Register.{Register, label_of}
 use Rattle.model.specs.Queries.{Reply, chain_at, find, found_at, refuses}
-use Rattle.model.specs.Newest.{Searched, among, has, inner_labels, lowest_label, lowest_of, names_labelled, newest_first, chain_in, search, search_among}
+use Rattle.model.specs.Newest.{among, has, inner_labels, lowest_label, lowest_of, names_labelled, newest_first, chain_in, search, search_among}
 use Rattle.model.specs.Labels.{vertex_on_ring}
 use Rattle.model.specs.Series.{OwnChain}
 use Rattle.model.proofs.Basics.Booleans.{and_intro, and_true, if_either, not_both, true_or_false}
@@ -27,7 +27,6 @@ use Rattle.model.proofs.Chains.Partition.{least_le, least_mem}
 use Rattle.model.proofs.Chains.Exact.{chain_is_chain}
 use Rattle.model.proofs.Chains.ExactRing.{ring_is_ring}
 use Rattle.model.proofs.Chains.Own.{only_chain, own_chain_lem}
-use Rattle.theory.proofs.Labels.Lowest.{count_from_least}
 use Rattle.theory.proofs.Registers.Founded.{Founded}
 use Rattle.theory.proofs.Registers.Facts.{LabelFacts}
 use Rattle.theory.proofs.Registers.Answers.{find_none, find_own}

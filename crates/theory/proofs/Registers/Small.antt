@@ -21,7 +21,7 @@ use Rattle.model.proofs.Basics.Booleans.{if_either}
 use Rattle.model.proofs.Basics.Counting.{occurs}
 use Rattle.model.proofs.Basics.Lists.{lengths_are}
 use Rattle.model.proofs.Basics.Volumes.{volume_most}
-use Rattle.model.proofs.Walks.Degree.{Proper, AllLawful}
+use Rattle.model.proofs.Walks.Degree.{Proper}
 use Rattle.model.proofs.Walks.Turn.{At}
 use Rattle.model.proofs.Walks.NewEdge.{length_new}
 use Rattle.model.proofs.Basics.Total.{total_const, total_le}
