@@ -85,7 +85,7 @@ module _ (es : List Edge) (n : Edge) (pr : Proper es) (df : n.first ≢ n.second
   -- what the tables are left with is what `extend` says
   pub extended : (sides labels : List ℕ) (blocks : ℕ) (m : Marks) → OpenedBoth es n sides labels m → blocks < most16 → ((v : ℕ) → get_or labels v 0 < most32)
       → let w = extend_in degrees sides ends labels blocks x (length es) in HoldsLabelling new w.sides w.labels w.count (extend es new blocks x m)
-  unfolding extend onwards lay_in count_ahead
+  unfolding extend attach onwards lay_in count_ahead
   extended sides labels blocks m q bb lb = go (is_regular new u) refl
     where
       a : At es x d
@@ -113,7 +113,6 @@ module _ (es : List Edge) (n : Edge) (pr : Proper es) (df : n.first ≢ n.second
           rw (u_is, length_new es n) (walk_on (length es) new d u c) in
           rw (
             s,
-            attach_some blocks d (record { before = d; at = u; after = turn new d u }) (walk (length es) new (turn new d u) (far new (turn new d u) u)) path m,
             ← extend_on degrees sides ends labels w.sides w.labels blocks x (length es) d u (sym (q.leaf x o one), sym (fars d x a.inside))
                 (ds u u_below ∙ is_two new u c) (beyond_law sides labels w.sides w.labels x (length es) d u label (next up label) w.count up (ap (λ (z : ℕ). not (eqb z d)) (sym (k.regular (is_two new u c)).0)) (sym t) (sym (next_in_is up label (omega (arith, lb u, t)))) refl),
           )

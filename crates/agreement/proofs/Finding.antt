@@ -1,4 +1,4 @@
--- Find over the tables answers what the definitions answer.
+-- The search over the tables, and find over them, answer what the definitions answer.
 use mathlib.Core.Path.{◌≡◌, refl, sym, ap, ◌∙◌, subst}
 use Prim.Native.Nat.{ℕ}
 use mathlib.Core.Bool.{true}
@@ -16,7 +16,16 @@ use Rattle.theory.proofs.Registers.Labelled.{label_facts}
 use Rattle.theory.proofs.Registers.Answers.{find_own}
 use Rattle.theory.proofs.Registers.Newest.{search_none}
 use Rattle.agreement.proofs.Registers.{founded}
-use Rattle.agreement.proofs.Newest.{Agrees, Told, search_agrees}
+use Rattle.theory.proofs.Registers.Newest.{falling, in_newest, newest, own_newest}
+use Rattle.agreement.proofs.Newest.{Agrees, Told, all_left, search_over, searched}
+
+-- the search over the tables agrees with that of model
+pub search_agrees : (r : Register) (g : Reachable r) (label : ℕ) → Agrees r g label (search_over r g label) (search r label)
+unfolding search
+search_agrees r g label =
+    let o = founded r g in
+    let facts = label_facts r g in
+    searched r g label (newest r o facts) (falling r o facts) (in_newest r o facts) (all_left r g) (λ v q. own_newest r o facts v q)
 
 -- find by the search over the tables is find
 pub find_agrees : (r : Register) → Reachable r → (label : ℕ) → find_in (tables_of r) (counts_of r).vertices (counts_of r).edges label ≡ find r label

@@ -14,11 +14,13 @@ pub mod Meeting
 pub mod Splitting
 pub mod Clearing
 pub mod SplittingBoth
+pub mod SplittingTwice
 pub mod Standing
 pub mod Opening
 pub mod Extending
 pub mod Joining
 pub mod Merging
+pub mod Merged
 pub mod Closing
 pub mod Registers
 pub mod Tables

@@ -12,9 +12,8 @@ use lib.Dec.{eqb}
 use borrow.Author.Tests.{eq-eqb, eqb-false, eqb-true, le-leb, lt-leb}
 use Rattle.model.specs.Graph.{Edge, Pass, degree, end_of, end_onwards, ends_at, far, is_leaf, only_edge, onwards}
 use Rattle.model.specs.Cases.{closes_ring}
-use Rattle.model.specs.Labels.{Labelling, Marks, attach, inwards, join_path, merge}
-use Rattle.tables.specs.Steps.{far_in, most16}
-use Rattle.tables.proofs.Sums.{more16_is}
+use Rattle.model.specs.Labels.{Marks, attach, inwards, join_path, merge}
+use Rattle.tables.specs.Steps.{far_in}
 use Rattle.tables.specs.Walks.{Met, lockstep_in}
 use Rattle.counters.specs.Numbers.{vertex_of}
 use Rattle.labels.specs.Changes.{Changed}
@@ -31,7 +30,7 @@ use Rattle.theory.proofs.Labels.Inwards.{Inward, inward}
 use Rattle.agreement.proofs.Reading.{count_closes, count_kept}
 use Rattle.agreement.proofs.Lockstep.{Meets, Shows, lockstep_meets, shows_singular}
 use Rattle.agreement.proofs.Extending.{leaf_at}
-use Rattle.agreement.proofs.Joining.{Ground, ChangedAs, begins, join_reads, joins}
+use Rattle.agreement.proofs.Joining.{Ground, join_reads}
 use Rattle.model.proofs.Walks.Joins.{Across, across}
 
 -- ---- the ring
@@ -71,16 +70,16 @@ module _ {es : List Edge} {n : Edge} {degrees sides ends labels : List ℕ} {m :
   abbrev new : List Edge
   new = es ++ (n ∷ [])
 
-  abbrev da : ℕ
+  abbrev pub da : ℕ
   da = only_edge es a
 
-  abbrev db : ℕ
+  abbrev pub db : ℕ
   db = only_edge es b
 
-  abbrev met : Met
+  abbrev pub met : Met
   met = lockstep_in degrees sides ends (length es) da (far es da a) db (far es db b)
 
-  abbrev merging : Changed
+  abbrev pub merging : Changed
   merging = merge_in degrees sides ends labels blocks a b (length es) (length es)
 
   at_a : At es a da
@@ -105,10 +104,10 @@ module _ {es : List Edge} {n : Edge} {degrees sides ends labels : List ℕ} {m :
   finds = lockstep_meets pr sh (length es) next_a next_b ia.trail ib.trail ia.singular ib.singular
       (omega (arith, trail_short es pr next_a ia.trail ia.singular))
 
-  side_a : (da ≡ get_or sides (2 * a) 0) × (far es da a ≡ far_in ends da a)
+  pub side_a : (da ≡ get_or sides (2 * a) 0) × (far es da a ≡ far_in ends da a)
   side_a = (sym ((sh.links a (sh.below a da at_a)).leaf la).0, sym (sh.fars_are da a at_a.inside))
 
-  side_b : (db ≡ get_or sides (2 * b) 0) × (far es db b ≡ far_in ends db b)
+  pub side_b : (db ≡ get_or sides (2 * b) 0) × (far es db b ≡ far_in ends db b)
   side_b = (sym ((sh.links b (sh.below b db at_b)).leaf lb).0, sym (sh.fars_are db b at_b.inside))
 
   at_b_then : closes_ring es a b ≡ true → met.first ≡ b
@@ -133,7 +132,7 @@ module _ {es : List Edge} {n : Edge} {degrees sides ends labels : List ℕ} {m :
       go (yes l) = h (sym (finds.first_ends l) ∙ e)
       go (no l) = let two : get_or degrees b 0 ≡ 2 = rw e at (finds.first_on (omega arith)) in omega (arith, one)
 
-  off : closes_ring es a b ≡ false → met.first ≢ b
+  pub off : closes_ring es a b ≡ false → met.first ≢ b
   off c = no_end (eqb-false ia.to b (sym (ring_is es a b la lb ia) ∙ c))
 
   -- the answer tells a closing
@@ -161,21 +160,21 @@ module _ {es : List Edge} {n : Edge} {degrees sides ends labels : List ℕ} {m :
   second_off : length (inwards es b) ≤ length (inwards es a) → get_or degrees met.second 0 ≢ 2
   second_off l = rw (finds.second_ends l) (shows_singular sh (trail_at pr next_b ib.trail) ib.singular)
 
-  merge_first : length (inwards es b) ≤ length (inwards es a) → merge es blocks a b m ≡ attach blocks da (inwards es a) (join_path es a b) m
+  pub merge_first : length (inwards es b) ≤ length (inwards es a) → merge es blocks a b m ≡ attach blocks da (inwards es a) (join_path es a b) m
   unfolding merge
   merge_first l = rw (le-leb (length (inwards es b)) (length (inwards es a)) l)
 
-  merge_second : length (inwards es a) < length (inwards es b) → merge es blocks a b m ≡ attach blocks db (inwards es b) (join_path es b a) m
+  pub merge_second : length (inwards es a) < length (inwards es b) → merge es blocks a b m ≡ attach blocks db (inwards es b) (join_path es b a) m
   unfolding merge
   merge_second l = rw (lt-leb (length (inwards es b)) (length (inwards es a)) l)
 
   -- which chain keeps its labels
-  data Keeps : Type 0 where
+  pub data Keeps : Type 0 where
     keeps_first : Chain (vertex_of a) (vertex_of b) ≡ keeper_for degrees a b met → length (inwards es b) ≤ length (inwards es a) → 0 < length (inwards es a) → Keeps
     keeps_second : Chain (vertex_of b) (vertex_of a) ≡ keeper_for degrees a b met → length (inwards es a) < length (inwards es b) → Keeps
     keeps_neither : Neither ≡ keeper_for degrees a b met → inwards es a ≡ [] → inwards es b ≡ [] → Keeps
 
-  kept : Keeps
+  pub kept : Keeps
   kept =
       go (dec_lt (length (inwards es a)) (length (inwards es b))) (dec_lt (length (inwards es b)) (length (inwards es a))) (ℕ_discrete (length (inwards es a)) 0)
     where
@@ -187,21 +186,6 @@ module _ {es : List Edge} {n : Edge} {degrees sides ends labels : List ℕ} {m :
       go (no l) (no r) (yes z) =
           keeps_neither (neither_keeps degrees a b met (second_off (omega arith)) (first_off (omega arith)) (omega (arith, finds.steps)))
           (no_pass (inwards es a) z) (no_pass (inwards es b) (omega arith))
-
-  -- where none is, what is left is what `merge` says
-  pub merges : closes_ring es a b ≡ false → blocks < most16 → get_or labels a 0 ≡ 0 → get_or labels b 0 ≡ 0 → ChangedAs new labels merging (merge es blocks a b m)
-  merges c bb za zb = go kept
-    where
-      keeps : (keeper : Keeper) (g : Labelling) → keeper ≡ keeper_for degrees a b met → merge es blocks a b m ≡ g
-          → ChangedAs new labels (keeper_in keeper degrees sides ends labels blocks a b (length es) (length es) da db) g → ChangedAs new labels merging (merge es blocks a b m)
-      keeps keeper g p q j =
-          rw (← merge_kept degrees sides ends labels blocks a b (length es) (length es) da (far es da a) db (far es db b) met side_a side_b refl keeper (off c) p, q) j
-
-      go : Keeps → ChangedAs new labels merging (merge es blocks a b m)
-      go (keeps_first p l h) = keeps (Chain (vertex_of a) (vertex_of b)) _ p (merge_first l) (joins k a b la lb oa ob ab blocks h)
-      go (keeps_second p l) = keeps (Chain (vertex_of b) (vertex_of a)) _ p (merge_second l) (joins k b a lb la ob oa (λ e. ab (sym e)) blocks (omega arith))
-      go (keeps_neither p na nb) =
-          keeps Neither _ p (merge_first (omega (arith, ap length na, ap length nb))) (rw (more16_is blocks bb) (begins k a b la lb oa ob ab blocks na nb za zb))
 
   -- ---- what is read before
 

@@ -19,7 +19,7 @@ use borrow.Author.Tests.{eq-eqb, ne_eqb, lt-ltb, le-ltb, ltb-true}
 use Rattle.model.specs.Graph.{Edge, Pass, at_of, chain_of, edge_at, edge_on_ring, far, is_regular, lower_numbered, once_round, onwards, turn, until, walk}
 use Rattle.model.specs.Register.{Register, label_of, low_edge_of, marks_of}
 use Rattle.model.specs.Queries.{Reply, chain_at, found_at}
-use Rattle.model.specs.Newest.{Searched, has, inner_labels, lowest_label, search, search_among}
+use Rattle.model.specs.Newest.{Searched, has, inner_labels, lowest_label, search_among}
 use Rattle.model.specs.Tables.{Tables, tables_of}
 use Rattle.model.specs.Notions.{Reachable, SameEdges}
 use Rattle.model.specs.Series.{OwnChain}
@@ -45,7 +45,7 @@ use Rattle.theory.proofs.Registers.Labelled.{label_facts}
 use Rattle.theory.proofs.Registers.Sides.{sided}
 use Rattle.model.proofs.Registers.ReadBack.{first_read, second_read}
 use Rattle.theory.proofs.Registers.Small.{labels_small}
-use Rattle.theory.proofs.Registers.Newest.{Falling, Taken, falling, has_mem, in_newest, inner_regular, lowest_most, mem_has, newest, own_is, own_newest}
+use Rattle.theory.proofs.Registers.Newest.{Falling, Taken, has_mem, in_newest, inner_regular, lowest_most, mem_has, newest, own_is, own_newest}
 use Rattle.agreement.proofs.Tables.{far_is, sides_linked}
 use Rattle.agreement.proofs.Registers.{few, founded, landed_below, low_at_lem, proper}
 use Rattle.agreement.proofs.Chaining.{First, at_end, at_home, onward, at_first, before_home, before_none, before_on, first_step, goes_home, goes_not, goes_on, steps}
@@ -137,7 +137,7 @@ module _ (r : Register) (g : Reachable r) where
   abbrev t₁ : Tables
   t₁ = tables_of r
 
-  facts : LabelFacts r
+  pub facts : LabelFacts r
   facts = label_facts r g
 
   -- the chain of an edge of a chain has the same vertices
@@ -334,7 +334,7 @@ module _ (r : Register) (g : Reachable r) where
   own_label v = ap (λ (ls : List ℕ). get_or ls v 0) (labels_are r g 0)
 
   -- those with a lowest label below the bound are left
-  record Left (bound : ℕ) (ds : List ℕ) : Type 0 where
+  pub record Left (bound : ℕ) (ds : List ℕ) : Type 0 where
     below : (d : ℕ) → Mem d ds → lowest_label r d < bound
     there : (d : ℕ) → Mem d (newest r (founded r g) facts) → lowest_label r d < bound → Mem d ds
 
@@ -522,7 +522,7 @@ module _ (r : Register) (g : Reachable r) where
             (takes_after _ _ ih)
 
   -- before the first is taken all are left
-  all_left : Left no_bound (newest r (founded r g) facts)
+  pub all_left : Left no_bound (newest r (founded r g) facts)
   all_left = record { below = λ d m. small d (in_newest r (founded r g) facts d m); there = λ d m h. m }
     where
       small : (d : ℕ) → Taken r d → lowest_label r d < no_bound
@@ -645,7 +645,7 @@ module _ (r : Register) (g : Reachable r) where
         let k : Mem label (inner_labels r d) = rw (← l) (Memᴰ.map (label_of r) m) in
         not_both (has label (inner_labels r d)) (mem_has label (inner_labels r d) k) e
 
-    abbrev search_over : Sought
+    abbrev pub search_over : Sought
     search_over = search_in t₁.degrees t₁.sides t₁.ends t₁.lengths t₁.labels n (length es₁) label
 
     abbrev rest_over : Held
@@ -672,7 +672,7 @@ module _ (r : Register) (g : Reachable r) where
                 rw (e, s)
                 (record { taken_is = a.taken_is; found_is = (w.0, (w.1.1.0, (w.1.1.1, (refl, p.1.0 ∙ ap some (own_is r (proper r g) (chain_at r v) w.0 o.inside o.names w.1.0))))) })
 
-    searched : (ds : List ℕ) → Falling r ds → ((d : ℕ) → Mem d ds → Taken r d) → Left no_bound ds → ((v : ℕ) → is_regular es₁ v ≡ true → Mem (chain_at r v) ds) → Agrees label search_over (search_among r label ds)
+    pub searched : (ds : List ℕ) → Falling r ds → ((d : ℕ) → Mem d ds → Taken r d) → Left no_bound ds → ((v : ℕ) → is_regular es₁ v ≡ true → Mem (chain_at r v) ds) → Agrees label search_over (search_among r label ds)
     unfolding rest_in key_in
     searched ds f own s all = go (ℕ_discrete (label_of r topmost) 0)
       where
@@ -715,8 +715,3 @@ module _ (r : Register) (g : Reachable r) where
                 on : (has label (inner_labels r d) ≡ true) ⊎ (has label (inner_labels r d) ≡ false) → Agrees label search_over (search_among r label (d ∷ ds))
                 on (inl h) = first d ds e h
                 on (inr h) = others d ds e f own s h
-
-    -- the search over the tables agrees with that of model
-    pub search_agrees : Agrees label search_over (search r label)
-    unfolding search
-    search_agrees = searched (newest r (founded r g) facts) (falling r (founded r g) facts) (in_newest r (founded r g) facts) all_left (λ v q. own_newest r (founded r g) facts v q)

@@ -30,7 +30,8 @@ use Rattle.model.proofs.Basics.Booleans.{true_or_false}
 use Rattle.model.proofs.Walks.Degree.{end_first, end_second}
 use Rattle.model.proofs.Walks.Ring.{closes_of}
 use Rattle.agreement.proofs.Splitting.{rd_older}
-use Rattle.agreement.proofs.SplittingBoth.{both_reads, by_test_lem, singular_off, splits_single}
+use Rattle.agreement.proofs.SplittingBoth.{by_test_lem, singular_off, splits_single}
+use Rattle.agreement.proofs.SplittingTwice.{both_reads}
 use Rattle.agreement.proofs.Merging.{merge_reads}
 use Rattle.agreement.proofs.Standing.{Warns}
 use Rattle.agreement.proofs.Tables.{degrees_read, shows}

@@ -33,12 +33,14 @@ use Rattle.agreement.proofs.Relabelled.{relabelled_set}
 use Rattle.agreement.proofs.Lockstep.{Shows}
 use Rattle.agreement.proofs.Laying.{Everywhere, kept_where}
 use Rattle.agreement.proofs.Splitting.{Also, SplitAs, SplitOne}
-use Rattle.agreement.proofs.SplittingBoth.{Nobody, SplitTwo, singular_off, splits_both, splits_single, whole_as}
+use Rattle.agreement.proofs.SplittingBoth.{Nobody, SplitTwo, singular_off, splits_single, whole_as}
+use Rattle.agreement.proofs.SplittingTwice.{splits_both}
 use Rattle.agreement.proofs.Standing.{Warns, both_as, one_as}
 use Rattle.agreement.proofs.Opening.{OpenedBoth, opened_both}
 use Rattle.agreement.proofs.Extending.{HoldsLabelling, extended, labelling}
 use Rattle.agreement.proofs.Joining.{ChangedAs, Ground}
-use Rattle.agreement.proofs.Merging.{merges, merging_closes, merging_open}
+use Rattle.agreement.proofs.Merging.{merging_closes, merging_open}
+use Rattle.agreement.proofs.Merged.{merges}
 use Rattle.agreement.proofs.Closing.{closes}
 use Rattle.agreement.proofs.Tables.{degrees_long, degrees_read, length_raised, raised, shows, sides_long}
 use Rattle.agreement.proofs.Registers.{few, labels_long, lows_long, new_below, no_label, proper, room}

@@ -1,5 +1,5 @@
 -- The split of one end, whose other end is singular, and of both ends; and the count that is read before.
-use mathlib.Core.Path.{◌≡◌, ap₂, refl, sym, ◌∙◌, subst}
+use mathlib.Core.Path.{◌≡◌, refl, sym, ◌∙◌, subst}
 use mathlib.Core.Logic.{◌≢◌, ◌⊎◌, inl, inr}
 use Prim.Native.Nat.{ℕ, ◌+◌, ◌*◌, ◌≤◌, ◌<◌}
 use native.Mathlib.Omega.{arith}
@@ -85,7 +85,7 @@ pub record SplitTwo (es : List Edge) (ts : List ℕ) (a b : ℕ) (g : Changed) (
   pub blocks_are : g.blocks ≡ l.blocks
   pub counts : relabel_count ts g.labels ≡ g.relabellings
 
-left_test : (t : Bool) (n : ℕ) → left_for (by_test t n) ≡ by_test t n
+pub left_test : (t : Bool) (n : ℕ) → left_for (by_test t n) ≡ by_test t n
 unfolding left_for
 left_test true n = refl
 left_test false n = refl
@@ -93,10 +93,10 @@ left_test false n = refl
 module _ {es : List Edge} (pr : Proper es) {degrees sides ends labels : List ℕ} {m : Marks} (sh : Shows es degrees sides ends m.lows) (k : SplitAs es Nobody sides labels m)
     (blocks a b : ℕ) (ca : degree es a ≡ 2) (cb : degree es b ≡ 2) (ab : a ≢ b) (few : blocks + 1 < most16) (room : 8192 * (blocks + 2) + length es < most32)
     (long : length labels ≤ most16) where
-  abbrev rda : List Pass
+  abbrev pub rda : List Pass
   rda = once_round es (lower_numbered es a) a
 
-  abbrev rdb : List Pass
+  abbrev pub rdb : List Pass
   rdb = once_round es (lower_numbered es b) b
 
   ba : b ≢ a
@@ -108,14 +108,14 @@ module _ {es : List Edge} (pr : Proper es) {degrees sides ends labels : List ℕ
 
   -- ---- not on one ring
   module _ (o : on_one_ring es a b ≡ false) where
-    off_ab : vertex_on_ring es a ≡ true → Off rda b
+    pub off_ab : vertex_on_ring es a ≡ true → Off rda b
     unfolding on_one_ring
     off_ab t = not_passed b rda (rw t at o)
 
     no_ab : vertex_on_ring es a ≡ true → InPath rda b → ⊥
     no_ab t f = off_ab t f.index f.pass_is f.ith f.at_is
 
-    off_ba : vertex_on_ring es b ≡ true → Off rdb a
+    pub off_ba : vertex_on_ring es b ≡ true → Off rdb a
     off_ba t i s j e =
         let f : InPath rdb a = record { index = i; pass_is = s; ith = j; at_is = e } in
         let ra : vertex_on_ring es a ≡ true = ring_too es pr b a cb ca ba t f in
@@ -124,23 +124,23 @@ module _ {es : List Edge} (pr : Proper es) {degrees sides ends labels : List ℕ
     off_each : vertex_on_ring es b ≡ true → vertex_on_ring es a ≡ true → (z : ℕ) → InPath rdb z → Off rda z
     off_each tb ta z f i s j e = no_ab ta (shares es pr a b ca cb ab ta tb z (record { index = i; pass_is = s; ith = j; at_is = e }) f)
 
-    abbrev l₁ : Labelling
+    abbrev pub l₁ : Labelling
     l₁ = split_or_tap es blocks a m
 
-    abbrev g₁ : Changed
+    abbrev pub g₁ : Changed
     g₁ = split_by (by_test (vertex_on_ring es a) (length rda)) degrees sides ends labels blocks a b
 
-    q₁ : SplitOne es Nobody labels labels a blocks g₁ l₁
+    pub q₁ : SplitOne es Nobody labels labels a blocks g₁ l₁
     q₁ = splits_one pr sh a b ca Nobody labels sides labels m blocks k (λ s. s) refl refl (omega arith) (base_small blocks (omega arith)) (λ t u s. absurd s) (λ t i s j. refl)
 
     -- the round of b is as it was
     on_same : vertex_on_ring es b ≡ true → (i : ℕ) (s : Pass) → Ith s i rdb → get_or g₁.labels s.at 0 ≡ get_or labels s.at 0
     on_same t i s j = q₁.same s.at (off_ba t i s j) (λ ta. off_each t ta s.at (record { index = i; pass_is = s; ith = j; at_is = refl }))
 
-    abbrev g₂ : Changed
+    abbrev pub g₂ : Changed
     g₂ = split_by (by_test (vertex_on_ring es b) (length rdb)) degrees g₁.sides ends g₁.labels l₁.blocks b a
 
-    q₂ : SplitOne es (Also a Nobody) labels g₁.labels b l₁.blocks g₂ (split_or_tap es l₁.blocks b l₁.marks)
+    pub q₂ : SplitOne es (Also a Nobody) labels g₁.labels b l₁.blocks g₂ (split_or_tap es l₁.blocks b l₁.marks)
     q₂ =
         splits_one pr sh b a cb (Also a Nobody) labels g₁.sides g₁.labels l₁.marks l₁.blocks q₁.holds not_a (sym q₁.long) (q₁.same b ba off_ab)
         (omega (arith, q₁.blocks_few)) (base_small l₁.blocks q₁.blocks_few) off_a on_same
@@ -153,30 +153,11 @@ module _ {es : List Edge} (pr : Proper es) {degrees sides ends labels : List ℕ
         off_a t u (inl e) = rw e (off_ba t)
         off_a t u (inr s) = absurd s
 
-    adds : relabel_count labels g₂.labels ≡ g₁.relabellings + g₂.relabellings
-    adds = omega (arith, q₁.counts, q₂.counts, relabel_count_same labels)
-
-    sum_is : sum32 g₁.relabellings g₂.relabellings ≡ g₁.relabellings + g₂.relabellings
-    sum_is = sum32_is g₁.relabellings g₂.relabellings (omega (arith, adds, relabelled_most labels g₂.labels))
-
-    both_apart : SplitTwo es labels a b (split_both_in degrees sides ends labels blocks a b (length es)) (split_two es blocks a b m)
-    unfolding split_both_in split_two
-    both_apart =
-        rw (by_test_lem pr sh a b ca off_ab, by_test_lem pr sh b a cb off_ba, left_test (vertex_on_ring es b) (length rdb), q₁.blocks_are, o)
-        (record { holds = q₂.holds; blocks_are = q₂.blocks_are; counts = adds ∙ sym sum_is })
-
-    older_b : AllOlder es labels (base (blocks + 1)) → vertex_on_ring es b ≡ true → Older g₁.labels (base (l₁.blocks + 1)) rdb
+    pub older_b : AllOlder es labels (base (blocks + 1)) → vertex_on_ring es b ≡ true → Older g₁.labels (base (l₁.blocks + 1)) rdb
     unfolding base
     older_b h t i s j =
         let p = rd_older pr sh b cb t labels (base (blocks + 1)) h i s j in
         (omega (arith, on_same t i s j, p.0), omega (arith, on_same t i s j, p.1, q₁.blocks_more))
-
-    apart_reads : AllOlder es labels (base (blocks + 1))
-        → split_count_in Both degrees sides ends a b (length es) true ≡ (split_both_in degrees sides ends labels blocks a b (length es)).relabellings
-    unfolding split_both_in split_count_in
-    apart_reads h =
-        rw (by_test_lem pr sh a b ca off_ab, by_test_lem pr sh b a cb off_ba, left_test (vertex_on_ring es b) (length rdb), q₁.blocks_are)
-        (ap₂ {C = ℕ} (λ (n p : ℕ). n + p) (q₁.reads (λ t. rd_older pr sh a ca t labels (base (blocks + 1)) h)) (q₂.reads (older_b h)) ∙ sym sum_is)
 
   -- ---- on one ring
   module _ (o : on_one_ring es a b ≡ true) where
@@ -249,34 +230,16 @@ module _ {es : List Edge} (pr : Proper es) {degrees sides ends labels : List ℕ
         let z : laid.count ≡ laid.count + 0 = omega arith in
         counted ∙ z ∙ sym (sum32_is laid.count 0 (omega (arith, count_most)))
 
-    both_one : SplitTwo es labels a b (split_both_in degrees sides ends labels blocks a b (length es)) (split_two es blocks a b m)
+    pub both_one : SplitTwo es labels a b (split_both_in degrees sides ends labels blocks a b (length es)) (split_two es blocks a b m)
     unfolding split_both_in split_two split_or_tap tap left_for
     both_one =
         rw (by_shared pr sh a b ca ra on_a, by_shared pr sh b a cb rb on_b, more16_is blocks (omega arith), tapped, o, ra)
         (record { holds = held; blocks_are = refl; counts = last })
 
-    one_reads : AllOlder es labels (base (blocks + 1))
+    pub one_reads : AllOlder es labels (base (blocks + 1))
         → split_count_in Both degrees sides ends a b (length es) true ≡ (split_both_in degrees sides ends labels blocks a b (length es)).relabellings
     unfolding split_both_in split_count_in left_for
     one_reads h =
         let less = lay_renews_less (base (blocks + 1)) rda sides labels b (rd_once pr sh a ca ra) (rd_older pr sh a ca ra labels (base (blocks + 1)) h) on_a in
         rw (by_shared pr sh a b ca ra on_a, by_shared pr sh b a cb rb on_b, more16_is blocks (omega arith), tapped)
         (omega (arith, less, sum32_is laid.count 0 (omega (arith, count_most))))
-
-  -- both ends: the tables are left with what `split_two` says
-  pub splits_both : SplitTwo es labels a b (split_both_in degrees sides ends labels blocks a b (length es)) (split_two es blocks a b m)
-  splits_both = go (true_or_false (on_one_ring es a b))
-    where
-      go : (on_one_ring es a b ≡ true) ⊎ (on_one_ring es a b ≡ false) → SplitTwo es labels a b (split_both_in degrees sides ends labels blocks a b (length es)) (split_two es blocks a b m)
-      go (inl t) = both_one t
-      go (inr t) = both_apart t
-
-  -- the count that is read before is the count of what both splits relabel
-  pub both_reads : AllOlder es labels (base (blocks + 1))
-      → split_count_in Both degrees sides ends a b (length es) true ≡ (split_both_in degrees sides ends labels blocks a b (length es)).relabellings
-  both_reads h = go (true_or_false (on_one_ring es a b))
-    where
-      go : (on_one_ring es a b ≡ true) ⊎ (on_one_ring es a b ≡ false)
-          → split_count_in Both degrees sides ends a b (length es) true ≡ (split_both_in degrees sides ends labels blocks a b (length es)).relabellings
-      go (inl t) = one_reads t h
-      go (inr t) = apart_reads t h

@@ -10,7 +10,7 @@ use prog.Routine.{Routine}
 use types.Logic.{Logic}
 use contract.Monad.{Fun, fact}
 use contract.Lifetimes.{Lfts}
-use denote.Ref.{Bor}
+use denote.Ref.{Bor, MutBor}
 use denote.Triple.Entry.{Args, Res}
 use denote.Triple.Clauses.{AtExit, ClausesAt, Ended}
 use Rattle.model.specs.Queries.{Reply}
@@ -34,27 +34,37 @@ use Rattle.measuring.specs.contracts.distance.distance as distance
 use Rattle.measuring.specs.contracts.quote.quote as quote
 use Rattle.sheeting.specs.contracts.sheet.sheet as sheet
 use Rattle.sheeting.specs.contracts.write.write as write
-use Rattle.paging.specs.contracts.opened.open as open-sheet
-use Rattle.paging.specs.contracts.opened.fetch as fetch_line_lem
-use Rattle.sharing.specs.contracts.shares.set_shares as set-shares
+use Rattle.paging.specs.contracts.opened.open as open_sheet
+use Rattle.paging.specs.contracts.opened.fetch as fetch_line
+use Rattle.sharing.specs.contracts.shares.set_shares as set_shares
 use Rattle.taking.specs.contracts.remove.remove as remove
 
 -- ---- the parameters of a call
 
+-- a slice of numbers, lent to be read, and lent to be written
+abbrev Slice : Type 0
+Slice = Bor (List ℕ)
+
+abbrev MutSlice : Type 0
+MutSlice = MutBor (List ℕ)
+
 -- six lent slices, then others
-abbrev Six : Type 0 → Type 0
-Six R = Bor (List ℕ) × (Bor (List ℕ) × (Bor (List ℕ) × (Bor (List ℕ) × (Bor (List ℕ) × (Bor (List ℕ) × R)))))
+abbrev Six : Type 0 → Type 0 → Type 0
+Six S R = S × (S × (S × (S × (S × (S × R)))))
 
 -- the tables, the heads, the shares, the scratch tables, the house, then the query's own
 abbrev Query : Type 0 → Type 0
-Query R = Six (Heads × (Bor (List ℕ) × Six (ℕ × R)))
+Query R = Six Slice (Heads × (Slice × Six MutSlice (ℕ × R)))
 
 -- what six slices hold
-abbrev tables_in : {R : Type 0} → Six R → Tables
+abbrev tables_read : {R : Type 0} → Six Slice R → Tables
+tables_read a = tables a.0.now a.1.0.now a.1.1.0.now a.1.1.1.0.now a.1.1.1.1.0.now a.1.1.1.1.1.0.now
+
+abbrev tables_in : {R : Type 0} → Six MutSlice R → Tables
 tables_in a = tables a.0.now a.1.0.now a.1.1.0.now a.1.1.1.0.now a.1.1.1.1.0.now a.1.1.1.1.1.0.now
 
 -- what stands behind them
-abbrev past : {R : Type 0} → Six R → R
+abbrev past : {S R : Type 0} → Six S R → R
 past a = a.1.1.1.1.1.1
 
 -- a query's own parameters
@@ -63,7 +73,7 @@ own a = (past (past a).1.1).1
 
 -- the parameters of a landing: the heads, the tables, the shares, the scratch tables, the house, then its own
 abbrev Lands : Type 0 → Type 0
-Lands R = Bor Heads × Six (Bor (List ℕ) × Six (ℕ × R))
+Lands R = MutBor Heads × Six MutSlice (Slice × Six MutSlice (ℕ × R))
 
 -- its own
 abbrev lands_own : {R : Type 0} → Lands R → R
@@ -71,7 +81,7 @@ lands_own a = (past (past a.1).1).1
 
 -- the parameters of setting the shares: the tables, the heads, the shares, the scratch tables, then the shares that are asked for
 abbrev Shares : Type 0 → Type 0
-Shares R = Six (Heads × (Bor (List ℕ) × Six R))
+Shares R = Six Slice (Heads × (MutSlice × Six MutSlice R))
 
 -- ---- the contracts
 
@@ -83,7 +93,7 @@ module _ {M : Type 1} {𝓤 : Ura M} (𝓛 : Logic 𝓤) (mem : Memory → SProp
   -- with the arguments a, and z at its end, a query leaves and answers what `step` has at call c for its house
   abbrev Steps : {R S : Type 0} → Query R → Query S → List ℕ → Reply → HouseCall → SProp 𝓤
   Steps a z slice reply c =
-      let before = tables_in a in
+      let before = tables_read a in
       let heads = (past a).0 in
       let shares = (past a).1.0.now in
       fact 𝓤 (outcome before heads shares (tables_in (past z).1.1) slice reply
@@ -116,12 +126,12 @@ module _ {M : Type 1} {𝓤 : Ura M} (𝓛 : Logic 𝓤) (mem : Memory → SProp
       (quotes (record { first = (own a).0; second = (own a).1.0; len = (own a).1.1.0; volume = (own a).1.1.1.0 })))
   quote_steps κs a = refl
 
-  pub open_steps : (κs : Lfts 13) (a : Args open-sheet.signature κs)
-      → open-sheet.clauses 𝓛 mem run κs a ≡ Ensures open-sheet.ended κs (λ r z. Steps a z [] (opened_reply r) opens)
+  pub open_steps : (κs : Lfts 13) (a : Args open_sheet.signature κs)
+      → open_sheet.clauses 𝓛 mem run κs a ≡ Ensures open_sheet.ended κs (λ r z. Steps a z [] (opened_reply r) opens)
   open_steps κs a = refl
 
-  pub fetch_steps : (κs : Lfts 13) (a : Args fetch_line_lem.signature κs)
-      → fetch_line_lem.clauses 𝓛 mem run κs a ≡ Ensures fetch_line_lem.ended κs (λ r z. Steps a z [] (fetched_reply r) (fetches (as_sheet (own a).0)))
+  pub fetch_steps : (κs : Lfts 13) (a : Args fetch_line.signature κs)
+      → fetch_line.clauses 𝓛 mem run κs a ≡ Ensures fetch_line.ended κs (λ r z. Steps a z [] (fetched_reply r) (fetches (as_sheet (own a).0)))
   fetch_steps κs a = refl
 
   -- with the arguments a, and z at its end, a landing leaves and answers what `step` has at call c for its house
@@ -152,9 +162,9 @@ module _ {M : Type 1} {𝓤 : Ura M} (𝓛 : Logic 𝓤) (mem : Memory → SProp
   remove_steps κs a = refl
 
   -- the shares
-  pub shares_steps : (κs : Lfts 14) (a : Args set-shares.signature κs)
-      → set-shares.clauses 𝓛 mem run κs a ≡ Ensures set-shares.ended κs (λ r z.
-      let before = tables_in a in
+  pub shares_steps : (κs : Lfts 14) (a : Args set_shares.signature κs)
+      → set_shares.clauses 𝓛 mem run κs a ≡ Ensures set_shares.ended κs (λ r z.
+      let before = tables_read a in
       let heads = (past a).0 in
       fact 𝓤 (outcome before heads (past z).1.0.now (tables_in (past z).1.1) [] (shares_reply r)
       ≡ step (sets_shares (past (past a).1.1).0.now) (lent before heads (past a).1.0.now (tables_in (past a).1.1))))

@@ -29,7 +29,7 @@ use Rattle.insertion.specs.Insertion.{AnswerIn, done, refused_in}
 use Rattle.agreement.proofs.Sheeting.{sheet_agrees, sheet_over}
 use Rattle.holding.specs.Replay.{left_as, left_by}
 use Rattle.holding.proofs.ReplayLaws.{none_some, stored_is}
-use Rattle.holding.proofs.HeldLaws.{Agrees, growing, regrow_agrees, regrown}
+use Rattle.holding.proofs.Regrowing.{Agrees, growing, regrow_agrees, regrown}
 use Rattle.fetching.specs.Fetching.{fetch_in, line_on}
 
 -- ---- the first edges, read back

@@ -1,2 +1,3 @@
 pub mod ReplayLaws
+pub mod Regrowing
 pub mod HeldLaws
