@@ -56,12 +56,15 @@ Six S R = S × (S × (S × (S × (S × (S × R)))))
 abbrev Query : Type 0 → Type 0
 Query R = Six Slice (Heads × (Slice × Six MutSlice (ℕ × R)))
 
--- what six slices hold
+-- what six slices hold, by what one of them holds
+abbrev tables_by : {S R : Type 0} → (S → List ℕ) → Six S R → Tables
+tables_by held a = tables (held a.0) (held a.1.0) (held a.1.1.0) (held a.1.1.1.0) (held a.1.1.1.1.0) (held a.1.1.1.1.1.0)
+
 abbrev tables_read : {R : Type 0} → Six Slice R → Tables
-tables_read a = tables a.0.now a.1.0.now a.1.1.0.now a.1.1.1.0.now a.1.1.1.1.0.now a.1.1.1.1.1.0.now
+tables_read a = tables_by (λ s. s.now) a
 
 abbrev tables_in : {R : Type 0} → Six MutSlice R → Tables
-tables_in a = tables a.0.now a.1.0.now a.1.1.0.now a.1.1.1.0.now a.1.1.1.1.0.now a.1.1.1.1.1.0.now
+tables_in a = tables_by (λ s. s.now) a
 
 -- what stands behind them
 abbrev past : {S R : Type 0} → Six S R → R
