@@ -3,7 +3,7 @@ ghost use Rattle.std.specs.Prelude.{◌≡◌, ◌&&◌};
 ghost use Rattle.model.specs.Tables.{fits};
 ghost use Rattle.admission.specs.Own.{scratch_after};
 ghost use Rattle.counters.specs.Answers.{as_counts};
-ghost use Rattle.tables.specs.Meaning.{tables};
+ghost use Rattle.lent.specs.Lent.{of_lent, of_view, SameLent};
 ghost use Rattle.admission.specs.Lent.{lent};
 ghost use Rattle.admission.specs.Gate.{barred, gate_refusal, zeroed_if};
 
@@ -12,83 +12,42 @@ use clearing::whole::clear_tables;
 use counters::counts::Counts;
 use counters::refusals::Refusal;
 use holding::held::is_held;
-
-#[derive(Clone, Copy)]
-pub enum Gate {
-    Open,
-    Refused(Refusal),
-}
+use lent::slices::{Tables, View};
 
 // Under 25 nothing is written; else scratch ends all zero.
-pub fn pass_gate(
-    degrees: &[u16],
-    sides: &[u16],
-    ends: &[u16],
-    lengths: &[u32],
-    volumes: &[u32],
-    labels: &[u32],
-    counts: Counts,
-    sdegrees: &mut [u16],
-    ssides: &mut [u16],
-    sends: &mut [u16],
-    slengths: &mut [u32],
-    svolumes: &mut [u32],
-    slabels: &mut [u32],
-) -> Gate
-    ensures { (gate_refusal result ≡ barred (lent
-        (tables degrees.now sides.now ends.now lengths.now volumes.now labels.now)
-        (as_counts counts)
-        (tables sdegrees.old ssides.old sends.old slengths.old svolumes.old slabels.old)))
-        × (tables sdegrees.new ssides.new sends.new slengths.new svolumes.new slabels.new
-        ≡ scratch_after (lent
-        (tables degrees.now sides.now ends.now lengths.now volumes.now labels.now)
-        (as_counts counts)
-        (tables sdegrees.old ssides.old sends.old slengths.old svolumes.old slabels.old))) }
+pub fn pass_gate(register: &View, counts: Counts, scratch: &mut Tables) -> Result<(), Refusal>
+    ensures lent { SameLent scratch.new scratch.old }
+    ensures gates { (gate_refusal result
+        ≡ barred (lent (of_view register.now) (as_counts counts) (of_lent scratch.old)))
+        × (of_lent scratch.new
+        ≡ scratch_after (lent (of_view register.now) (as_counts counts) (of_lent scratch.old))) }
 {
-    if !sizes_fit(degrees, sides, ends, lengths, volumes, labels) {
-        return Gate::Refused(Refusal::WrongSize);
+    if !sizes_fit(register) {
+        return Err(Refusal::WrongSize);
     }
-    if !sizes_fit(sdegrees, ssides, sends, slengths, svolumes, slabels) {
-        return Gate::Refused(Refusal::WrongSize);
+    if !sizes_fit(&scratch.view()) {
+        return Err(Refusal::WrongSize);
     }
-    if !is_held(
-        degrees, sides, ends, lengths, volumes, labels, counts, sdegrees, ssides, sends, slengths,
-        svolumes, slabels,
-    ) {
-        return Gate::Refused(Refusal::NotGrown);
+    if !is_held(register, counts, scratch) {
+        return Err(Refusal::NotGrown);
     }
-    Gate::Open
+    Ok(())
 }
 
 // Whether the sizes are right. If so, register and scratch end all zero, else nothing is written.
-pub fn clear_if_fit(
-    degrees: &mut [u16],
-    sides: &mut [u16],
-    ends: &mut [u16],
-    lengths: &mut [u32],
-    volumes: &mut [u32],
-    labels: &mut [u32],
-    sdegrees: &mut [u16],
-    ssides: &mut [u16],
-    sends: &mut [u16],
-    slengths: &mut [u32],
-    svolumes: &mut [u32],
-    slabels: &mut [u32],
-) -> bool
-    ensures { (result ≡ (fits (tables degrees.old sides.old ends.old lengths.old volumes.old labels.old)
-        && fits (tables sdegrees.old ssides.old sends.old slengths.old svolumes.old slabels.old)))
-        × (tables degrees.new sides.new ends.new lengths.new volumes.new labels.new
-        ≡ zeroed_if result (tables degrees.old sides.old ends.old lengths.old volumes.old labels.old))
-        × (tables sdegrees.new ssides.new sends.new slengths.new svolumes.new slabels.new
-        ≡ zeroed_if result (tables sdegrees.old ssides.old sends.old slengths.old svolumes.old slabels.old)) }
+pub fn clear_if_fit(register: &mut Tables, scratch: &mut Tables) -> bool
+    ensures lent { SameLent register.new register.old × SameLent scratch.new scratch.old }
+    ensures clears { (result ≡ (fits (of_lent register.old) && fits (of_lent scratch.old)))
+        × (of_lent register.new ≡ zeroed_if result (of_lent register.old))
+        × (of_lent scratch.new ≡ zeroed_if result (of_lent scratch.old)) }
 {
-    if !sizes_fit(degrees, sides, ends, lengths, volumes, labels) {
+    if !sizes_fit(&register.view()) {
         return false;
     }
-    if !sizes_fit(sdegrees, ssides, sends, slengths, svolumes, slabels) {
+    if !sizes_fit(&scratch.view()) {
         return false;
     }
-    clear_tables(degrees, sides, ends, lengths, volumes, labels);
-    clear_tables(sdegrees, ssides, sends, slengths, svolumes, slabels);
+    clear_tables(register);
+    clear_tables(scratch);
     true
 }

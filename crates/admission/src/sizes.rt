@@ -1,34 +1,28 @@
 // Refusal 25: the sizes of lent tables.
 ghost use Rattle.std.specs.Prelude.{◌≡◌};
 ghost use Rattle.model.specs.Tables.{fits};
-ghost use Rattle.tables.specs.Meaning.{tables};
+ghost use Rattle.lent.specs.Lent.{of_view};
 
 use counters::sizes::{EDGES, ENDS, SIDES, VERTICES};
+use lent::slices::View;
 
-pub fn sizes_fit(
-    degrees: &[u16],
-    sides: &[u16],
-    ends: &[u16],
-    lengths: &[u32],
-    volumes: &[u32],
-    labels: &[u32],
-) -> bool
-    ensures { result ≡ fits (tables degrees.now sides.now ends.now lengths.now volumes.now labels.now) }
+pub fn sizes_fit(t: &View) -> bool
+    ensures { result ≡ fits (of_view t.now) }
 {
-    if degrees.len() != VERTICES {
+    if t.degrees.len() != VERTICES {
         return false;
     }
-    if sides.len() != SIDES {
+    if t.sides.len() != SIDES {
         return false;
     }
-    if ends.len() != ENDS {
+    if t.ends.len() != ENDS {
         return false;
     }
-    if lengths.len() != EDGES {
+    if t.lengths.len() != EDGES {
         return false;
     }
-    if volumes.len() != EDGES {
+    if t.volumes.len() != EDGES {
         return false;
     }
-    labels.len() == VERTICES
+    t.labels.len() == VERTICES
 }

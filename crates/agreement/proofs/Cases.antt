@@ -1,5 +1,5 @@
 -- Which table function an insertion is, by two tests of each end: is it a leaf, is it regular.
-use Rattle.std.specs.Prelude.{if◌then◌else◌}
+use Rattle.std.specs.Prelude.{if◌then◌else◌, Some, None}
 use mathlib.Core.Path.{◌≡◌, refl}
 use Prim.Native.Nat.{ℕ, zero, suc}
 use native.Mathlib.Omega.{arith}
@@ -11,7 +11,6 @@ use Rattle.model.specs.Cases.{Class, branch, case_of, class_of, isolated, leaf, 
 use Rattle.counters.specs.Numbers.{vertex_of}
 use Rattle.parting.specs.declared.splitting.Splits.TheVariants.{Both, Neither, One}
 use Rattle.placement.specs.Placing.{Placed, merged_in, open_in, place_in}
-use Rattle.placement.specs.declared.placing.Extension.TheVariants.{Leaf, Nothing}
 use Rattle.theory.proofs.Labels.Cases.{class_leaf, is_leaf_class}
 
 unfoldable is_regular_class : Class → Bool
@@ -33,12 +32,12 @@ module _ (degrees sides ends labels : List ℕ) (blocks a b e : ℕ) (rings : Bo
   by_ends la lb ra rb =
       if la
       then (if lb then merged_in degrees sides ends labels blocks a b e
-      else if rb then open_in (One (vertex_of b) (vertex_of a)) (Leaf (vertex_of a)) degrees sides ends labels blocks a b e rings
-      else open_in Neither (Leaf (vertex_of a)) degrees sides ends labels blocks a b e rings)
-      else (if lb then (if ra then open_in (One (vertex_of a) (vertex_of b)) (Leaf (vertex_of b)) degrees sides ends labels blocks a b e rings else open_in Neither (Leaf (vertex_of b)) degrees sides ends labels blocks a b e rings)
-      else if ra then (if rb then open_in Both Nothing degrees sides ends labels blocks a b e rings else open_in (One (vertex_of a) (vertex_of b)) Nothing degrees sides ends labels blocks a b e rings)
-      else if rb then open_in (One (vertex_of b) (vertex_of a)) Nothing degrees sides ends labels blocks a b e rings
-      else open_in Neither Nothing degrees sides ends labels blocks a b e rings)
+      else if rb then open_in (One (vertex_of b) (vertex_of a)) (Some (vertex_of a)) degrees sides ends labels blocks a b e rings
+      else open_in Neither (Some (vertex_of a)) degrees sides ends labels blocks a b e rings)
+      else (if lb then (if ra then open_in (One (vertex_of a) (vertex_of b)) (Some (vertex_of b)) degrees sides ends labels blocks a b e rings else open_in Neither (Some (vertex_of b)) degrees sides ends labels blocks a b e rings)
+      else if ra then (if rb then open_in Both None degrees sides ends labels blocks a b e rings else open_in (One (vertex_of a) (vertex_of b)) None degrees sides ends labels blocks a b e rings)
+      else if rb then open_in (One (vertex_of b) (vertex_of a)) None degrees sides ends labels blocks a b e rings
+      else open_in Neither None degrees sides ends labels blocks a b e rings)
 
   place_class : (c k : Class) → place_in (case_of c k) degrees sides ends labels blocks a b e rings ≡ by_ends (is_leaf_class c) (is_leaf_class k) (is_regular_class c) (is_regular_class k)
   unfolding case_of is_leaf_class is_regular_class

@@ -1,5 +1,5 @@
 -- Both ends are leaves: two chains become one, or the edge closes a ring.
-use Rattle.std.specs.Prelude.{if◌then◌else◌}
+use Rattle.std.specs.Prelude.{if◌then◌else◌, Some, None, Option}
 use mathlib.Core.Path.{◌≡◌, refl, sym, ap, ◌∙◌}
 use mathlib.Core.Logic.{◌≢◌}
 use Prim.Native.Nat.{ℕ, ◌*◌, ◌≤◌, ◌<◌}
@@ -17,9 +17,8 @@ use Rattle.tables.specs.Steps.{far_in}
 use Rattle.tables.specs.Walks.{Met, lockstep_in}
 use Rattle.counters.specs.Numbers.{vertex_of}
 use Rattle.labels.specs.Changes.{Changed}
-use Rattle.joining.specs.Merging.{close_in, keeper_for, keeper_in, merge_in}
+use Rattle.joining.specs.Merging.{close_in, keeper_for, keeper_in, merge_in, keeping}
 use Rattle.joining.specs.declared.merging.Keeper.{Keeper}
-use Rattle.joining.specs.declared.merging.Keeper.TheVariants.{Chain, Neither}
 use Rattle.counting.specs.Counting.{estimated, keeper_count_in, merge_count_in}
 use Rattle.joining.proofs.Merges.{first_keeps, merge_closes, merge_kept, neither_keeps, second_keeps, tie_keeps}
 use Rattle.model.proofs.Walks.Degree.{Proper, leaf_singular}
@@ -141,9 +140,9 @@ module _ {es : List Edge} {n : Edge} {degrees sides ends labels : List ℕ} {m :
       rw (← merge_kept degrees sides ends labels blocks a b (length es) (length es) da (far es da a) db (far es db b) met side_a side_b refl (keeper_for degrees a b met) (off c) refl)
       (no_closing (keeper_for degrees a b met))
     where
-      no_closing : (keeper : Keeper) → (keeper_in keeper degrees sides ends labels blocks a b (length es) (length es) da db).ring ≡ false
-      no_closing Neither = refl
-      no_closing (Chain x y) = refl
+      no_closing : (keeper : Option Keeper) → (keeper_in keeper degrees sides ends labels blocks a b (length es) (length es) da db).ring ≡ false
+      no_closing None = refl
+      no_closing (Some k) = refl
 
   -- where a ring is closed, the merging over the tables says so
   pub merging_closes : closes_ring es a b ≡ true → merging.ring ≡ true
@@ -170,9 +169,9 @@ module _ {es : List Edge} {n : Edge} {degrees sides ends labels : List ℕ} {m :
 
   -- which chain keeps its labels
   pub data Keeps : Type 0 where
-    keeps_first : Chain (vertex_of a) (vertex_of b) ≡ keeper_for degrees a b met → length (inwards es b) ≤ length (inwards es a) → 0 < length (inwards es a) → Keeps
-    keeps_second : Chain (vertex_of b) (vertex_of a) ≡ keeper_for degrees a b met → length (inwards es a) < length (inwards es b) → Keeps
-    keeps_neither : Neither ≡ keeper_for degrees a b met → inwards es a ≡ [] → inwards es b ≡ [] → Keeps
+    keeps_first : Some (keeping (vertex_of a) (vertex_of b)) ≡ keeper_for degrees a b met → length (inwards es b) ≤ length (inwards es a) → 0 < length (inwards es a) → Keeps
+    keeps_second : Some (keeping (vertex_of b) (vertex_of a)) ≡ keeper_for degrees a b met → length (inwards es a) < length (inwards es b) → Keeps
+    keeps_neither : None ≡ keeper_for degrees a b met → inwards es a ≡ [] → inwards es b ≡ [] → Keeps
 
   pub kept : Keeps
   kept =
@@ -203,7 +202,7 @@ module _ {es : List Edge} {n : Edge} {degrees sides ends labels : List ℕ} {m :
       ≡ estimated (closes_ring es a b) (merge_in degrees sides ends labels blocks a b (length es) (length es)).relabellings
   merge_reads za zb = go (closes_ring es a b) refl
     where
-      reads : (keeper : Keeper) → closes_ring es a b ≡ false → keeper ≡ keeper_for degrees a b met
+      reads : (keeper : Option Keeper) → closes_ring es a b ≡ false → keeper ≡ keeper_for degrees a b met
           → keeper_count_in keeper degrees sides ends labels (length es) ≡ (keeper_in keeper degrees sides ends labels blocks a b (length es) (length es) da db).relabellings
           → merge_count_in degrees sides ends labels a b (length es) ≡ estimated false merging.relabellings
       reads keeper c p q =
@@ -211,9 +210,9 @@ module _ {es : List Edge} {n : Edge} {degrees sides ends labels : List ℕ} {m :
           (sym (count_kept degrees sides ends labels a b (length es) da (far es da a) db (far es db b) met side_a side_b refl keeper _ (off c) p (sym q)))
 
       by : closes_ring es a b ≡ false → Keeps → merge_count_in degrees sides ends labels a b (length es) ≡ estimated false merging.relabellings
-      by c (keeps_first p l h) = reads (Chain (vertex_of a) (vertex_of b)) c p (join_reads k a b la lb oa ob ab h za zb)
-      by c (keeps_second p l) = reads (Chain (vertex_of b) (vertex_of a)) c p (join_reads k b a lb la ob oa (λ e. ab (sym e)) (omega arith) zb za)
-      by c (keeps_neither p na nb) = reads Neither c p refl
+      by c (keeps_first p l h) = reads (Some (keeping (vertex_of a) (vertex_of b))) c p (join_reads k a b la lb oa ob ab h za zb)
+      by c (keeps_second p l) = reads (Some (keeping (vertex_of b) (vertex_of a))) c p (join_reads k b a lb la ob oa (λ e. ab (sym e)) (omega arith) zb za)
+      by c (keeps_neither p na nb) = reads None c p refl
 
       go : (t : Bool) → closes_ring es a b ≡ t → merge_count_in degrees sides ends labels a b (length es) ≡ estimated t merging.relabellings
       go true c =

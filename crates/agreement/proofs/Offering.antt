@@ -1,6 +1,7 @@
 -- What is read for an edge that passed the refusals (document 02, S-5): whether it would close a ring, and how many vertices it would relabel.
 -- By the degrees of its ends the one or the other work is done for it, and for each what is read before is what the work then does.
-use Rattle.std.specs.Prelude.{if◌then◌else◌}
+use Rattle.counters.specs.declared.numbers.Vertex.{Vertex}
+use Rattle.std.specs.Prelude.{if◌then◌else◌, Some, None, Option}
 use mathlib.Core.Path.{◌≡◌, refl, sym, ap, ap₂, ◌∙◌}
 use mathlib.Core.Logic.{◌≢◌, ◌⊎◌, inl, inr}
 use Prim.Native.Nat.{ℕ, zero, suc, ◌+◌, ◌<◌}
@@ -22,8 +23,6 @@ use Rattle.parting.specs.declared.splitting.Splits.TheVariants.{Both, Neither, O
 use Rattle.counting.specs.Counting.{estimated, round_count, split_count_in}
 use Rattle.placement.specs.Placing.{goes_on_in, merged_in, opened_in, placed_by, work_for, work_in}
 use Rattle.quoting.specs.Quoting.{case_in, offer_in, work_count_in}
-use Rattle.placement.specs.declared.placing.Extension.{Extension}
-use Rattle.placement.specs.declared.placing.Extension.TheVariants.{Leaf, Nothing}
 use Rattle.placement.specs.declared.placing.Work.{Work}
 use Rattle.placement.specs.declared.placing.Work.TheVariants.{Merge, Open}
 use Rattle.model.proofs.Basics.Booleans.{true_or_false}
@@ -93,10 +92,10 @@ module _ (r : Register) (e : Edge) (rings : Bool) (g : Reachable r) (warns : War
       go (inl t) = let f = closes_of es a b t in absurd (n f.a_leaf f.b_leaf)
       go (inr t) = t
 
-  reads_open : (x : Splits) (extension : Extension) → SplitReads x rings → (degree es a ≡ 1 → degree es b ≡ 1 → ⊥) → Reads (Open x extension)
+  reads_open : (x : Splits) (extension : Option Vertex) → SplitReads x rings → (degree es a ≡ 1 → degree es b ≡ 1 → ⊥) → Reads (Open x extension)
   unfolding opened_in goes_on_in
-  reads_open x Nothing s n = rw (is_open n, s)
-  reads_open x (Leaf z) s n = rw (is_open n, s)
+  reads_open x None s n = rw (is_open n, s)
+  reads_open x (Some z) s n = rw (is_open n, s)
 
   reads_neither : SplitReads Neither rings
   unfolding split_count_in
@@ -134,22 +133,22 @@ module _ (r : Register) (e : Edge) (rings : Bool) (g : Reachable r) (warns : War
 
   by_degrees : {c k : Class} → Degree (degree es a) c → Degree (degree es b) k → Reads (work_for (case_of c k) a b)
   unfolding case_of
-  by_degrees (none_at p) (none_at q) = reads_open Neither Nothing reads_neither (λ l k. omega arith)
-  by_degrees (none_at p) (one_at q) = reads_open Neither (Leaf (vertex_of b)) reads_neither (λ l k. omega arith)
-  by_degrees (none_at p) (two_at q) = reads_open (One (vertex_of b) (vertex_of a)) Nothing (reads_one b a q (λ z. omega arith)) (λ l k. omega arith)
-  by_degrees (none_at p) (many_at q) = reads_open Neither Nothing reads_neither (λ l k. omega arith)
-  by_degrees (one_at p) (none_at q) = reads_open Neither (Leaf (vertex_of a)) reads_neither (λ l k. omega arith)
+  by_degrees (none_at p) (none_at q) = reads_open Neither None reads_neither (λ l k. omega arith)
+  by_degrees (none_at p) (one_at q) = reads_open Neither (Some (vertex_of b)) reads_neither (λ l k. omega arith)
+  by_degrees (none_at p) (two_at q) = reads_open (One (vertex_of b) (vertex_of a)) None (reads_one b a q (λ z. omega arith)) (λ l k. omega arith)
+  by_degrees (none_at p) (many_at q) = reads_open Neither None reads_neither (λ l k. omega arith)
+  by_degrees (one_at p) (none_at q) = reads_open Neither (Some (vertex_of a)) reads_neither (λ l k. omega arith)
   by_degrees (one_at p) (one_at q) = reads_merge p q
-  by_degrees (one_at p) (two_at q) = reads_open (One (vertex_of b) (vertex_of a)) (Leaf (vertex_of a)) (reads_one b a q (λ z. omega arith)) (λ l k. omega arith)
-  by_degrees (one_at p) (many_at q) = reads_open Neither (Leaf (vertex_of a)) reads_neither (λ l k. omega arith)
-  by_degrees (two_at p) (none_at q) = reads_open (One (vertex_of a) (vertex_of b)) Nothing (reads_one a b p (λ z. omega arith)) (λ l k. omega arith)
-  by_degrees (two_at p) (one_at q) = reads_open (One (vertex_of a) (vertex_of b)) (Leaf (vertex_of b)) (reads_one a b p (λ z. omega arith)) (λ l k. omega arith)
-  by_degrees (two_at p) (two_at q) = reads_open Both Nothing (reads_both p q) (λ l k. omega arith)
-  by_degrees (two_at p) (many_at q) = reads_open (One (vertex_of a) (vertex_of b)) Nothing (reads_one a b p (λ z. omega arith)) (λ l k. omega arith)
-  by_degrees (many_at p) (none_at q) = reads_open Neither Nothing reads_neither (λ l k. omega arith)
-  by_degrees (many_at p) (one_at q) = reads_open Neither (Leaf (vertex_of b)) reads_neither (λ l k. omega arith)
-  by_degrees (many_at p) (two_at q) = reads_open (One (vertex_of b) (vertex_of a)) Nothing (reads_one b a q (λ z. omega arith)) (λ l k. omega arith)
-  by_degrees (many_at p) (many_at q) = reads_open Neither Nothing reads_neither (λ l k. omega arith)
+  by_degrees (one_at p) (two_at q) = reads_open (One (vertex_of b) (vertex_of a)) (Some (vertex_of a)) (reads_one b a q (λ z. omega arith)) (λ l k. omega arith)
+  by_degrees (one_at p) (many_at q) = reads_open Neither (Some (vertex_of a)) reads_neither (λ l k. omega arith)
+  by_degrees (two_at p) (none_at q) = reads_open (One (vertex_of a) (vertex_of b)) None (reads_one a b p (λ z. omega arith)) (λ l k. omega arith)
+  by_degrees (two_at p) (one_at q) = reads_open (One (vertex_of a) (vertex_of b)) (Some (vertex_of b)) (reads_one a b p (λ z. omega arith)) (λ l k. omega arith)
+  by_degrees (two_at p) (two_at q) = reads_open Both None (reads_both p q) (λ l k. omega arith)
+  by_degrees (two_at p) (many_at q) = reads_open (One (vertex_of a) (vertex_of b)) None (reads_one a b p (λ z. omega arith)) (λ l k. omega arith)
+  by_degrees (many_at p) (none_at q) = reads_open Neither None reads_neither (λ l k. omega arith)
+  by_degrees (many_at p) (one_at q) = reads_open Neither (Some (vertex_of b)) reads_neither (λ l k. omega arith)
+  by_degrees (many_at p) (two_at q) = reads_open (One (vertex_of b) (vertex_of a)) None (reads_one b a q (λ z. omega arith)) (λ l k. omega arith)
+  by_degrees (many_at p) (many_at q) = reads_open Neither None reads_neither (λ l k. omega arith)
 
   below_a : a < max_vertices
   below_a = omega (arith, few r g)

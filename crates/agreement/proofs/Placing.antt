@@ -1,5 +1,6 @@
 -- One edge into the tables of a register that landing leaves, by what is done for it: the degrees, sides, labels and counts that the
 -- definitions leave, and whether it closes a ring.
+use Rattle.std.specs.Prelude.{Some, None}
 use mathlib.Core.Path.{◌≡◌, refl, sym, ap, ◌∙◌}
 use mathlib.Core.Logic.{◌≢◌, ◌⊎◌, inl, inr}
 use Prim.Native.Nat.{ℕ, ◌+◌, ◌≤◌, ◌<◌}
@@ -25,7 +26,6 @@ use Rattle.parting.specs.Splitting.{split_both_in, split_by, split_ends_in, spli
 use Rattle.counters.specs.Numbers.{vertex_of}
 use Rattle.parting.specs.declared.splitting.Splits.TheVariants.{Both, Neither, One}
 use Rattle.placement.specs.Placing.{Placed, goes_on_in, meet_in, merged_in, open_in, opened_in, placed}
-use Rattle.placement.specs.declared.placing.Extension.TheVariants.{Leaf, Nothing}
 use Rattle.model.proofs.Walks.Degree.{end_first, end_second, two_ends}
 use Rattle.theory.proofs.Labels.Relabellings.{moved_old, relabel_count_same}
 use Rattle.theory.proofs.Registers.Small.{blocks_small, labels_small}
@@ -221,13 +221,13 @@ module _ (r : Register) (e : Edge) (rings : Bool) (g : Reachable r) (warns : War
 
     -- a new chain stands
     pub new_stands : degree es a ≢ 1 → degree es b ≢ 1
-        → Stands new r.labels (open_in Neither Nothing degrees sides ends r.labels r.blocks a b (length es) rings) (labelling r.blocks m) false
+        → Stands new r.labels (open_in Neither None degrees sides ends r.labels r.blocks a b (length es) rings) (labelling r.blocks m) false
     unfolding opened_in
     new_stands la lb = opens Nobody uncut (labelling r.blocks m) no_cut la lb
 
     -- an extension stands
     pub extend_stands : (z w : ℕ) → ends_at z e ≡ 1 → ends_at w e ≡ 1 → z ≢ w → degree es z ≡ 1 → degree es w ≢ 1
-        → Stands new r.labels (open_in Neither (Leaf (vertex_of z)) degrees sides ends r.labels r.blocks a b (length es) rings) (extend es new r.blocks z m) false
+        → Stands new r.labels (open_in Neither (Some (vertex_of z)) degrees sides ends r.labels r.blocks a b (length es) rings) (extend es new r.blocks z m) false
     unfolding opened_in
     extend_stands z w oz ow zw one nw = goes_on Nobody uncut (labelling r.blocks m) no_cut z w oz ow zw one nw (omega (arith, few_blocks)) small refl refl
 
@@ -269,13 +269,13 @@ module _ (r : Register) (e : Edge) (rings : Bool) (g : Reachable r) (warns : War
 
     -- a split stands, where w is no leaf
     pub split_stands : degree es a ≢ 1 → degree es b ≢ 1
-        → Stands new r.labels (open_in (One (vertex_of v) (vertex_of w)) Nothing degrees sides ends r.labels r.blocks a b (length es) rings) left false
+        → Stands new r.labels (open_in (One (vertex_of v) (vertex_of w)) None degrees sides ends r.labels r.blocks a b (length es) rings) left false
     unfolding opened_in
     split_stands la lb = opens (Also v Nobody) c left one_cut la lb
 
     -- a split with an extension stands, where w is a leaf
     pub split_extend_stands : degree es w ≡ 1
-        → Stands new r.labels (open_in (One (vertex_of v) (vertex_of w)) (Leaf (vertex_of w)) degrees sides ends r.labels r.blocks a b (length es) rings) (extend es new left.blocks w left.marks) false
+        → Stands new r.labels (open_in (One (vertex_of v) (vertex_of w)) (Some (vertex_of w)) degrees sides ends r.labels r.blocks a b (length es) rings) (extend es new left.blocks w left.marks) false
     unfolding opened_in
     split_extend_stands one =
         goes_on (Also v Nobody) c left one_cut w v ow ov (λ i. vw (sym i)) one (λ t. omega arith) (omega (arith, q.blocks_few, few_blocks)) (q.small small)
@@ -322,7 +322,7 @@ module _ (r : Register) (e : Edge) (rings : Bool) (g : Reachable r) (warns : War
         among v (inr i) = inl i
 
     -- two splits stand
-    pub both_stands : Stands new r.labels (open_in Both Nothing degrees sides ends r.labels r.blocks a b (length es) rings) left_both false
+    pub both_stands : Stands new r.labels (open_in Both None degrees sides ends r.labels r.blocks a b (length es) rings) left_both false
     unfolding opened_in
     both_stands = opens (Also b (Also a Nobody)) d left_both both_cut (λ q. omega arith) (λ q. omega arith)
 

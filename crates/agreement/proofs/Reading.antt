@@ -1,4 +1,5 @@
 -- The relabellings are read before they are written: a walk that reads finds as many as laying the labels then counts.
+use Rattle.std.specs.Prelude.{Option}
 use mathlib.Core.Path.{◌≡◌, ap₂, sym, ap, ◌∙◌}
 use Prim.Native.Nat.{ℕ, zero, suc, ◌+◌, ◌*◌, ◌≤◌, ◌<◌}
 use native.Mathlib.Omega.{arith}
@@ -57,7 +58,7 @@ module _ (degrees s ends l : List ℕ) (a b n da ua db ub : ℕ) (m : Met) (h : 
   count_closes o = rw (← h.0, ← h.1, ← i.0, ← i.1, ← is, eq-eqb _ _ o)
 
   -- the first walk did not come to b: the chain that keeps its labels says how many
-  pub count_kept : (keeper : Keeper) (c : ℕ) → (m.first ≡ b → ⊥) → keeper ≡ keeper_for degrees a b m → c ≡ keeper_count_in keeper degrees s ends l n
+  pub count_kept : (keeper : Option Keeper) (c : ℕ) → (m.first ≡ b → ⊥) → keeper ≡ keeper_for degrees a b m → c ≡ keeper_count_in keeper degrees s ends l n
       → estimated false c ≡ merge_count_in degrees s ends l a b n
   unfolding merge_count_in merge_count_at
   count_kept keeper c o k e = rw (← h.0, ← h.1, ← i.0, ← i.1, ← is, ne_eqb _ _ o, ← k, ← e)

@@ -3,32 +3,35 @@ ghost use Rattle.std.specs.Prelude.{◌≡◌, ℕ, []};
 ghost use Rattle.nursery.specs.Calls.{commits};
 ghost use Rattle.counters.specs.Answers.{as_counts};
 ghost use Rattle.counters.specs.Quotes.{as_quote, commit_reply};
+ghost use Rattle.lent.specs.Lent.{of_lent, SameLent};
 ghost use Rattle.tables.specs.Meaning.{tables};
 ghost use Rattle.insertion.specs.Meaning.{as_answer};
 ghost use Rattle.admission.specs.Lent.{lent, outcome};
 ghost use Rattle.admission.specs.Own.{own_step};
 ghost use Rattle.calls.specs.Committed.{counts_after, reply_to};
 
-use crate::answered::CommittedCounts;
-use admission::gate::{Gate, pass_gate};
+use admission::gate::pass_gate;
 use committing::quotes::commit_quote;
+use counters::answers::Answered;
 use counters::counts::Counts;
-use counters::quotes::{CommitAnswer, Quote};
+use counters::quotes::Quote;
+use counters::refusals::Refusal;
 use insertion::edges::Inserted;
+use lent::slices::{Tables, View};
 
 // A landed pipe changes the counts; a refused one leaves them.
-fn keep_counts(c: Counts, inserted: Inserted) -> CommittedCounts
+fn keep_counts(c: Counts, inserted: Result<Inserted, Refusal>) -> Answered<()>
     ensures { (as_counts result.counts ≡ counts_after (as_counts c) (as_answer inserted))
         × (commit_reply result.answer ≡ reply_to (as_answer inserted)) }
 {
     match inserted {
-        Inserted::Done(after, rings) => CommittedCounts {
-            counts: after,
-            answer: CommitAnswer::Landed,
+        Ok(landed) => Answered {
+            counts: landed.counts,
+            answer: Ok(()),
         },
-        Inserted::Refused(refusal) => CommittedCounts {
+        Err(refusal) => Answered {
             counts: c,
-            answer: CommitAnswer::Refused(refusal),
+            answer: Err(refusal),
         },
     }
 }
@@ -43,34 +46,33 @@ pub fn commit_own(
     lengths: &mut [u32],
     volumes: &mut [u32],
     labels: &mut [u32],
-    sdegrees: &mut [u16],
-    ssides: &mut [u16],
-    sends: &mut [u16],
-    slengths: &mut [u32],
-    svolumes: &mut [u32],
-    slabels: &mut [u32],
+    scratch: &mut Tables,
     quote: Quote,
-) -> CommittedCounts
-    ensures { (removals : ℕ) → outcome (tables degrees.new sides.new ends.new lengths.new volumes.new labels.new) (as_counts result.counts)
-        (tables sdegrees.new ssides.new sends.new slengths.new svolumes.new slabels.new) [] (commit_reply result.answer)
+) -> Answered<()>
+    ensures lent { SameLent scratch.new scratch.old }
+    ensures steps { (removals : ℕ) → outcome (tables degrees.new sides.new ends.new lengths.new volumes.new labels.new) (as_counts result.counts) (of_lent scratch.new) [] (commit_reply result.answer)
         ≡ own_step limit removals (commits (as_quote quote))
-        (lent (tables degrees.old sides.old ends.old lengths.old volumes.old labels.old) (as_counts c)
-        (tables sdegrees.old ssides.old sends.old slengths.old svolumes.old slabels.old)) }
+        (lent (tables degrees.old sides.old ends.old lengths.old volumes.old labels.old) (as_counts c) (of_lent scratch.old)) }
 {
-    let passed = pass_gate(
-        degrees, sides, ends, lengths, volumes, labels, c, sdegrees, ssides, sends, slengths,
-        svolumes, slabels,
-    );
+    let register = View {
+        degrees,
+        sides,
+        ends,
+        lengths,
+        volumes,
+        labels,
+    };
+    let passed = pass_gate(&register, c, scratch);
     match passed {
-        Gate::Open => {
+        Ok(()) => {
             let inserted = commit_quote(
                 degrees, sides, ends, lengths, volumes, labels, c, limit, quote, true,
             );
             keep_counts(c, inserted)
         }
-        Gate::Refused(refusal) => CommittedCounts {
+        Err(refusal) => Answered {
             counts: c,
-            answer: CommitAnswer::Refused(refusal),
+            answer: Err(refusal),
         },
     }
 }

@@ -1,5 +1,5 @@
--- The ways out of `canonical_list`, and what its answer counts.
-use mathlib.Core.Path.{◌≡◌, sym, ap, subst, ◌∙◌}
+-- The ways out of `canonical_list`.
+use mathlib.Core.Path.{◌≡◌, sym, ap, ◌∙◌}
 use Prim.Native.Nat.{ℕ, ◌≤◌, ◌<◌}
 use native.Mathlib.Omega.{arith}
 use mathlib.Core.List.{List}
@@ -23,8 +23,7 @@ use Rattle.streams.proofs.Input.{counted}
 use Rattle.text.specs.Pages.{Page, page, write}
 use Rattle.text.proofs.PageLaws.{write_held}
 use Rattle.text.proofs.LineLaws.{stop_length}
-use Rattle.canonical.specs.Output.{Streams, gives, tells, canonical, canonical_of, room_bytes, size_of}
-use Rattle.canonical.specs.declared.output.Output.{Output}
+use Rattle.canonical.specs.Output.{Streams, gives, tells, canonical, canonical_of, room_bytes}
 
 -- what a page holds whose text fits, told on one stream or the other
 page_holds : (give : List ℕ → Streams) (xs bs out : List ℕ) (q : Page) → q ≡ write xs (page out 0) → length xs ≤ length out → give xs ≡ canonical bs
@@ -78,7 +77,3 @@ module _ (bs out : List ℕ) (d : ReadingIn) (short : length bs ≤ 65536) (long
   unfolding canonical canonical_of
   stop_told k x q hk hx s e =
       page_holds tells _ bs out q e (omega (arith, stop_length k x hk hx)) (rw (le-ltb 65536 (length bs) short, same_stop (stopped k x) s))
-
--- the answer's size is counted
-pub size_held : (r s : Output) (xs : List ℕ) → r ≡ s → Counted (size_of r) xs → Counted (size_of s) xs
-size_held r s xs e h = subst (λ (o : Output). Counted (size_of o) xs) e h

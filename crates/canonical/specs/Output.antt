@@ -1,9 +1,7 @@
 -- What the program writes for the bytes that it read.
-use Rattle.std.specs.Prelude.{ℕ, List, [], length, take, ltb, if◌then◌else◌}
+use Rattle.std.specs.Prelude.{ℕ, List, [], length, take, ltb, if◌then◌else◌, Result, Ok, Err}
 use Rattle.model.specs.Format.{Read, whole, stopped, grow_list, written}
 use Rattle.model.specs.Printing.{ascii, stop_line}
-use Rattle.canonical.specs.declared.output.Output.{Output}
-use Rattle.canonical.specs.declared.output.Output.TheVariants as output
 
 -- the bytes on standard output, and those on standard error
 pub record Streams : Type 0 where
@@ -25,13 +23,13 @@ canonical bs = if ltb 65536 (length bs) then tells (ascii "too long\n") else can
 
 -- ---- the program's answer: so many bytes at the front of its slice
 
-abbrev pub size_of : Output → ℕ
-size_of (output.List n) = n
-size_of (output.Complaint n) = n
+abbrev pub size_of : Result ℕ ℕ → ℕ
+size_of (Ok n) = n
+size_of (Err n) = n
 
-abbrev pub as_output : Output → List ℕ → Streams
-as_output (output.List n) xs = gives (take n xs)
-as_output (output.Complaint n) xs = tells (take n xs)
+abbrev pub as_output : Result ℕ ℕ → List ℕ → Streams
+as_output (Ok n) xs = gives (take n xs)
+as_output (Err n) xs = tells (take n xs)
 
 -- the program's slice: 4,096 vertices and edges need 57,349 bytes, a complaint fewer
 abbrev pub room_bytes : ℕ

@@ -4,22 +4,21 @@
 
 mod output;
 
-use output::{Output, ROOM, canonical_list};
+use output::{ROOM, canonical_list};
 use std::io::Print;
-use streams::reading::{MAX_LIST, ReadAnswer, read_list};
+use streams::reading::{MAX_LIST, read_list};
 use streams::writing::{complain, write_output};
 
 fn write_canonical<P: Print, E: Print>(standard: &P, errors: &E, list: &[u8]) {
     let mut out = [0u8; ROOM];
-    let output = canonical_list(list, &mut out);
-    match output {
-        Output::List(k) => write_output(
+    match canonical_list(list, &mut out) {
+        Ok(k) => write_output(
             standard,
             errors,
             &out[..k],
             b"canonical: the list could not be written to its end\n",
         ),
-        Output::Complaint(k) => complain(errors, &out[..k]),
+        Err(k) => complain(errors, &out[..k]),
     }
 }
 
@@ -27,10 +26,9 @@ fn main(rt: HostRuntime) {
     let errors = rt.stderr();
     // Room for a byte more than a list may have, so that a longer one shows.
     let mut list = [0u8; MAX_LIST + 1];
-    let read = read_list(&rt, &mut list);
-    match read {
-        ReadAnswer::Bytes(n) => write_canonical(&rt, &errors, &list[..n]),
-        ReadAnswer::Failed => complain(
+    match read_list(&rt, &mut list) {
+        Ok(n) => write_canonical(&rt, &errors, &list[..n]),
+        Err(_) => complain(
             &errors,
             b"canonical: the list could not be read to its end, so none is written\n",
         ),

@@ -16,19 +16,13 @@ use text::writing::put_text;
 pub const ROOM: usize = 65536;
 
 // So many bytes of the slice: a list, for standard output, or a line, for standard error.
-#[derive(Clone, Copy)]
-pub enum Output {
-    List(usize),
-    Complaint(usize),
-}
-
-pub fn canonical_list(list: &[u8], out: &mut [u8]) -> Output
+pub fn canonical_list(list: &[u8], out: &mut [u8]) -> Result<usize, usize>
     requires { room_bytes ≤ length out.old }
     ensures { Counted (size_of result) out.new × (as_output result out.new ≡ canonical list.now) }
 {
     if MAX_LIST < list.len() {
         let long = put_text(out, 0, b"too long\n");
-        return Output::Complaint(long);
+        return Err(long);
     }
     let mut degrees = [0u16; VERTICES];
     let mut sides = [0u16; SIDES];
@@ -49,12 +43,12 @@ pub fn canonical_list(list: &[u8], out: &mut [u8]) -> Output
     match stop {
         Stop::Whole => {
             let size = put_list(out, &ends, &lengths, &volumes, reading.counts);
-            Output::List(size)
+            Ok(size)
         }
         Stop::Stopped(record, refusal) => {
             let number = refusal.number();
             let line = put_stopped(out, 0, record as u64, number as u64);
-            Output::Complaint(line)
+            Err(line)
         }
     }
 }

@@ -1,8 +1,8 @@
 -- One row; and rows written one behind the other, in any encoding that does so.
-use mathlib.Core.Path.{◌≡◌, refl, sym}
+use mathlib.Core.Path.{◌≡◌, refl, ap}
 use mathlib.Core.Bool.{Bool, true, false}
-use mathlib.Core.List.{List, [], ◌∷◌, ◌++◌, map, append_assoc, append-nil}
-use Prim.Native.Nat.{ℕ, ◌+◌, ◌*◌, min, max}
+use mathlib.Core.List.{List, [], ◌∷◌, ◌++◌, map}
+use Prim.Native.Nat.{ℕ, ◌+◌, ◌-◌, ◌*◌, min, max}
 use native.Mathlib.Omega.{arith}
 use borrow.Author.Tests.{eq-eqb, ne_eqb}
 use lib.ListN.{length, get_or, length-map, length-append}
@@ -11,8 +11,9 @@ use Rattle.model.specs.Basics.{row_size}
 use Rattle.model.specs.Queries.{concat}
 use Rattle.tables.specs.Steps.{sum32}
 use Rattle.text.specs.Pages.{Page, write}
-use Rattle.text.proofs.PageLaws.{write_two}
-use Rattle.chains.specs.Chains.{WalkEnd, names_in, walk_end, walk_in, walk_volume_in, row_in, rows_in, sheet_in}
+use Rattle.text.proofs.PageLaws.{write_append}
+use Rattle.chains.specs.Chains.{WalkEnd, names_in, walk_end, walk_in, walk_volume_in, row_in, rows_in, sheet_in, sweep_in}
+use Rattle.chains.proofs.NameLaws.{sweep_start}
 
 module _ (ds ss es ls vs : List ℕ) (n e a b v k l x own known more : ℕ) (f : a ≡ get_or es (2 * e) 0) (s : b ≡ get_or es (2 * e + 1) 0)
     (h : walk_end v k l x ≡ walk_in ds ss es ls a n e b) (o : own ≡ get_or ls e 0) (p : known ≡ get_or vs e 0)
@@ -40,28 +41,23 @@ unfolding concat
 numbers = record { none = refl; first = λ row rows. refl }
 
 module _ (ds ss es ls vs : List ℕ) (n : ℕ) where
+  -- A loop puts the rows of the names from an edge on: at the start those of all, for a name more its row and then the others, at the
+  -- end none
   module _ (one : List ℕ → List ℕ) (all : List (List ℕ) → List ℕ) (by_Row : RowByRow one all) where
-    rows_snoc : (cs : List ℕ) (c : ℕ) → all (rows_in ds ss es ls vs n (cs ++ (c ∷ []))) ≡ all (rows_in ds ss es ls vs n cs) ++ one (row_in ds ss es ls vs n c)
-    unfolding rows_in
-    rows_snoc [] c = rw (by_Row.first (row_in ds ss es ls vs n c) [], by_Row.none, append-nil)
-    rows_snoc (x ∷ cs) c =
-        let f : ℕ → List ℕ = row_in ds ss es ls vs n in
-        rw (by_Row.first (f x) (map f (cs ++ (c ∷ []))), by_Row.first (f x) (map f cs), rows_snoc cs c) (sym (append_assoc (one (f x)) (all (map f cs)) (one (f c))))
-
-    -- no row, and one row more
-    pub put_none : (p : Page) → p ≡ write (all (rows_in ds ss es ls vs n [])) p
-    unfolding rows_in write
-    put_none p = rw by_Row.none
-
-    pub put_on : (cs row : List ℕ) (c : ℕ) (p₀ p q : Page) → p ≡ write (all (rows_in ds ss es ls vs n cs)) p₀ → row ≡ row_in ds ss es ls vs n c
-        → q ≡ write (one row) p → q ≡ write (all (rows_in ds ss es ls vs n (cs ++ (c ∷ [])))) p₀
-    put_on cs row c p₀ p q a r w = rw (rows_snoc cs c) (write_two _ _ p₀ p q a (rw (← r) w))
-
-    -- all rows
-    pub put_all : (cs ms : List ℕ) (p₀ p : Page) → cs ≡ names_in ds ss es n ms → p ≡ write (all (rows_in ds ss es ls vs n cs)) p₀
-        → p ≡ write (all (sheet_in ds ss es ls vs n ms)) p₀
+    pub put_start : (ms : List ℕ) (p : Page) → write (all (rows_in ds ss es ls vs n (sweep_in ds ss es n (n - 0) ms 0))) p ≡ write (all (sheet_in ds ss es ls vs n ms)) p
     unfolding sheet_in
-    put_all cs ms p₀ p e a = rw (← e) a
+    put_start ms p = ap (λ (cs : List ℕ). write (all (rows_in ds ss es ls vs n cs)) p) (sweep_start ds ss es n ms)
+
+    pub put_on : (c : ℕ) (row later names : List ℕ) (p q : Page) → c ∷ later ≡ names → row ≡ row_in ds ss es ls vs n c → q ≡ write (one row) p
+        → write (all (rows_in ds ss es ls vs n later)) q ≡ write (all (rows_in ds ss es ls vs n names)) p
+    unfolding rows_in
+    put_on c row later names p q e r w =
+        let f : ℕ → List ℕ = row_in ds ss es ls vs n in
+        rw (← e, by_Row.first (f c) (map f later), write_append (one (f c)) (all (map f later)) p, ← r, ← w) refl
+
+    pub put_end : (names : List ℕ) (p : Page) → [] ≡ names → p ≡ write (all (rows_in ds ss es ls vs n names)) p
+    unfolding rows_in write
+    put_end names p e = rw (← e, by_Row.none) refl
 
   -- a row a name, of so many numbers
   rows_count : (cs : List ℕ) → length (rows_in ds ss es ls vs n cs) ≡ length cs

@@ -3,10 +3,10 @@ use Rattle.std.specs.Prelude.{if◌then◌else◌}
 use mathlib.Core.Path.{◌≡◌, refl, sym}
 use mathlib.Core.Bool.{Bool, true, false, ◌||◌}
 use mathlib.Core.List.{List}
-use Prim.Native.Nat.{ℕ, zero, suc, ◌-◌, ◌<◌, ◌≤◌}
+use Prim.Native.Nat.{ℕ, zero, suc, ◌+◌, ◌-◌, ◌<◌, ◌≤◌}
 use native.Mathlib.Nat.{not-suc-le-zero}
-use native.Mathlib.Numerals.{sub-one}
-use borrow.Author.Tests.{eq-eqb, ne_eqb}
+use native.Mathlib.Omega.{arith}
+use borrow.Author.Tests.{ne_eqb}
 use lib.ListN.{get_or}
 use lib.Dec.{eqb}
 use Rattle.tables.specs.Steps.{far_in, turn_in, sum32}
@@ -47,7 +47,9 @@ module _ (ds ss es vs : List ℕ) (home : ℕ) where
   unfolding walk_volume_in
   volume_on n known d v c w h i j = rw (h, i, j)
 
-  pub volume_step : (n known more d v c w : ℕ) → 0 < n → goes_on_in ds home v ≡ true → c ≡ turn_in ss d v → w ≡ far_in es c v
-      → more ≡ plus_volume32 known (get_or vs c 0) → walk_volume_in ds ss es vs home n known d v ≡ walk_volume_in ds ss es vs home (n - 1) more c w
-  volume_step zero known more d v c w h g a b e = absurd (not-suc-le-zero h)
-  volume_step (suc n) known more d v c w h g a b e = rw (sub-one, e) (volume_on n known d v c w g (sym a) (sym b))
+  pub volume_step : (n i known more d v c w : ℕ) → i < n → goes_on_in ds home v ≡ true → c ≡ turn_in ss d v → w ≡ far_in es c v
+      → more ≡ plus_volume32 known (get_or vs c 0)
+      → walk_volume_in ds ss es vs home (n - i) known d v ≡ walk_volume_in ds ss es vs home (n - (i + 1)) more c w
+  volume_step n i known more d v c w h g a b e =
+      let next : n - i ≡ suc (n - (i + 1)) = omega (arith, h) in
+      rw (next, e) (volume_on (n - (i + 1)) known d v c w g (sym a) (sym b))

@@ -4,7 +4,6 @@ use mathlib.Core.Bool.{Bool, true, false, not}
 use mathlib.Core.List.{List}
 use Prim.Native.Nat.{ℕ, zero, suc, ◌+◌, ◌-◌, ◌<◌, ◌≤◌, min}
 use native.Mathlib.Nat.{not-suc-le-zero, zero-add, add-zero}
-use native.Mathlib.Numerals.{sub-one}
 use native.Mathlib.Omega.{arith}
 use borrow.Author.Tests.{eq-eqb, ne_eqb}
 use lib.ListN.{get_or}
@@ -94,14 +93,14 @@ module _ (ds ss es ls : List ℕ) (home : ℕ) where
     pub walk_stop : (n d v : ℕ) → goes_on_in ds home v ≡ false → walk_end v k l x ≡ walk_ahead k l x (walk_in ds ss es ls home n d v)
     walk_stop n d v h = rw (walk_in_stop n d v h) (stopped v)
 
-  -- a turn of the loop
-  pub walk_step : (n d v c w k l x y z m : ℕ) → 0 < n → goes_on_in ds home v ≡ true → z ≡ min v x → c ≡ turn_in ss d v → w ≡ far_in es c v
+  -- turn i of the loop
+  pub walk_step : (n i d v c w k l x y z m : ℕ) → i < n → goes_on_in ds home v ≡ true → z ≡ min v x → c ≡ turn_in ss d v → w ≡ far_in es c v
       → y ≡ get_or ls c 0 → m ≡ sum32 l y
-      → walk_ahead k l x (walk_in ds ss es ls home n d v) ≡ walk_ahead (k + 1) m z (walk_in ds ss es ls home (n - 1) c w)
+      → walk_ahead k l x (walk_in ds ss es ls home (n - i) d v) ≡ walk_ahead (k + 1) m z (walk_in ds ss es ls home (n - (i + 1)) c w)
   unfolding walk_in walk_ahead
-  walk_step zero d v c w k l x y z m h g q a b e f = absurd (not-suc-le-zero h)
-  walk_step (suc n) d v c w k l x y z m h g q a b e f =
-      let r : WalkEnd = walk_in ds ss es ls home n c w in
+  walk_step n i d v c w k l x y z m h g q a b e f =
+      let next : n - i ≡ suc (n - (i + 1)) = omega (arith, h) in
+      let r : WalkEnd = walk_in ds ss es ls home (n - (i + 1)) c w in
       let p : k + (1 + r.inner) ≡ k + 1 + r.inner = omega arith in
       let s : min x (min v r.lowest) ≡ min z r.lowest = omega arith in
-      rw (g, sub-one, ← a, ← b, ← e, f) (λ i. walk_end r.at (p i) (sum32_assoc l y r.length i) (s i))
+      rw (next, g, ← a, ← b, ← e, f) (λ j. walk_end r.at (p j) (sum32_assoc l y r.length j) (s j))

@@ -80,11 +80,6 @@ sweep_in degrees sides ends n (suc k) marks d =
       | false ↦ sweep_in degrees sides ends n k marks (suc d)
     ]
 
--- the first of k edges from d on that has no mark, or the one behind them
-unfoldable pub unmarked_from : ℕ → List ℕ → ℕ → ℕ
-unmarked_from zero marks d = d
-unmarked_from (suc k) marks d = elim (eqb (get_or marks d 0) 0) [ true ↦ d | false ↦ unmarked_from k marks (suc d) ]
-
 -- the names among the first n edges, over marks that are lent
 unfoldable pub names_in : List ℕ → List ℕ → List ℕ → ℕ → List ℕ → List ℕ
 names_in degrees sides ends n marks = sweep_in degrees sides ends n n marks 0

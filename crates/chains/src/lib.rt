@@ -3,7 +3,6 @@
 
 pub mod marks;
 pub mod names;
-pub mod numbers;
 pub mod rows;
 pub mod volumes;
 pub mod walks;

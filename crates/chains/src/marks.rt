@@ -1,12 +1,11 @@
 // Marks on the edges that a walk has passed.
-ghost use Rattle.std.specs.Prelude.{◌≡◌, ◌-◌, set};
-ghost use Rattle.chains.specs.Chains.{marked, mark_in, unmarked_from, walk_end, walk_in, walk_volume_in};
+ghost use Rattle.std.specs.Prelude.{◌≡◌, set};
+ghost use Rattle.chains.specs.Chains.{marked, mark_in, walk_end, walk_in, walk_volume_in};
 
-use crate::numbers::lesser_vertex;
 use crate::volumes::volume_onto;
 use crate::walks::goes_on;
 use counters::numbers::{Edge, Millilitres, Millimetres, Vertex};
-use tables::access::{of16, put16};
+use tables::access::put;
 use tables::kinds::length_of;
 use tables::steps::add_lengths;
 use tables::walks::{Walker, step_over};
@@ -28,7 +27,7 @@ pub struct WalkEnd {
 fn put_mark(marks: &mut [u16], d: Edge)
     ensures { marks.new ≡ set marks.old d.0 1 }
 {
-    put16(marks, d.0 as usize, MARK);
+    put(marks, d.0 as usize, MARK);
 }
 
 // Marks the edges behind the regular vertices on the way of one who comes along an edge to vertex `from`; the answer is where it ends.
@@ -46,14 +45,12 @@ pub fn mark_onwards(
         ≡ mark_in degrees.now sides.now ends.now home.0 fuel marks.old edge.0 from.0 }
 {
     let mut w = Walker { edge, at: from };
-    let mut left = fuel;
-    while 0 < left {
+    for _ in 0..fuel {
         if !goes_on(degrees, home, w.at) {
             break;
         }
         w = step_over(sides, ends, w);
         put_mark(marks, w.edge);
-        left -= 1;
     }
     Vertex(w.at.0)
 }
@@ -84,18 +81,16 @@ pub fn walk_marking(
     let mut length = Millimetres(0);
     let mut volume = known;
     let mut lowest = home;
-    let mut left = fuel;
-    while 0 < left {
+    for _ in 0..fuel {
         if !goes_on(degrees, home, w.at) {
             break;
         }
-        lowest = lesser_vertex(w.at, lowest);
+        lowest = w.at.min(lowest);
         w = step_over(sides, ends, w);
         put_mark(marks, w.edge);
         length = add_lengths(length, length_of(lengths, w.edge));
         volume = volume_onto(volumes, volume, w.edge);
         inner += 1;
-        left -= 1;
     }
     WalkEnd {
         at: Vertex(w.at.0),
@@ -104,18 +99,4 @@ pub fn walk_marking(
         volume,
         lowest,
     }
-}
-
-// The next edge that has no mark, or `edges` where all others have one.
-pub fn next_unmarked(marks: &[u16], from: u16, edges: u16) -> u16
-    ensures { result ≡ unmarked_from (edges - from) marks.now from }
-{
-    let mut edge = from;
-    while edge < edges {
-        if of16(marks, edge) == 0 {
-            break;
-        }
-        edge += 1;
-    }
-    edge
 }

@@ -2,8 +2,9 @@
 ghost use Rattle.std.specs.Prelude.{◌≡◌, length, leb};
 ghost use Rattle.chains.specs.Chains.{mark_chain_in, names_in};
 
-use crate::marks::{mark_onwards, next_unmarked};
+use crate::marks::mark_onwards;
 use counters::numbers::Edge;
+use tables::access::of;
 use tables::kinds::{degree_of, first_end, second_end};
 
 // Marks all other edges on the chain of an edge: once round a ring, or both ways to the chain's ends.
@@ -38,11 +39,12 @@ pub fn count_chains(
     ensures { result ≡ length (names_in degrees.now sides.now ends.now edges marks.old) }
 {
     let mut count: u16 = 0;
-    let mut edge = next_unmarked(marks, 0, edges);
-    while edge < edges {
+    for edge in 0..edges {
+        if of(marks, edge) != 0 {
+            continue;
+        }
         mark_chain(degrees, sides, ends, marks, Edge(edge), edges);
         count += 1;
-        edge = next_unmarked(marks, edge + 1, edges);
     }
     count
 }

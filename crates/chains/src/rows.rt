@@ -5,7 +5,6 @@ ghost use Rattle.chains.specs.Chains.{mark_chain_in, row_in};
 ghost use Rattle.chains.specs.Answers.{row_of};
 
 use crate::marks::{WalkEnd, walk_marking};
-use crate::numbers::{greater_vertex, lesser_vertex, wide};
 use counters::numbers::{Edge, Millilitres, Millimetres, Vertex};
 use tables::kinds::{degree_of, first_end, length_of, second_end, volume_of};
 use tables::steps::add_lengths;
@@ -34,7 +33,7 @@ fn ring_row(name: Edge, own: Millimetres, on: WalkEnd) -> Row
         name,
         lower: lowest,
         other: lowest,
-        inner: 1 + wide(on.inner),
+        inner: 1 + u32::from(on.inner),
         length: add_lengths(own, on.length),
         volume,
     }
@@ -48,9 +47,9 @@ fn open_row(name: Edge, own: Millimetres, back: WalkEnd, on: WalkEnd) -> Row
     let volume = back.volume;
     Row {
         name,
-        lower: lesser_vertex(back.at, on.at),
-        other: greater_vertex(back.at, on.at),
-        inner: wide(back.inner) + wide(on.inner),
+        lower: back.at.min(on.at),
+        other: back.at.max(on.at),
+        inner: u32::from(back.inner) + u32::from(on.inner),
         length: add_lengths(back.length, add_lengths(own, on.length)),
         volume,
     }

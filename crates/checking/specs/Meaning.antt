@@ -1,6 +1,7 @@
 -- Document 01's values of the enums of this crate.
 use Rattle.model.specs.Cases as C
-use Rattle.std.specs.Prelude.{ℕ}
+use Rattle.std.specs.Prelude as std
+use Rattle.std.specs.Prelude.{ℕ, Some, None, Result, Ok, Err}
 use Rattle.std.proofs.Math.Option.{Option, none, some}
 use Rattle.counters.specs.Refusals.{number_of}
 use Rattle.checking.specs.Checks.{CheckIn, passed, failed}
@@ -9,9 +10,8 @@ use Rattle.checking.specs.declared.cases.Class.TheVariants.{Isolated, Leaf, Regu
 use Rattle.checking.specs.declared.cases.Case.{Case}
 use Rattle.checking.specs.declared.cases.Case.TheVariants.{New, ExtendFirst, ExtendSecond, Merge, SplitExtendFirst, SplitExtendSecond, SplitFirst, SplitSecond, SplitBoth}
 use Rattle.checking.specs.declared.checks.Checked.{Checked}
-use Rattle.checking.specs.declared.checks.Checked.TheVariants as checked
-use Rattle.checking.specs.declared.checks.CheckedVolume.{CheckedVolume}
-use Rattle.checking.specs.declared.checks.CheckedVolume.TheVariants as volume
+use Rattle.counters.specs.declared.numbers.Millilitres.{Millilitres}
+use Rattle.counters.specs.declared.refusals.Refusal.{Refusal}
 
 abbrev pub as_class : Class → C.Class
 as_class Isolated = C.isolated
@@ -30,10 +30,10 @@ as_case SplitFirst = C.split_new C.first_named
 as_case SplitSecond = C.split_new C.second_named
 as_case SplitBoth = C.split_both
 
-abbrev pub as_checked : Checked → CheckIn
-as_checked (checked.Passed a b l v) = passed a.0 b.0 l.0 v.0
-as_checked (checked.Refused x) = failed (number_of x)
+abbrev pub as_checked : Result Checked Refusal → CheckIn
+as_checked (Ok e) = passed e.first.0 e.second.0 e.length.0 e.volume.0
+as_checked (Err x) = failed (number_of x)
 
-abbrev pub as_volume : CheckedVolume → Option ℕ
-as_volume (volume.Is v) = some v.0
-as_volume volume.OutOfRange = none
+abbrev pub as_volume : std.Option Millilitres → Option ℕ
+as_volume (Some v) = some v.0
+as_volume None = none

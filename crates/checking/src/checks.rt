@@ -6,38 +6,31 @@ ghost use Rattle.checking.specs.Checks.{stored_volume, check_in};
 ghost use Rattle.checking.specs.Meaning.{as_checked, as_volume};
 
 use counters::counts::Counts;
-use counters::numbers::{
-    CheckedMillilitres, CheckedMillimetres, CheckedVertex, Millilitres, Millimetres, Vertex,
-};
+use counters::numbers::{CheckedMillilitres, Millilitres, Millimetres, Vertex};
 use counters::refusals::Refusal;
 use counters::sizes::MAX_EDGES;
 
-// A volume as the register has it, if it is within its bounds.
-#[derive(Clone, Copy)]
-pub enum CheckedVolume {
-    Is(Millilitres),
-    OutOfRange,
-}
-
-// "0 means unknown in the register".
-fn check_volume(volume: u32) -> CheckedVolume
+// A volume as the register has it, if it is within its bounds: "0 means unknown in the register".
+fn check_volume(volume: u32) -> Option<Millilitres>
     ensures { as_volume result ≡ stored_volume (volume_of volume) }
 {
     match Millilitres::new(volume) {
-        CheckedMillilitres::Known(known) => CheckedVolume::Is(known),
-        CheckedMillilitres::Unknown => CheckedVolume::Is(Millilitres(Millilitres::UNKNOWN)),
-        CheckedMillilitres::OutOfRange => CheckedVolume::OutOfRange,
+        CheckedMillilitres::Known(known) => Some(known),
+        CheckedMillilitres::Unknown => Some(Millilitres(Millilitres::UNKNOWN)),
+        CheckedMillilitres::OutOfRange => None,
     }
 }
 
-// The first of refusals 5, 6, 7, 31, 23 and 36 that holds of an edge (document 01: pipe), or its ends, length and volume where none does.
+// An edge (document 01: pipe) that passed: its ends, length and volume.
 #[derive(Clone, Copy)]
-pub enum Checked {
-    Passed(Vertex, Vertex, Millimetres, Millilitres),
-    Refused(Refusal),
+pub struct Checked {
+    pub first: Vertex,
+    pub second: Vertex,
+    pub length: Millimetres,
+    pub volume: Millilitres,
 }
 
-// Document 01's order, with 31 just after 7 and 36 just after 23. A register may not pass `limit` edges; without a licence it is MAX_EDGES,
+// The first of refusals 5, 6, 7, 31, 23 and 36 that holds of an edge, or what passed where none does. Document 01's order, with 31 just after 7 and 36 just after 23. A register may not pass `limit` edges; without a licence it is MAX_EDGES,
 // and 36 never holds. What a record says is a plain number until it is tested here.
 pub fn check_edge(
     counts: Counts,
@@ -46,29 +39,34 @@ pub fn check_edge(
     second: u16,
     length: u32,
     volume: u32,
-) -> Checked
+) -> Result<Checked, Refusal>
     ensures { as_checked result ≡ check_in (as_counts counts) limit (record { first = first; second = second; len = length; volume = volume }) }
 {
-    let CheckedVertex::Is(a) = Vertex::landed(first, counts.vertices) else {
-        return Checked::Refused(Refusal::NotLanded);
+    let Some(a) = Vertex::landed(first, counts.vertices) else {
+        return Err(Refusal::NotLanded);
     };
-    let CheckedVertex::Is(b) = Vertex::landed(second, counts.vertices) else {
-        return Checked::Refused(Refusal::NotLanded);
+    let Some(b) = Vertex::landed(second, counts.vertices) else {
+        return Err(Refusal::NotLanded);
     };
     if first == second {
-        return Checked::Refused(Refusal::SameVertex);
+        return Err(Refusal::SameVertex);
     }
-    let CheckedMillimetres::Is(millimetres) = Millimetres::new(length) else {
-        return Checked::Refused(Refusal::Length);
+    let Some(millimetres) = Millimetres::new(length) else {
+        return Err(Refusal::Length);
     };
-    let CheckedVolume::Is(millilitres) = check_volume(volume) else {
-        return Checked::Refused(Refusal::Volume);
+    let Some(millilitres) = check_volume(volume) else {
+        return Err(Refusal::Volume);
     };
     if MAX_EDGES <= counts.edges {
-        return Checked::Refused(Refusal::TooManyEdges);
+        return Err(Refusal::TooManyEdges);
     }
     if limit <= counts.edges {
-        return Checked::Refused(Refusal::OverLimit);
+        return Err(Refusal::OverLimit);
     }
-    Checked::Passed(a, b, millimetres, millilitres)
+    Ok(Checked {
+        first: a,
+        second: b,
+        length: millimetres,
+        volume: millilitres,
+    })
 }

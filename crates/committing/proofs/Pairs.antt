@@ -14,6 +14,8 @@ use Rattle.quoting.specs.Quoting.{case_in}
 use Rattle.quoting.specs.Intents.{intent_for, intent_in}
 use Rattle.quoting.specs.Meaning.{as_intent}
 use Rattle.quoting.specs.declared.edges.Intent.{Intent}
+use Rattle.counters.specs.declared.refusals.Refusal.{Refusal}
+use Rattle.std.specs.Prelude.{Result}
 use Rattle.committing.specs.Committing.{committed_in}
 
 inserted_is : (t : Tables) (c : Counts) (rings : Bool) (a b n v : ℕ)
@@ -35,11 +37,11 @@ unfolding intent_in land_in
 pair_lands t c limit rings e = checked_lands t c rings e (check_in c limit e)
 
 -- "Landing a list is amended to go through the pair for each pipe": what was intended with a quote made now is committed
-pub pair_law : (t : Tables) (c : Counts) (limit : ℕ) (rings : Bool) (e : Edge) (k : Intent) (x : LandingIn)
+pub pair_law : (t : Tables) (c : Counts) (limit : ℕ) (rings : Bool) (e : Edge) (k : Result Intent Refusal) (x : LandingIn)
     → as_intent k ≡ intent_in t.degrees t.sides t.ends c limit rings e → x ≡ committed_in t c rings (as_intent k) → x ≡ land_in t c limit rings e
 pair_law t c limit rings e k x h g = g ∙ ap (committed_in t c rings) h ∙ pair_lands t c limit rings e
 
 -- a commit goes on as its intent says
-pub intent_given : (t : Tables) (c : Counts) (rings : Bool) (k k' : Intent) (x : LandingIn) → k ≡ k' → x ≡ committed_in t c rings (as_intent k')
+pub intent_given : (t : Tables) (c : Counts) (rings : Bool) (k k' : Result Intent Refusal) (x : LandingIn) → k ≡ k' → x ≡ committed_in t c rings (as_intent k')
     → x ≡ committed_in t c rings (as_intent k)
 intent_given t c rings k k' x q h = rw q h

@@ -8,6 +8,7 @@ ghost use Rattle.quoting.specs.Meaning.{as_intent};
 ghost use Rattle.committing.specs.Committing.{committed_in};
 
 use counters::counts::Counts;
+use counters::refusals::Refusal;
 use insertion::edges::{Inserted, insert_edge};
 use quoting::edges::{Intent, prepare_edge};
 
@@ -20,33 +21,31 @@ fn commit_edge(
     volumes: &mut [u32],
     labels: &mut [u32],
     counts: Counts,
-    intent: Intent,
+    intent: Result<Intent, Refusal>,
     rings: bool,
-) -> Inserted
+) -> Result<Inserted, Refusal>
     ensures { landing_in
         (tables degrees.new sides.new ends.new lengths.new volumes.new labels.new) (as_answer result)
         ≡ committed_in
         (tables degrees.old sides.old ends.old lengths.old volumes.old labels.old)
         (as_counts counts) rings (as_intent intent) }
 {
-    match intent {
-        Intent::Place(a, b, millimetres, millilitres, plan) => insert_edge(
-            degrees,
-            sides,
-            ends,
-            lengths,
-            volumes,
-            labels,
-            counts,
-            a,
-            b,
-            millimetres,
-            millilitres,
-            plan,
-            rings,
-        ),
-        Intent::Refuse(refusal) => Inserted::Refused(refusal),
-    }
+    let Intent { edge, plan } = intent?;
+    Ok(insert_edge(
+        degrees,
+        sides,
+        ends,
+        lengths,
+        volumes,
+        labels,
+        counts,
+        edge.first,
+        edge.second,
+        edge.length,
+        edge.volume,
+        plan,
+        rings,
+    ))
 }
 
 // Document 02, S-5: a quote and its commit, in a register that may not pass `limit` edges. Every refusal in its order; a refused edge leaves
@@ -65,7 +64,7 @@ pub fn land_edge(
     length: u32,
     volume: u32,
     rings: bool,
-) -> Inserted
+) -> Result<Inserted, Refusal>
     ensures { landing_in
         (tables degrees.new sides.new ends.new lengths.new volumes.new labels.new) (as_answer result)
         ≡ land_in

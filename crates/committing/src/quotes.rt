@@ -27,7 +27,7 @@ pub fn commit_quote(
     limit: u16,
     quote: Quote,
     rings: bool,
-) -> Inserted
+) -> Result<Inserted, Refusal>
     ensures { landing_in
         (tables degrees.new sides.new ends.new lengths.new volumes.new labels.new) (as_answer result)
         ≡ commit_in
@@ -42,7 +42,7 @@ pub fn commit_quote(
         degrees, sides, ends, labels, counts, limit, first, second, length, volume, rings,
     );
     if !same_quote(quote, made) {
-        return Inserted::Refused(Refusal::OtherQuote);
+        return Err(Refusal::OtherQuote);
     }
     land_edge(
         degrees, sides, ends, lengths, volumes, labels, counts, limit, first, second, length,

@@ -2,16 +2,16 @@
 -- have in common at their beginning.
 use Rattle.std.specs.Prelude.{if◌then◌else◌}
 use mathlib.Core.Path.{◌≡◌, refl, sym, ap, subst, ◌∙◌}
-use Prim.Native.Nat.{ℕ, zero, suc, ◌+◌, ◌≤◌, ◌<◌}
+use Prim.Native.Nat.{ℕ, suc, ◌+◌, ◌≤◌, ◌<◌}
 use native.Mathlib.Omega.{arith}
 use native.Mathlib.Decide.{ℕ_discrete}
 use mathlib.Core.Bool.{Bool, true, false}
 use mathlib.Core.List.{List, [], ◌∷◌, ◌++◌}
 use lib.ListN.{length, take, length-append}
 use lib.Dec.{eqb}
-use borrow.Author.Tests.{eq-eqb, ne_eqb, eqb-true, eqb-false}
+use borrow.Author.Tests.{eq-eqb, ne_eqb}
 use Rattle.model.specs.Tables.{eq_list}
-use Rattle.model.specs.Judging.{Verdict, agrees, wrong_line, ahead, split_lines, compare_lines, compare_texts}
+use Rattle.model.specs.Judging.{agrees, wrong_line, ahead, split_lines, compare_lines, compare_texts}
 use Rattle.theory.proofs.Judging.{Full, lines_full, same_agrees}
 use Rattle.comparing.specs.Beginnings.{common, end_at, line_ends}
 

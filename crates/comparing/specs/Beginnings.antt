@@ -1,8 +1,6 @@
 -- What two texts have in common at their beginning, in bytes and in line ends; and the verdict for which a comparison stands.
-use Rattle.std.specs.Prelude.{ℕ, suc, ◌+◌, true, false, List, [], ◌∷◌, eqb, if◌then◌else◌}
+use Rattle.std.specs.Prelude.{ℕ, suc, ◌+◌, true, false, List, [], ◌∷◌, eqb, if◌then◌else◌, Option, Some, None}
 use Rattle.model.specs.Judging.{Verdict, agrees, wrong_line}
-use Rattle.comparing.specs.declared.comparison.Comparison.{Comparison}
-use Rattle.comparing.specs.declared.comparison.Comparison.TheVariants.{Same, Differ}
 
 unfoldable pub common : List ℕ → List ℕ → ℕ
 common [] ys = 0
@@ -17,6 +15,6 @@ unfoldable pub line_ends : List ℕ → ℕ
 line_ends [] = 0
 line_ends (b ∷ bs) = end_at b + line_ends bs
 
-abbrev pub as_comparison : Comparison → Verdict
-as_comparison Same = agrees
-as_comparison (Differ n) = wrong_line n
+abbrev pub as_comparison : Option ℕ → Verdict
+as_comparison None = agrees
+as_comparison (Some n) = wrong_line n

@@ -10,7 +10,7 @@ ghost use Rattle.confirming.specs.Rounds.{FirstRound};
 use relaxing::relax::relax_all;
 use search::dijkstra::dijkstra;
 use search::shortest::start;
-use tables::access::of32;
+use tables::access::of;
 
 // How many distances the first round over all edges lowers. With 0 the search had settled them, and the round that confirms is the only one.
 #[unsafe(no_mangle)]
@@ -33,6 +33,6 @@ pub extern "C" fn confirming_changes(
     dijkstra(
         ends, lengths, edges, heads, heap, next, distances, keys, goal, from,
     );
-    let best = of32(distances, from);
+    let best = of(distances, from);
     relax_all(ends, lengths, distances, edges, best)
 }

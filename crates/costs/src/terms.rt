@@ -10,41 +10,14 @@ ghost use Rattle.tables.specs.Meaning.{stored, tables};
 ghost use Rattle.pnl.specs.FromC.{returned};
 
 use counters::counts::Counts;
-use counters::numbers::{CheckedVertex, Vertex};
-use counters::quotes::Terms;
+use counters::numbers::Vertex;
+use counters::quotes::Offer;
 use counters::refusals::Refusal;
 use counters::sizes::MAX_EDGES;
 use pnl::answers::{answer_numbers, refused};
 use quoting::edges::quote_edge;
 
-// The first is checked. A ring may stand.
-fn terms_to(
-    degrees: &[u16],
-    sides: &[u16],
-    ends: &[u16],
-    labels: &[u32],
-    counts: Counts,
-    first: Vertex,
-    second: u32,
-    length: u32,
-    volume: u32,
-) -> Terms
-    ensures { (lengths volumes : List ℕ) (register : Register)
-        → HeldOf (stored (tables degrees.now sides.now ends.now lengths volumes labels.now) (as_counts counts)) register
-        → as_terms result ≡ (quote max_edges register (record { first = first.0; second = second; len = length; volume = volume })).terms }
-{
-    let checked = Vertex::new(second);
-    match checked {
-        CheckedVertex::Is(v) => {
-            let made = quote_edge(
-                degrees, sides, ends, labels, counts, MAX_EDGES, first.0, v.0, length, volume, true,
-            );
-            made.terms
-        }
-        CheckedVertex::OutOfRange => Terms::Declines(Refusal::NotLanded),
-    }
-}
-
+// A ring may stand.
 pub fn terms_checked(
     degrees: &[u16],
     sides: &[u16],
@@ -55,28 +28,28 @@ pub fn terms_checked(
     second: u32,
     length: u32,
     volume: u32,
-) -> Terms
+) -> Result<Offer, Refusal>
     ensures { (lengths volumes : List ℕ) (register : Register)
         → HeldOf (stored (tables degrees.now sides.now ends.now lengths volumes labels.now) (as_counts counts)) register
         → as_terms result ≡ (quote max_edges register (record { first = first; second = second; len = length; volume = volume })).terms }
 {
-    let checked = Vertex::new(first);
-    match checked {
-        CheckedVertex::Is(v) => terms_to(
-            degrees, sides, ends, labels, counts, v, second, length, volume,
-        ),
-        CheckedVertex::OutOfRange => Terms::Declines(Refusal::NotLanded),
-    }
+    let Some(one) = Vertex::new(first) else {
+        return Err(Refusal::NotLanded);
+    };
+    let Some(other) = Vertex::new(second) else {
+        return Err(Refusal::NotLanded);
+    };
+    let made = quote_edge(
+        degrees, sides, ends, labels, counts, MAX_EDGES, one.0, other.0, length, volume, true,
+    );
+    made.terms
 }
 
-pub fn answer_terms(answer: &mut [u8], terms: Terms) -> i32
+pub fn answer_terms(answer: &mut [u8], terms: Result<Offer, Refusal>) -> i32
     ensures { returned answer.new result ≡ returns_terms answer.old (as_terms terms) }
 {
     match terms {
-        Terms::Offers(case, count) => {
-            let number = case.number();
-            answer_numbers(answer, &[number, count])
-        }
-        Terms::Declines(refusal) => refused(refusal),
+        Ok(offer) => { answer_numbers(answer, &[offer.case.number(), offer.relabellings]) }
+        Err(refusal) => refused(refusal),
     }
 }

@@ -1,14 +1,11 @@
 -- What the checked constructors answer: the number, or none where it is out of its bounds.
-use Rattle.std.specs.Prelude.{ℕ, Bool, ◌&&◌, eqb, leb, ltb, if◌then◌else◌}
+use Rattle.std.specs.Prelude as std
+use Rattle.std.specs.Prelude.{ℕ, Bool, ◌&&◌, eqb, leb, ltb, if◌then◌else◌, Some, None}
 use Rattle.std.proofs.Math.Option.{Option, none, some}
 use Rattle.model.specs.Basics.{max_vertices, max_volume}
 use Rattle.counters.specs.declared.numbers.Vertex.{Vertex}
-use Rattle.counters.specs.declared.numbers.CheckedVertex.{CheckedVertex}
-use Rattle.counters.specs.declared.numbers.CheckedVertex.TheVariants as vertex
-use Rattle.counters.specs.declared.numbers.CheckedLabel.{CheckedLabel}
-use Rattle.counters.specs.declared.numbers.CheckedLabel.TheVariants as label
-use Rattle.counters.specs.declared.numbers.CheckedMillimetres.{CheckedMillimetres}
-use Rattle.counters.specs.declared.numbers.CheckedMillimetres.TheVariants as millimetres
+use Rattle.counters.specs.declared.numbers.Label.{Label}
+use Rattle.counters.specs.declared.numbers.Millimetres.{Millimetres}
 use Rattle.counters.specs.declared.numbers.CheckedMillilitres.{CheckedMillilitres}
 use Rattle.counters.specs.declared.numbers.CheckedMillilitres.TheVariants as millilitres
 
@@ -26,17 +23,17 @@ is_landed count n = ltb n max_vertices && ltb n count
 unfoldable pub among_landed : ℕ → ℕ → Option ℕ
 among_landed count n = if is_landed count n then some n else none
 
-abbrev pub as_vertex : CheckedVertex → Option ℕ
-as_vertex (vertex.Is v) = some v.0
-as_vertex vertex.OutOfRange = none
+abbrev pub as_vertex : std.Option Vertex → Option ℕ
+as_vertex (Some v) = some v.0
+as_vertex None = none
 
-abbrev pub as_label : CheckedLabel → Option ℕ
-as_label (label.Is l) = some l.0
-as_label label.OutOfRange = none
+abbrev pub as_label : std.Option Label → Option ℕ
+as_label (Some l) = some l.0
+as_label None = none
 
-abbrev pub as_millimetres : CheckedMillimetres → Option ℕ
-as_millimetres (millimetres.Is l) = some l.0
-as_millimetres millimetres.OutOfRange = none
+abbrev pub as_millimetres : std.Option Millimetres → Option ℕ
+as_millimetres (Some l) = some l.0
+as_millimetres None = none
 
 -- what a number says as a volume
 pub data Volume : Type 0 where

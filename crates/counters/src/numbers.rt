@@ -7,14 +7,8 @@ ghost use Rattle.counters.specs.Numbers.{within, among_landed, volume_of, as_ver
 ghost use Rattle.model.specs.Basics.{max_vertices, max_length};
 
 // Document 01's fitting number, from 0.
-#[derive(Clone, Copy)]
+#[derive(Clone, Copy, PartialEq, Eq, PartialOrd, Ord)]
 pub struct Vertex(pub u16);
-
-#[derive(Clone, Copy)]
-pub enum CheckedVertex {
-    Is(Vertex),
-    OutOfRange,
-}
 
 impl Vertex {
     pub const MAX: u16 = 4095;
@@ -22,33 +16,33 @@ impl Vertex {
     // "At most 4,096 of each": a 4,097th is refused.
     pub const COUNT: u16 = Vertex::MAX + 1;
 
-    pub fn new(n: u32) -> CheckedVertex
+    pub fn new(n: u32) -> Option<Vertex>
         ensures { as_vertex result ≡ within 0 (max_vertices - 1) n }
     {
         if n <= (Vertex::MAX as u32) {
-            return CheckedVertex::Is(Vertex(n as u16));
+            return Some(Vertex(n as u16));
         }
-        CheckedVertex::OutOfRange
+        None
     }
 
     // The stricter test: one of so many that are landed. The bound is tested too, although no register has more: then it needs no further
     // test where the tables are read (docs/SPEED.md).
-    pub fn landed(n: u16, count: u16) -> CheckedVertex
+    pub fn landed(n: u16, count: u16) -> Option<Vertex>
         ensures { as_vertex result ≡ among_landed count n }
     {
         if Vertex::COUNT <= n {
-            return CheckedVertex::OutOfRange;
+            return None;
         }
         if n < count {
-            return CheckedVertex::Is(Vertex(n));
+            return Some(Vertex(n));
         }
-        CheckedVertex::OutOfRange
+        None
     }
 }
 
 // Document 01's pipe number, from 0. No list and no caller says one: it is the count of pipes,
 // which 23 has tested, a number below it, or read from a table; so it has no checked constructor.
-#[derive(Clone, Copy)]
+#[derive(Clone, Copy, PartialEq, Eq, PartialOrd, Ord)]
 pub struct Edge(pub u16);
 
 impl Edge {
@@ -59,26 +53,20 @@ impl Edge {
 }
 
 // Document 01's tag, of 32 bits.
-#[derive(Clone, Copy)]
+#[derive(Clone, Copy, PartialEq, Eq, PartialOrd, Ord)]
 pub struct Label(pub u32);
-
-#[derive(Clone, Copy)]
-pub enum CheckedLabel {
-    Is(Label),
-    OutOfRange,
-}
 
 impl Label {
     pub const MAX: u32 = 4294967295;
 
     // Every number of 32 bits passes; what C says goes through it.
-    pub fn new(n: u64) -> CheckedLabel
+    pub fn new(n: u64) -> Option<Label>
         ensures { as_label result ≡ within 0 (2 ^ 32 - 1) n }
     {
         if n <= (Label::MAX as u64) {
-            return CheckedLabel::Is(Label(n as u32));
+            return Some(Label(n as u32));
         }
-        CheckedLabel::OutOfRange
+        None
     }
 }
 
@@ -86,27 +74,21 @@ impl Label {
 #[derive(Clone, Copy)]
 pub struct Millimetres(pub u32);
 
-#[derive(Clone, Copy)]
-pub enum CheckedMillimetres {
-    Is(Millimetres),
-    OutOfRange,
-}
-
 impl Millimetres {
     pub const MIN: u32 = 1;
 
     pub const MAX: u32 = 100000;
 
-    pub fn new(n: u32) -> CheckedMillimetres
+    pub fn new(n: u32) -> Option<Millimetres>
         ensures { as_millimetres result ≡ within 1 max_length n }
     {
         if n < Millimetres::MIN {
-            return CheckedMillimetres::OutOfRange;
+            return None;
         }
         if n <= Millimetres::MAX {
-            return CheckedMillimetres::Is(Millimetres(n));
+            return Some(Millimetres(n));
         }
-        CheckedMillimetres::OutOfRange
+        None
     }
 }
 
@@ -114,6 +96,7 @@ impl Millimetres {
 #[derive(Clone, Copy)]
 pub struct Millilitres(pub u32);
 
+// Three ways, and so no Option: a pipe without a known volume lands, and one with a volume out of range is refused.
 #[derive(Clone, Copy)]
 pub enum CheckedMillilitres {
     Known(Millilitres),

@@ -2,55 +2,34 @@
 ghost use Rattle.std.specs.Prelude.{◌≡◌};
 ghost use Rattle.counters.specs.Refusals.{number_of};
 
-#[derive(Clone, Copy)]
+#[derive(Clone, Copy, PartialEq, Eq)]
 pub enum Refusal {
-    NoMark,
-    Version,
-    Cut,
-    UnknownKind,
-    NotLanded,
-    SameVertex,
-    Length,
-    NotRegular,
-    ShortSlice,
-    NotGrown,
-    TooManyVertices,
-    TooManyEdges,
-    WrongSize,
-    Volume,
-    OtherQuote,
-    Beyond,
-    OverLimit,
-    OutOfPlace,
-    NotRemovable,
-    Ended,
+    NoMark = 1,
+    Version = 2,
+    Cut = 3,
+    UnknownKind = 4,
+    NotLanded = 5,
+    SameVertex = 6,
+    Length = 7,
+    NotRegular = 8,
+    ShortSlice = 9,
+    NotGrown = 21,
+    TooManyVertices = 22,
+    TooManyEdges = 23,
+    WrongSize = 25,
+    Volume = 31,
+    OtherQuote = 32,
+    Beyond = 33,
+    OverLimit = 36,
+    OutOfPlace = 37,
+    NotRemovable = 38,
+    Ended = 39,
 }
 
 impl Refusal {
     pub fn number(self) -> u32
         ensures { result ≡ number_of self }
     {
-        match self {
-            Refusal::NoMark => 1,
-            Refusal::Version => 2,
-            Refusal::Cut => 3,
-            Refusal::UnknownKind => 4,
-            Refusal::NotLanded => 5,
-            Refusal::SameVertex => 6,
-            Refusal::Length => 7,
-            Refusal::NotRegular => 8,
-            Refusal::ShortSlice => 9,
-            Refusal::NotGrown => 21,
-            Refusal::TooManyVertices => 22,
-            Refusal::TooManyEdges => 23,
-            Refusal::WrongSize => 25,
-            Refusal::Volume => 31,
-            Refusal::OtherQuote => 32,
-            Refusal::Beyond => 33,
-            Refusal::OverLimit => 36,
-            Refusal::OutOfPlace => 37,
-            Refusal::NotRemovable => 38,
-            Refusal::Ended => 39,
-        }
+        self as u32
     }
 }

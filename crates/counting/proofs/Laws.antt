@@ -1,11 +1,10 @@
 -- Laws of the counts that are read: the loop along a chain, two chains joined, taps, and that they are those of what was decided.
-use Rattle.std.specs.Prelude.{if◌then◌else◌}
+use Rattle.std.specs.Prelude.{if◌then◌else◌, Some, Option}
 use mathlib.Core.Path.{◌≡◌, refl, sym}
 use mathlib.Core.Bool.{Bool, true, false}
 use mathlib.Core.List.{List}
 use Prim.Native.Nat.{ℕ, zero, suc, ◌+◌, ◌*◌, ◌-◌, ◌<◌, ◌≤◌}
 use native.Mathlib.Nat.{not-suc-le-zero}
-use native.Mathlib.Numerals.{sub-one}
 use native.Mathlib.Omega.{arith}
 use borrow.Author.Tests.{eq-eqb, ne_eqb}
 use lib.Dec.{eqb}
@@ -18,13 +17,12 @@ use Rattle.tables.specs.Walks.{Met}
 use Rattle.tables.specs.declared.rings.Round.{Round}
 use Rattle.tables.specs.declared.rings.Round.TheVariants.{Shared}
 use Rattle.labels.specs.Labelling.{next_in, rises_in}
-use Rattle.joining.specs.Merging.{merger_at, merger_for}
+use Rattle.joining.specs.Merging.{merger_at, merger_for, keeping}
 use Rattle.parting.specs.Splitting.{rounds_one, rounds_both, rounds_for}
 use Rattle.parting.specs.declared.splitting.Splits.{Splits}
 use Rattle.parting.specs.declared.splitting.Splits.TheVariants as splits
 use Rattle.counting.specs.Counting.{count_in, join_count_in, keeper_count_in, merge_count_at, merge_count_in, merger_count, moved_in, round_count, rounds_count, split_count_in}
 use Rattle.joining.specs.declared.merging.Keeper.{Keeper}
-use Rattle.joining.specs.declared.merging.Keeper.TheVariants.{Chain}
 
 -- one vertex counts at most 1
 pub moved_le : (m old new : ℕ) → m ≡ moved_in old new → m ≤ 1
@@ -54,13 +52,13 @@ module _ (degrees sides ends labels : List ℕ) (up : Bool) where
   unfolding count_in
   count_on n d v label d' v' label' e f g i = rw (eq-eqb _ _ e, f, g, i)
 
-  -- a turn of the loop, k vertices having been counted before
-  pub count_step : (n d v label d' v' label' k m : ℕ) → 0 < n → get_or degrees v 0 ≡ 2 → d' ≡ turn_in sides d v → v' ≡ far_in ends d' v
+  -- turn i of the loop, k vertices having been counted before
+  pub count_step : (n i d v label d' v' label' k m : ℕ) → i < n → get_or degrees v 0 ≡ 2 → d' ≡ turn_in sides d v → v' ≡ far_in ends d' v
       → label' ≡ next_in up label → m ≡ moved_in (get_or labels v 0) label
-      → k + count_in degrees sides ends labels up n d v label ≡ k + m + count_in degrees sides ends labels up (n - 1) d' v' label'
-  count_step zero d v label d' v' label' k m h e f g i j = absurd (not-suc-le-zero h)
-  count_step (suc n) d v label d' v' label' k m h e f g i j =
-      rw (count_on n d v label d' v' label' e (sym f) (sym g) (sym i), ← j, sub-one) (omega arith)
+      → k + count_in degrees sides ends labels up (n - i) d v label ≡ k + m + count_in degrees sides ends labels up (n - (i + 1)) d' v' label'
+  count_step n i d v label d' v' label' k m h e f g j o =
+      let next : n - i ≡ suc (n - (i + 1)) = omega (arith, h) in
+      rw (next, count_on (n - (i + 1)) d v label d' v' label' e (sym f) (sym g) (sym j), ← o) (omega arith)
 
   -- the loop is done: no step is left, or it stands at a singular vertex
   pub count_done : (n d v label k total : ℕ) → n ≤ 0 → k + count_in degrees sides ends labels up n d v label ≡ total → k ≡ total
@@ -79,7 +77,7 @@ join_count degrees s ends l x y n dx dy ux uy old lx ly lz r up a b f g h i j k 
     rw (← a.0, ← a.1, ← b.0, ← b.1, ← f, ← g, ← h, ← i, ← j) k
 
 -- the count by the keeper, where that is the chain of x
-pub chain_count : (degrees s ends l : List ℕ) (n c : ℕ) (keeper : Keeper) (x y : Vertex) → keeper ≡ Chain x y → c ≡ join_count_in degrees s ends l x.0 y.0 n
+pub chain_count : (degrees s ends l : List ℕ) (n c : ℕ) (keeper : Option Keeper) (x y : Vertex) → keeper ≡ Some (keeping x y) → c ≡ join_count_in degrees s ends l x.0 y.0 n
     → c ≡ keeper_count_in keeper degrees s ends l n
 chain_count degrees s ends l n c keeper x y e f = rw e f
 

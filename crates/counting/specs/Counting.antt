@@ -1,5 +1,5 @@
 -- How many vertices an edge would relabel, read from the tables before anything is written, as functions of lists that mirror the code.
-use Rattle.std.specs.Prelude.{ℕ, zero, suc, ◌+◌, ◌*◌, ◌-◌, Bool, true, false, List, get_or, eqb, if◌then◌else◌}
+use Rattle.std.specs.Prelude.{ℕ, zero, suc, ◌+◌, ◌*◌, ◌-◌, Bool, true, false, List, get_or, eqb, if◌then◌else◌, Some, None, Option}
 use Rattle.model.specs.Labels.{is_relabelled}
 use Rattle.tables.specs.Steps.{far_in, turn_in}
 use Rattle.tables.specs.Walks.{Met, lockstep_in}
@@ -10,7 +10,6 @@ use Rattle.labels.specs.Labelling.{next_in, rises_in}
 use Rattle.joining.specs.Merging.{keeper_for}
 use Rattle.parting.specs.Splitting.{left_for}
 use Rattle.joining.specs.declared.merging.Keeper.{Keeper}
-use Rattle.joining.specs.declared.merging.Keeper.TheVariants.{Neither, Chain}
 use Rattle.joining.specs.declared.merging.Merger.{Merger}
 use Rattle.parting.specs.declared.splitting.Rounds.{Rounds}
 use Rattle.parting.specs.declared.splitting.Splits.{Splits}
@@ -37,9 +36,9 @@ join_count_in degrees sides ends labels x y n =
     let up = rises_in sides dx u in
     count_in degrees sides ends labels up n dy (far_in ends dy y) (next_in up (next_in up (next_in up (get_or labels u 0))))
 
-abbrev pub keeper_count_in : Keeper → List ℕ → List ℕ → List ℕ → List ℕ → ℕ → ℕ
-keeper_count_in Neither degrees sides ends labels n = 0
-keeper_count_in (Chain x y) degrees sides ends labels n = join_count_in degrees sides ends labels x.0 y.0 n
+abbrev pub keeper_count_in : Option Keeper → List ℕ → List ℕ → List ℕ → List ℕ → ℕ → ℕ
+keeper_count_in None degrees sides ends labels n = 0
+keeper_count_in (Some k) degrees sides ends labels n = join_count_in degrees sides ends labels k.kept.0 k.other.0 n
 
 -- whether a ring would be closed, and how many vertices relabelled
 pub record Estimated : Type 0 where

@@ -42,8 +42,7 @@ fn count_relabelled(
     let mut w = from;
     let mut next = label;
     let mut count: u32 = 0;
-    let mut left = fuel;
-    while 0 < left {
+    for _ in 0..fuel {
         if degree_of(degrees, w.at) != 2 {
             break;
         }
@@ -51,7 +50,6 @@ fn count_relabelled(
         count += moved(labels, w.at, next);
         next = next_label(next, up);
         w = on;
-        left -= 1;
     }
     count
 }
@@ -79,7 +77,7 @@ fn count_joined(
 
 // The chains would be joined, by which of them keeps its labels.
 fn count_kept(
-    keeper: Keeper,
+    keeper: Option<Keeper>,
     degrees: &[u16],
     sides: &[u16],
     ends: &[u16],
@@ -89,8 +87,16 @@ fn count_kept(
     ensures { result ≡ keeper_count_in keeper degrees.now sides.now ends.now labels.now fuel }
 {
     match keeper {
-        Keeper::Neither => 0,
-        Keeper::Chain(x, y) => count_joined(degrees, sides, ends, labels, x, y, fuel),
+        None => 0,
+        Some(keeper) => count_joined(
+            degrees,
+            sides,
+            ends,
+            labels,
+            keeper.kept,
+            keeper.other,
+            fuel,
+        ),
     }
 }
 

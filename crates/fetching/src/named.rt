@@ -1,7 +1,7 @@
 // The line of a sheet that was opened at so many vertices and edges: 33, or the row at its place, or none there.
 ghost use Rattle.std.specs.Prelude.{◌≡◌, ℕ};
 ghost use Rattle.counters.specs.Answers.{as_counts};
-ghost use Rattle.tables.specs.Meaning.{tables};
+ghost use Rattle.lent.specs.Lent.{of_lent, SameLent};
 ghost use Rattle.fetching.specs.Meaning.{line_reply, open_sheet};
 ghost use Rattle.fetching.specs.Fetching.{fetch_in};
 
@@ -9,28 +9,22 @@ use crate::lines::{Line, line_at};
 use counters::counts::Counts;
 use counters::sizes::EDGES;
 use holding::replay::regrow;
-use insertion::edges::Inserted;
+use lent::slices::{Tables, View};
 
 // The opening's vertices and edges are landed on scratch that comes cleared. Its edges are lawful, so the landing is refused only where one
 // names a vertex that is beyond the opening's.
 pub fn line_named(
-    ends: &[u16],
-    lengths: &[u32],
-    volumes: &[u32],
+    register: &View,
     counts: Counts,
-    sdegrees: &mut [u16],
-    ssides: &mut [u16],
-    sends: &mut [u16],
-    slengths: &mut [u32],
-    svolumes: &mut [u32],
-    slabels: &mut [u32],
+    scratch: &mut Tables,
     vertices: u16,
     edges: u16,
     place: u16,
 ) -> Line
-    ensures { (removals : ℕ) → line_reply (open_sheet vertices edges place removals) result
-        ≡ fetch_in ends.now lengths.now volumes.now (as_counts counts) (open_sheet vertices edges place removals)
-        (tables sdegrees.old ssides.old sends.old slengths.old svolumes.old slabels.old) }
+    ensures lent { SameLent scratch.new scratch.old }
+    ensures fetches { (removals : ℕ) → line_reply (open_sheet vertices edges place removals) result
+        ≡ fetch_in register.now.ends.now register.now.lengths.now register.now.volumes.now (as_counts counts)
+        (open_sheet vertices edges place removals) (of_lent scratch.old) }
 {
     if counts.vertices < vertices {
         return Line::Beyond;
@@ -44,16 +38,11 @@ pub fn line_named(
         blocks: 0,
         relabellings: 0,
     };
-    let inserted = regrow(
-        ends, lengths, volumes, opening, sdegrees, ssides, sends, slengths, svolumes, slabels,
-    );
-    match inserted {
-        Inserted::Done(landed, rings) => {
+    match regrow(register, opening, scratch) {
+        Ok(_) => {
             let mut marks = [0u16; EDGES];
-            line_at(
-                sdegrees, ssides, sends, slengths, svolumes, &mut marks, edges, place,
-            )
+            line_at(&scratch.view(), &mut marks, edges, place)
         }
-        Inserted::Refused(refusal) => Line::Beyond,
+        Err(_) => Line::Beyond,
     }
 }

@@ -1,67 +1,18 @@
 // Find in a house (document 02, S-7, S-10): by a label (document 01: tag) or by a vertex (fitting): 25, 21, 37, then 8.
-ghost use Rattle.std.specs.Prelude.{◌≡◌, ℕ, ◌<◌, []};
-ghost use Rattle.counters.specs.Answers.{as_counts};
+ghost use Rattle.std.specs.Prelude.{◌≡◌, []};
 ghost use Rattle.tables.specs.Meaning.{tables};
 ghost use Rattle.questions.specs.Meaning.{found_reply};
-ghost use Rattle.nursery.specs.Licence.{houses};
-ghost use Rattle.nursery.specs.Nursery.{tables_in};
 ghost use Rattle.nursery.specs.Calls.{finds, finds_at, in_house, step};
-ghost use Rattle.admission.specs.Own.{own_step};
-ghost use Rattle.admission.specs.Lent.{lent as own_lent, outcome as ownOutcome};
 ghost use Rattle.heads.specs.Meaning.{lent, outcome};
-ghost use Rattle.heads.specs.Others.{Long};
 
 use asking::find::{find as find_own, find_at as find_at_own};
-use counters::counts::Counts;
 use counters::numbers::{Label, Vertex};
-use counters::sizes::{EDGES, ENDS, SIDES, VERTICES};
+use counters::refusals::Refusal;
 use heads::heads::{Heads, head_of};
-use licence::gate::{Passed, pass_others};
-use questions::find::FoundChain;
-
-// On the house's part of the tables.
-fn find_house(
-    degrees: &[u16],
-    sides: &[u16],
-    ends: &[u16],
-    lengths: &[u32],
-    volumes: &[u32],
-    labels: &[u32],
-    own: Counts,
-    sdegrees: &mut [u16],
-    ssides: &mut [u16],
-    sends: &mut [u16],
-    slengths: &mut [u32],
-    svolumes: &mut [u32],
-    slabels: &mut [u32],
-    h: usize,
-    label: Label,
-) -> FoundChain
-    requires { (h < houses) × Long (tables degrees.now sides.now ends.now lengths.now volumes.now labels.now) }
-    ensures { (limit removals : ℕ) → ownOutcome (tables_in h (tables degrees.now sides.now ends.now lengths.now volumes.now labels.now)) (as_counts own) (tables sdegrees.new ssides.new sends.new slengths.new svolumes.new slabels.new) [] (found_reply result)
-        ≡ own_step limit removals (finds label.0) (own_lent (tables_in h (tables degrees.now sides.now ends.now lengths.now volumes.now labels.now)) (as_counts own) (tables sdegrees.old ssides.old sends.old slengths.old svolumes.old slabels.old)) }
-{
-    let v = VERTICES * h;
-    let s = SIDES * h;
-    let n = ENDS * h;
-    let e = EDGES * h;
-    find_own(
-        &degrees[v..v + VERTICES],
-        &sides[s..s + SIDES],
-        &ends[n..n + ENDS],
-        &lengths[e..e + EDGES],
-        &volumes[e..e + EDGES],
-        &labels[v..v + VERTICES],
-        own,
-        sdegrees,
-        ssides,
-        sends,
-        slengths,
-        svolumes,
-        slabels,
-        label,
-    )
-}
+use heads::part::part_of;
+use lent::slices::{Tables, View};
+use licence::gate::pass_others;
+use looking::through::FoundChain;
 
 // The name of its chain (run), the regular vertex (coupling) that wears it, and the lengths to the ends.
 pub fn find(
@@ -81,69 +32,30 @@ pub fn find(
     slabels: &mut [u32],
     house: u32,
     label: Label,
-) -> FoundChain
+) -> Result<FoundChain, Refusal>
     ensures { outcome (tables degrees.now sides.now ends.now lengths.now volumes.now labels.now) heads shares.now (tables sdegrees.new ssides.new sends.new slengths.new svolumes.new slabels.new) [] (found_reply result)
         ≡ step (in_house house (finds label.0)) (lent (tables degrees.now sides.now ends.now lengths.now volumes.now labels.now) heads shares.now (tables sdegrees.old ssides.old sends.old slengths.old svolumes.old slabels.old)) }
 {
-    let passed = pass_others(
-        degrees, sides, ends, lengths, volumes, labels, heads, shares, sdegrees, ssides, sends,
-        slengths, svolumes, slabels, house, false,
-    );
-    match passed {
-        Passed::Open(limit) => {
-            let h = house as usize;
-            let own = head_of(heads, h);
-            find_house(
-                degrees, sides, ends, lengths, volumes, labels, own, sdegrees, ssides, sends,
-                slengths, svolumes, slabels, h, label,
-            )
-        }
-        Passed::Refused(refusal) => FoundChain::Refused(refusal),
-    }
-}
-
-// On the house's part of the tables.
-fn find_at_house(
-    degrees: &[u16],
-    sides: &[u16],
-    ends: &[u16],
-    lengths: &[u32],
-    volumes: &[u32],
-    labels: &[u32],
-    own: Counts,
-    sdegrees: &mut [u16],
-    ssides: &mut [u16],
-    sends: &mut [u16],
-    slengths: &mut [u32],
-    svolumes: &mut [u32],
-    slabels: &mut [u32],
-    h: usize,
-    vertex: Vertex,
-) -> FoundChain
-    requires { (h < houses) × Long (tables degrees.now sides.now ends.now lengths.now volumes.now labels.now) }
-    ensures { (limit removals : ℕ) → ownOutcome (tables_in h (tables degrees.now sides.now ends.now lengths.now volumes.now labels.now)) (as_counts own) (tables sdegrees.new ssides.new sends.new slengths.new svolumes.new slabels.new) [] (found_reply result)
-        ≡ own_step limit removals (finds_at vertex.0) (own_lent (tables_in h (tables degrees.now sides.now ends.now lengths.now volumes.now labels.now)) (as_counts own) (tables sdegrees.old ssides.old sends.old slengths.old svolumes.old slabels.old)) }
-{
-    let v = VERTICES * h;
-    let s = SIDES * h;
-    let n = ENDS * h;
-    let e = EDGES * h;
-    find_at_own(
-        &degrees[v..v + VERTICES],
-        &sides[s..s + SIDES],
-        &ends[n..n + ENDS],
-        &lengths[e..e + EDGES],
-        &volumes[e..e + EDGES],
-        &labels[v..v + VERTICES],
-        own,
-        sdegrees,
-        ssides,
-        sends,
-        slengths,
-        svolumes,
-        slabels,
-        vertex,
-    )
+    let register = View {
+        degrees,
+        sides,
+        ends,
+        lengths,
+        volumes,
+        labels,
+    };
+    let mut scratch = Tables {
+        degrees: sdegrees,
+        sides: ssides,
+        ends: sends,
+        lengths: slengths,
+        volumes: svolumes,
+        labels: slabels,
+    };
+    pass_others(&register, heads, shares, &mut scratch, house, false)?;
+    let h = house as usize;
+    let own = head_of(heads, h);
+    find_own(&part_of(&register, h), own, &mut scratch, label)
 }
 
 // By a vertex. Any number is answered.
@@ -164,23 +76,28 @@ pub fn find_at(
     slabels: &mut [u32],
     house: u32,
     vertex: Vertex,
-) -> FoundChain
+) -> Result<FoundChain, Refusal>
     ensures { outcome (tables degrees.now sides.now ends.now lengths.now volumes.now labels.now) heads shares.now (tables sdegrees.new ssides.new sends.new slengths.new svolumes.new slabels.new) [] (found_reply result)
         ≡ step (in_house house (finds_at vertex.0)) (lent (tables degrees.now sides.now ends.now lengths.now volumes.now labels.now) heads shares.now (tables sdegrees.old ssides.old sends.old slengths.old svolumes.old slabels.old)) }
 {
-    let passed = pass_others(
-        degrees, sides, ends, lengths, volumes, labels, heads, shares, sdegrees, ssides, sends,
-        slengths, svolumes, slabels, house, false,
-    );
-    match passed {
-        Passed::Open(limit) => {
-            let h = house as usize;
-            let own = head_of(heads, h);
-            find_at_house(
-                degrees, sides, ends, lengths, volumes, labels, own, sdegrees, ssides, sends,
-                slengths, svolumes, slabels, h, vertex,
-            )
-        }
-        Passed::Refused(refusal) => FoundChain::Refused(refusal),
-    }
+    let register = View {
+        degrees,
+        sides,
+        ends,
+        lengths,
+        volumes,
+        labels,
+    };
+    let mut scratch = Tables {
+        degrees: sdegrees,
+        sides: ssides,
+        ends: sends,
+        lengths: slengths,
+        volumes: svolumes,
+        labels: slabels,
+    };
+    pass_others(&register, heads, shares, &mut scratch, house, false)?;
+    let h = house as usize;
+    let own = head_of(heads, h);
+    find_at_own(&part_of(&register, h), own, &mut scratch, vertex)
 }

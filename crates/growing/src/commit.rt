@@ -2,66 +2,36 @@
 ghost use Rattle.std.specs.Prelude.{◌≡◌, []};
 ghost use Rattle.nursery.specs.Calls.{commits, in_house, step};
 ghost use Rattle.counters.specs.Quotes.{as_quote, commit_reply};
+ghost use Rattle.lent.specs.Lent.{of_lent, SameLent};
 ghost use Rattle.tables.specs.Meaning.{tables};
 ghost use Rattle.heads.specs.Meaning.{lent, outcome};
 
-use counters::quotes::{CommitAnswer, Quote};
-use heads::heads::Heads;
-use licence::gate::{Passed, pass_others};
+use counters::quotes::Quote;
+use counters::refusals::Refusal;
+use heads::heads::{Heads, Updated};
+use lent::slices::Tables;
+use licence::gate::pass_others;
 use parts::commit::commit_house;
-use parts::left::Committed;
 
 // The heads by value: `commit` has them lent.
 pub fn commit_with(
     heads: Heads,
-    degrees: &mut [u16],
-    sides: &mut [u16],
-    ends: &mut [u16],
-    lengths: &mut [u32],
-    volumes: &mut [u32],
-    labels: &mut [u32],
+    register: &mut Tables,
     shares: &[u16],
-    sdegrees: &mut [u16],
-    ssides: &mut [u16],
-    sends: &mut [u16],
-    slengths: &mut [u32],
-    svolumes: &mut [u32],
-    slabels: &mut [u32],
+    scratch: &mut Tables,
     house: u32,
     quote: Quote,
-) -> Committed
-    ensures { outcome (tables degrees.new sides.new ends.new lengths.new volumes.new labels.new) result.heads shares.now
-        (tables sdegrees.new ssides.new sends.new slengths.new svolumes.new slabels.new) [] (commit_reply result.answer)
-        ≡ step (in_house house (commits (as_quote quote)))
-        (lent (tables degrees.old sides.old ends.old lengths.old volumes.old labels.old) heads shares.now
-        (tables sdegrees.old ssides.old sends.old slengths.old svolumes.old slabels.old)) }
+) -> Updated<()>
+    ensures lent { SameLent register.new register.old × SameLent scratch.new scratch.old }
+    ensures steps { outcome (of_lent register.new) result.heads shares.now (of_lent scratch.new) [] (commit_reply result.answer)
+        ≡ step (in_house house (commits (as_quote quote))) (lent (of_lent register.old) heads shares.now (of_lent scratch.old)) }
 {
-    let passed = pass_others(
-        degrees, sides, ends, lengths, volumes, labels, heads, shares, sdegrees, ssides, sends,
-        slengths, svolumes, slabels, house, false,
-    );
+    let passed = pass_others(&register.view(), heads, shares, scratch, house, false);
     match passed {
-        Passed::Open(limit) => commit_house(
+        Ok(limit) => commit_house(heads, limit, register, scratch, house as usize, quote),
+        Err(refusal) => Updated {
             heads,
-            limit,
-            degrees,
-            sides,
-            ends,
-            lengths,
-            volumes,
-            labels,
-            sdegrees,
-            ssides,
-            sends,
-            slengths,
-            svolumes,
-            slabels,
-            house as usize,
-            quote,
-        ),
-        Passed::Refused(refusal) => Committed {
-            heads,
-            answer: CommitAnswer::Refused(refusal),
+            answer: Err(refusal),
         },
     }
 }
@@ -84,7 +54,7 @@ pub fn commit(
     slabels: &mut [u32],
     house: u32,
     quote: Quote,
-) -> CommitAnswer
+) -> Result<(), Refusal>
     ensures { outcome (tables degrees.new sides.new ends.new lengths.new volumes.new labels.new) heads.new shares.now
         (tables sdegrees.new ssides.new sends.new slengths.new svolumes.new slabels.new) [] (commit_reply result)
         ≡ step (in_house house (commits (as_quote quote)))
@@ -92,10 +62,23 @@ pub fn commit(
         (tables sdegrees.old ssides.old sends.old slengths.old svolumes.old slabels.old)) }
 {
     let c = *heads;
-    let r = commit_with(
-        c, degrees, sides, ends, lengths, volumes, labels, shares, sdegrees, ssides, sends,
-        slengths, svolumes, slabels, house, quote,
-    );
+    let mut register = Tables {
+        degrees,
+        sides,
+        ends,
+        lengths,
+        volumes,
+        labels,
+    };
+    let mut scratch = Tables {
+        degrees: sdegrees,
+        sides: ssides,
+        ends: sends,
+        lengths: slengths,
+        volumes: svolumes,
+        labels: slabels,
+    };
+    let r = commit_with(c, &mut register, shares, &mut scratch, house, quote);
     *heads = r.heads;
     r.answer
 }

@@ -7,6 +7,7 @@ ghost use Rattle.nursery.specs.Nursery.{no_houses};
 ghost use Rattle.heads.specs.Meaning.{as_heads, as_removals};
 
 use counters::counts::Counts;
+use counters::refusals::Refusal;
 
 // Each house has its head, and its count of removals beside it (document 02, S-11).
 #[derive(Clone, Copy)]
@@ -97,4 +98,11 @@ pub fn with_removals(heads: Heads, h: usize, count: u32) -> Heads
             removals_or(heads, 7, h, count),
         ],
     }
+}
+
+// The heads as a call leaves them, and what it answers.
+#[derive(Clone, Copy)]
+pub struct Updated<T> {
+    pub heads: Heads,
+    pub answer: Result<T, Refusal>,
 }

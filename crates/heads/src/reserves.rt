@@ -5,16 +5,12 @@ ghost use Rattle.nursery.specs.Licence.{houses, reserves};
 ghost use Rattle.heads.specs.Meaning.{edges_of};
 
 use crate::heads::{Heads, head_of};
-use tables::access::at16;
+use tables::access::at;
 
 pub fn larger(share: u16, edges: u16) -> u32
     ensures { (result ≡ max share edges) × (result < 65536) }
 {
-    if share < edges {
-        edges as u32
-    } else {
-        share as u32
-    }
+    u32::from(share.max(edges))
 }
 
 // What house h keeps of the licence: nothing, if it is the one that is asked about.
@@ -26,7 +22,7 @@ fn kept_by(heads: Heads, shares: &[u16], h: usize, house: u32) -> u32
         return 0;
     }
     let own = head_of(heads, h);
-    larger(at16(shares, h), own.edges)
+    larger(at(shares, h), own.edges)
 }
 
 // What all houses but one keep of the licence.
@@ -35,10 +31,8 @@ pub fn others_reserve(heads: Heads, shares: &[u16], house: u32) -> u32
     ensures { (result ≡ sum (set (reserves shares.now (edges_of heads)) house 0)) × (result < 524288) }
 {
     let mut sum: u32 = 0;
-    let mut h: usize = 0;
-    while h < 8 {
+    for h in 0..8 {
         sum += kept_by(heads, shares, h, house);
-        h += 1;
     }
     sum
 }

@@ -1,7 +1,7 @@
 // The edges of tables of ends, lengths and volumes landed again on other tables.
 ghost use Rattle.std.specs.Prelude.{◌≡◌};
 ghost use Rattle.counters.specs.Answers.{as_counts};
-ghost use Rattle.tables.specs.Meaning.{tables};
+ghost use Rattle.lent.specs.Lent.{of_lent, SameLent};
 ghost use Rattle.insertion.specs.Insertion.{landing_in};
 ghost use Rattle.insertion.specs.Meaning.{as_answer};
 ghost use Rattle.holding.specs.Replay.{replay_in, regrow_in};
@@ -12,84 +12,59 @@ use counters::numbers::Vertex;
 use counters::refusals::Refusal;
 use counters::sizes::MAX_EDGES;
 use insertion::edges::Inserted;
-use tables::access::{at16, at32};
+use lent::slices::{Tables, View};
+use tables::access::at;
 
 // So many edges of the tables of ends, lengths and volumes, from number `first` on, landed on other tables; rings: a ring may stand on these.
 pub fn replay(
-    ownends: &[u16],
-    ownlengths: &[u32],
-    ownvolumes: &[u32],
+    register: &View,
     first: u16,
     number: u16,
     from: Counts,
     rings: bool,
-    degrees: &mut [u16],
-    sides: &mut [u16],
-    ends: &mut [u16],
-    lengths: &mut [u32],
-    volumes: &mut [u32],
-    labels: &mut [u32],
-) -> Inserted
-    ensures { landing_in (tables degrees.new sides.new ends.new lengths.new volumes.new labels.new) (as_answer result)
-        ≡ replay_in ownends.now ownlengths.now ownvolumes.now number first
-        (tables degrees.old sides.old ends.old lengths.old volumes.old labels.old) (as_counts from) rings }
+    tables: &mut Tables,
+) -> Result<Inserted, Refusal>
+    ensures lent { SameLent tables.new tables.old }
+    ensures lands { landing_in (of_lent tables.new) (as_answer result)
+        ≡ replay_in register.now.ends.now register.now.lengths.now register.now.volumes.now number first (of_lent tables.old) (as_counts from) rings }
 {
     let mut counts = from;
     let mut ringed = rings;
-    let mut i: usize = 2 * (first as usize);
-    let mut edge: usize = first as usize;
-    let mut left = number;
-    while 0 < left {
-        let inserted = land_edge(
-            degrees,
-            sides,
-            ends,
-            lengths,
-            volumes,
-            labels,
+    let start = first as usize;
+    let end = start + (number as usize);
+    for edge in start..end {
+        let landed = land_edge(
+            tables.degrees,
+            tables.sides,
+            tables.ends,
+            tables.lengths,
+            tables.volumes,
+            tables.labels,
             counts,
             MAX_EDGES,
-            at16(ownends, i),
-            at16(ownends, i + 1),
-            at32(ownlengths, edge),
-            at32(ownvolumes, edge),
+            at(register.ends, 2 * edge),
+            at(register.ends, 2 * edge + 1),
+            at(register.lengths, edge),
+            at(register.volumes, edge),
             ringed,
-        );
-        match inserted {
-            Inserted::Done(next, then) => {
-                counts = next;
-                ringed = then;
-            }
-            Inserted::Refused(refusal) => {
-                return inserted;
-            }
-        }
-        i += 2;
-        edge += 1;
-        left -= 1;
+        )?;
+        counts = landed.counts;
+        ringed = landed.rings;
     }
-    Inserted::Done(counts, ringed)
+    Ok(Inserted {
+        counts,
+        rings: ringed,
+    })
 }
 
 // As many edges as the counts say, landed on tables that come cleared, after as many vertices.
-pub fn regrow(
-    ownends: &[u16],
-    ownlengths: &[u32],
-    ownvolumes: &[u32],
-    own: Counts,
-    degrees: &mut [u16],
-    sides: &mut [u16],
-    ends: &mut [u16],
-    lengths: &mut [u32],
-    volumes: &mut [u32],
-    labels: &mut [u32],
-) -> Inserted
-    ensures { landing_in (tables degrees.new sides.new ends.new lengths.new volumes.new labels.new) (as_answer result)
-        ≡ regrow_in ownends.now ownlengths.now ownvolumes.now (as_counts own)
-        (tables degrees.old sides.old ends.old lengths.old volumes.old labels.old) }
+pub fn regrow(register: &View, own: Counts, tables: &mut Tables) -> Result<Inserted, Refusal>
+    ensures lent { SameLent tables.new tables.old }
+    ensures lands { landing_in (of_lent tables.new) (as_answer result)
+        ≡ regrow_in register.now.ends.now register.now.lengths.now register.now.volumes.now (as_counts own) (of_lent tables.old) }
 {
     if Vertex::COUNT < own.vertices {
-        return Inserted::Refused(Refusal::TooManyVertices);
+        return Err(Refusal::TooManyVertices);
     }
     let from = Counts {
         vertices: own.vertices,
@@ -97,8 +72,5 @@ pub fn regrow(
         blocks: 0,
         relabellings: 0,
     };
-    replay(
-        ownends, ownlengths, ownvolumes, 0, own.edges, from, false, degrees, sides, ends, lengths,
-        volumes, labels,
-    )
+    replay(register, 0, own.edges, from, false, tables)
 }

@@ -1,5 +1,5 @@
 // One edge, placed as planned and written down: it leaves the tables and the counts.
-ghost use Rattle.std.specs.Prelude.{◌≡◌, set};
+ghost use Rattle.std.specs.Prelude.{◌≡◌, set, Ok};
 ghost use Rattle.counters.specs.Answers.{as_counts};
 ghost use Rattle.tables.specs.Meaning.{tables};
 ghost use Rattle.tables.specs.Steps.{set_pair};
@@ -9,16 +9,15 @@ ghost use Rattle.insertion.specs.Meaning.{as_answer};
 
 use counters::counts::Counts;
 use counters::numbers::{Edge, Millilitres, Millimetres, Vertex};
-use counters::refusals::Refusal;
 use placement::planning::{Plan, place_edge};
 use tables::access::{add32, one_more16};
 use tables::kinds::{put_ends, put_length, put_volume};
 
-// The counts after the edge (document 01: the head) and whether a ring may stand then; or the edge's refusal.
+// The counts after a record that landed (document 01: the head), and whether a ring may stand then.
 #[derive(Clone, Copy)]
-pub enum Inserted {
-    Done(Counts, bool),
-    Refused(Refusal),
+pub struct Inserted {
+    pub counts: Counts,
+    pub rings: bool,
 }
 
 // Edge e is written down, and nothing that another edge wrote is touched.
@@ -59,7 +58,7 @@ pub fn insert_edge(
     rings: bool,
 ) -> Inserted
     ensures { landing_in
-        (tables degrees.new sides.new ends.new lengths.new volumes.new labels.new) (as_answer result)
+        (tables degrees.new sides.new ends.new lengths.new volumes.new labels.new) (as_answer (Ok result))
         ≡ insert_planned plan
         (tables degrees.old sides.old ends.old lengths.old volumes.old labels.old)
         (as_counts counts) rings (record { first = first.0; second = second.0; len = length.0; volume = volume.0 }) }
@@ -78,11 +77,14 @@ pub fn insert_edge(
         e,
     );
     record_edge(ends, lengths, volumes, e, first, second, length, volume);
-    let after = Counts {
+    let counts = Counts {
         vertices: counts.vertices,
         edges: one_more16(counts.edges),
         blocks: p.blocks,
         relabellings: add32(counts.relabellings, p.relabellings),
     };
-    Inserted::Done(after, rings || p.ring)
+    Inserted {
+        counts,
+        rings: rings || p.ring,
+    }
 }

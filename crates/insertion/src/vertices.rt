@@ -10,17 +10,17 @@ use counters::numbers::Vertex;
 use counters::refusals::Refusal;
 use tables::access::one_more16;
 
-pub fn land_vertex(counts: Counts, rings: bool) -> Inserted
+pub fn land_vertex(counts: Counts, rings: bool) -> Result<Inserted, Refusal>
     ensures { as_answer result ≡ land_vertex_in (as_counts counts) rings }
 {
     if Vertex::COUNT <= counts.vertices {
-        return Inserted::Refused(Refusal::TooManyVertices);
+        return Err(Refusal::TooManyVertices);
     }
-    let after = Counts {
+    let counts = Counts {
         vertices: one_more16(counts.vertices),
         edges: counts.edges,
         blocks: counts.blocks,
         relabellings: counts.relabellings,
     };
-    Inserted::Done(after, rings)
+    Ok(Inserted { counts, rings })
 }

@@ -1,4 +1,5 @@
 -- Two chains joined, a chain begun, a ring closed, and the ways out of a merge.
+use Rattle.std.specs.Prelude.{Some, None, Option}
 use mathlib.Core.Path.{◌≡◌, refl}
 use mathlib.Core.Bool.{Bool, true, false}
 use mathlib.Core.List.{List}
@@ -14,9 +15,8 @@ use Rattle.tables.specs.Steps.{far_in, more16, more32}
 use Rattle.tables.specs.Walks.{Met, lockstep_in}
 use Rattle.labels.specs.Labelling.{marks_in, count_ahead, rises_in, label_vertex_in, relabel_in, beyond_in, next_in}
 use Rattle.labels.specs.Changes.{changed}
-use Rattle.joining.specs.Merging.{join_in, begin_in, close_in, keeper_for, keeper_in, merge_at, merge_in, merger, merger_at, merger_for, merge_by}
+use Rattle.joining.specs.Merging.{join_in, begin_in, close_in, keeper_for, keeper_in, merge_at, merge_in, merger, merger_at, merger_for, merge_by, keeping}
 use Rattle.joining.specs.declared.merging.Keeper.{Keeper}
-use Rattle.joining.specs.declared.merging.Keeper.TheVariants.{Neither, Chain}
 use Rattle.joining.specs.declared.merging.Merger.{Merger}
 
 -- x and y labelled after x's chain, and then y's chain after them: the chains are joined
@@ -46,23 +46,23 @@ begin_law s l s₁ l₁ s₂ l₂ a before b after between k low up m₁ m₂ f 
 -- which chain keeps its labels, the walks having met at m
 module _ (degrees : List ℕ) (a b : ℕ) (m : Met) where
   -- the second walk had not ended: b's chain keeps its labels
-  pub second_keeps : get_or degrees m.second 0 ≡ 2 → Chain (vertex_of b) (vertex_of a) ≡ keeper_for degrees a b m
+  pub second_keeps : get_or degrees m.second 0 ≡ 2 → Some (keeping (vertex_of b) (vertex_of a)) ≡ keeper_for degrees a b m
   unfolding keeper_for
   second_keeps h = rw (eq-eqb _ _ h)
 
   module _ (h : get_or degrees m.second 0 ≡ 2 → ⊥) where
     -- the second walk had ended, the first had not: a's chain keeps its labels
-    pub first_keeps : get_or degrees m.first 0 ≡ 2 → Chain (vertex_of a) (vertex_of b) ≡ keeper_for degrees a b m
+    pub first_keeps : get_or degrees m.first 0 ≡ 2 → Some (keeping (vertex_of a) (vertex_of b)) ≡ keeper_for degrees a b m
     unfolding keeper_for
     first_keeps i = rw (ne_eqb _ _ h, eq-eqb _ _ i)
 
     -- both walks had ended without a step: neither chain keeps labels
-    pub neither_keeps : (get_or degrees m.first 0 ≡ 2 → ⊥) → m.steps ≡ 0 → Neither ≡ keeper_for degrees a b m
+    pub neither_keeps : (get_or degrees m.first 0 ≡ 2 → ⊥) → m.steps ≡ 0 → None ≡ keeper_for degrees a b m
     unfolding keeper_for
     neither_keeps i j = rw (ne_eqb _ _ h, ne_eqb _ _ i, eq-eqb _ _ j)
 
     -- both walks had ended, after a step or more: a's chain keeps its labels
-    pub tie_keeps : (get_or degrees m.first 0 ≡ 2 → ⊥) → (m.steps ≡ 0 → ⊥) → Chain (vertex_of a) (vertex_of b) ≡ keeper_for degrees a b m
+    pub tie_keeps : (get_or degrees m.first 0 ≡ 2 → ⊥) → (m.steps ≡ 0 → ⊥) → Some (keeping (vertex_of a) (vertex_of b)) ≡ keeper_for degrees a b m
     unfolding keeper_for
     tie_keeps i j = rw (ne_eqb _ _ h, ne_eqb _ _ i, ne_eqb _ _ j)
 
@@ -74,7 +74,7 @@ module _ (degrees s ends l : List ℕ) (blocks a b e n da ua db ub : ℕ) (m : M
   merge_closes o = rw (← h.0, ← h.1, ← i.0, ← i.1, ← is, eq-eqb _ _ o)
 
   -- the first walk did not come to b: the merge goes by which chain keeps its labels
-  pub merge_kept : (keeper : Keeper) → (m.first ≡ b → ⊥) → keeper ≡ keeper_for degrees a b m
+  pub merge_kept : (keeper : Option Keeper) → (m.first ≡ b → ⊥) → keeper ≡ keeper_for degrees a b m
       → keeper_in keeper degrees s ends l blocks a b e n da db ≡ merge_in degrees s ends l blocks a b e n
   unfolding merge_in merge_at
   merge_kept keeper o k = rw (← h.0, ← h.1, ← i.0, ← i.1, ← is, ne_eqb _ _ o, ← k)
@@ -83,12 +83,12 @@ module _ (degrees s ends l : List ℕ) (blocks a b e n da ua db ub : ℕ) (m : M
 module _ (degrees s ends : List ℕ) (a b n da ua db ub : ℕ) (m : Met) (h : (da ≡ get_or s (2 * a) 0) × (ua ≡ far_in ends da a))
     (i : (db ≡ get_or s (2 * b) 0) × (ub ≡ far_in ends db b)) (is : m ≡ lockstep_in degrees s ends n da ua db ub) where
   -- the first walk came to b: a ring is to be closed
-  pub merger_closes : m.first ≡ b → merger true Neither ≡ merger_for degrees s ends a b n
+  pub merger_closes : m.first ≡ b → merger true None ≡ merger_for degrees s ends a b n
   unfolding merger_for merger_at
   merger_closes o = rw (← h.0, ← h.1, ← i.0, ← i.1, ← is, eq-eqb _ _ o)
 
   -- the first walk did not come to b: one of the chains is to keep its labels, or neither
-  pub merger_joins : (keeper : Keeper) → (m.first ≡ b → ⊥) → keeper ≡ keeper_for degrees a b m → merger false keeper ≡ merger_for degrees s ends a b n
+  pub merger_joins : (keeper : Option Keeper) → (m.first ≡ b → ⊥) → keeper ≡ keeper_for degrees a b m → merger false keeper ≡ merger_for degrees s ends a b n
   unfolding merger_for merger_at
   merger_joins keeper o k = rw (← h.0, ← h.1, ← i.0, ← i.1, ← is, ne_eqb _ _ o, ← k)
 
@@ -120,14 +120,14 @@ unfolding merger_for merge_in
 merge_decided degrees s ends l blocks a b e n = decided_at degrees s ends l blocks a b e n _ _ refl
 
 -- what the code answers, by the chain that keeps its labels
-module _ (degrees s ends l s' l' : List ℕ) (blocks a b e n da db blocks' m' : ℕ) (ring : Bool) (keeper : Keeper) where
+module _ (degrees s ends l s' l' : List ℕ) (blocks a b e n da db blocks' m' : ℕ) (ring : Bool) (keeper : Option Keeper) where
   -- one chain keeps its labels: both are joined, and no block begins
-  pub answer_joined : (x y : Vertex) (m : ℕ) → keeper ≡ Chain x y → marks_in s' l' m ≡ join_in degrees s ends l x.0 y.0 e n
+  pub answer_joined : (x y : Vertex) (m : ℕ) → keeper ≡ Some (keeping x y) → marks_in s' l' m ≡ join_in degrees s ends l x.0 y.0 e n
       → (blocks' ≡ blocks) × (m' ≡ m) × (ring ≡ false) → changed s' l' blocks' m' ring ≡ keeper_in keeper degrees s ends l blocks a b e n da db
   answer_joined x y m o j z = rw (o, z.0, z.1, z.2, ← j)
 
   -- neither chain keeps labels: the two leaves begin a block
-  pub answer_begun : (k : ℕ) → keeper ≡ Neither → k ≡ more16 blocks → marks_in s' l' 0 ≡ begin_in s l a da b db e k
+  pub answer_begun : (k : ℕ) → keeper ≡ None → k ≡ more16 blocks → marks_in s' l' 0 ≡ begin_in s l a da b db e k
       → (blocks' ≡ k) × (m' ≡ 0) × (ring ≡ false) → changed s' l' blocks' m' ring ≡ keeper_in keeper degrees s ends l blocks a b e n da db
   answer_begun k o r j z = rw (o, z.0, z.1, z.2, ← r, ← j)
 

@@ -1,13 +1,13 @@
 -- Two chains become one, or one a ring, as functions of lists that mirror the code.
-use Rattle.std.specs.Prelude.{ℕ, ◌+◌, ◌*◌, Bool, true, false, List, get_or, eqb, if◌then◌else◌}
+use Rattle.std.specs.Prelude.{ℕ, ◌+◌, ◌*◌, Bool, true, false, List, get_or, eqb, if◌then◌else◌, Option, Some, None}
 use Rattle.model.specs.Labels.{base}
 use Rattle.counters.specs.Numbers.{vertex_of}
+use Rattle.counters.specs.declared.numbers.Vertex.{Vertex}
 use Rattle.tables.specs.Steps.{far_in, more16}
 use Rattle.tables.specs.Walks.{Met, lockstep_in}
 use Rattle.labels.specs.Labelling.{MarksIn, marks_in, count_ahead, rises_in, label_vertex_in, relabel_in, beyond_in, next_in}
 use Rattle.labels.specs.Changes.{Changed, changed}
 use Rattle.joining.specs.declared.merging.Keeper.{Keeper}
-use Rattle.joining.specs.declared.merging.Keeper.TheVariants.{Neither, Chain}
 use Rattle.joining.specs.declared.merging.Merger.{Merger}
 
 -- the chains of the leaves x and y joined by edge e: x's keeps its labels, y's gets those that follow
@@ -40,21 +40,24 @@ close_in sides labels blocks a b e da ua db ub =
     if eqb ua b then changed g.sides g.labels (more16 blocks) 0 true
     else changed j.sides j.labels blocks 0 true
 
+abbrev pub keeping : Vertex → Vertex → Keeper
+keeping x y = record { kept = x; other = y }
+
 -- which chain keeps its labels, a's or b's, by where the walks in lockstep met
-unfoldable pub keeper_for : List ℕ → ℕ → ℕ → Met → Keeper
+unfoldable pub keeper_for : List ℕ → ℕ → ℕ → Met → Option Keeper
 keeper_for degrees a b m =
-    if eqb (get_or degrees m.second 0) 2 then Chain (vertex_of b) (vertex_of a)
-    else if eqb (get_or degrees m.first 0) 2 then Chain (vertex_of a) (vertex_of b)
-    else if eqb m.steps 0 then Neither
-    else Chain (vertex_of a) (vertex_of b)
+    if eqb (get_or degrees m.second 0) 2 then Some (keeping (vertex_of b) (vertex_of a))
+    else if eqb (get_or degrees m.first 0) 2 then Some (keeping (vertex_of a) (vertex_of b))
+    else if eqb m.steps 0 then None
+    else Some (keeping (vertex_of a) (vertex_of b))
 
 -- the chains merged, by which of them keeps its labels
-abbrev pub keeper_in : Keeper → List ℕ → List ℕ → List ℕ → List ℕ → ℕ → ℕ → ℕ → ℕ → ℕ → ℕ → ℕ → Changed
-keeper_in Neither degrees sides ends labels blocks a b e n da db =
+abbrev pub keeper_in : Option Keeper → List ℕ → List ℕ → List ℕ → List ℕ → ℕ → ℕ → ℕ → ℕ → ℕ → ℕ → ℕ → Changed
+keeper_in None degrees sides ends labels blocks a b e n da db =
     let g = begin_in sides labels a da b db e (more16 blocks) in
     changed g.sides g.labels (more16 blocks) 0 false
-keeper_in (Chain x y) degrees sides ends labels blocks a b e n da db =
-    let j = join_in degrees sides ends labels x.0 y.0 e n in
+keeper_in (Some k) degrees sides ends labels blocks a b e n da db =
+    let j = join_in degrees sides ends labels k.kept.0 k.other.0 e n in
     changed j.sides j.labels blocks j.count false
 
 unfoldable pub merge_at : List ℕ → List ℕ → List ℕ → List ℕ → ℕ → ℕ → ℕ → ℕ → ℕ → ℕ → ℕ → Met → Changed
@@ -72,12 +75,12 @@ merge_in degrees sides ends labels blocks a b e n =
 
 -- ---- decided first, and then done
 
-abbrev pub merger : Bool → Keeper → Merger
+abbrev pub merger : Bool → Option Keeper → Merger
 merger ring keeper = record { ring = ring; keeper = keeper }
 
 -- whether a ring would be closed and, if not, which chain would keep its labels, by where the walks in lockstep met
 unfoldable pub merger_at : List ℕ → ℕ → ℕ → Met → Merger
-merger_at degrees a b m = if eqb m.first b then merger true Neither else merger false (keeper_for degrees a b m)
+merger_at degrees a b m = if eqb m.first b then merger true None else merger false (keeper_for degrees a b m)
 
 unfoldable pub merger_for : List ℕ → List ℕ → List ℕ → ℕ → ℕ → ℕ → Merger
 merger_for degrees sides ends a b n =

@@ -92,34 +92,36 @@ fn close_ring(
     ChainChange::closing(blocks)
 }
 
-// The leaf whose chain keeps its labels, then the other; or neither, where no chain has a regular vertex.
+// The leaf whose chain keeps its labels, and the other one.
 #[derive(Clone, Copy)]
-pub enum Keeper {
-    Neither,
-    Chain(Vertex, Vertex),
+pub struct Keeper {
+    pub kept: Vertex,
+    pub other: Vertex,
 }
 
-// The chain with more regular vertices keeps its labels, a's on a tie: a walk that still stands at one is that of the longer chain.
-pub fn keeper_of(degrees: &[u16], meeting: Meeting, a: Vertex, b: Vertex) -> Keeper
+// The chain with more regular vertices keeps its labels, a's on a tie: a walk that still stands at one is that of the longer chain. Where
+// no chain has a regular vertex, neither does.
+pub fn keeper_of(degrees: &[u16], meeting: Meeting, a: Vertex, b: Vertex) -> Option<Keeper>
     ensures { result ≡ keeper_for degrees.now a.0 b.0 (met meeting.first.at.0 meeting.second.at.0 meeting.steps) }
 {
     if degree_of(degrees, meeting.second.at) == 2 {
-        return Keeper::Chain(b, a);
+        return Some(Keeper { kept: b, other: a });
     }
     if degree_of(degrees, meeting.first.at) == 2 {
-        return Keeper::Chain(a, b);
+        return Some(Keeper { kept: a, other: b });
     }
     if meeting.steps == 0 {
-        return Keeper::Neither;
+        return None;
     }
-    Keeper::Chain(a, b)
+    Some(Keeper { kept: a, other: b })
 }
 
 // What an edge between two leaves would make of their chains: whether it closes a ring; if not, which of the two keeps its labels.
+// Both are fields, as in a plan (placement::planning), and for its reason.
 #[derive(Clone, Copy)]
 pub struct Merger {
     pub ring: bool,
-    pub keeper: Keeper,
+    pub keeper: Option<Keeper>,
 }
 
 // Walking in lockstep costs what the shorter chain has. It shows which keeps its labels; and it shows a ring, where a's walk ends at b.
@@ -140,7 +142,7 @@ pub fn merger_of(
     if met.first.at.0 == b.0 {
         return Merger {
             ring: true,
-            keeper: Keeper::Neither,
+            keeper: None,
         };
     }
     let keeper = keeper_of(degrees, met, a, b);
@@ -152,7 +154,7 @@ pub fn merger_of(
 
 // The chains of the leaves a and b, which `first` and `second` have left, become one over edge e.
 fn join_kept(
-    keeper: Keeper,
+    keeper: Option<Keeper>,
     degrees: &[u16],
     sides: &mut [u16],
     ends: &[u16],
@@ -170,13 +172,22 @@ fn join_kept(
         first.edge.0 second.edge.0 }
 {
     match keeper {
-        Keeper::Neither => {
+        None => {
             let k = one_more16(blocks);
             begin_chain(sides, labels, a, first.edge, b, second.edge, e, k);
             ChainChange::new(k, 0)
         }
-        Keeper::Chain(x, y) => {
-            let n = join_chains(degrees, sides, ends, labels, x, y, e, fuel);
+        Some(keeper) => {
+            let n = join_chains(
+                degrees,
+                sides,
+                ends,
+                labels,
+                keeper.kept,
+                keeper.other,
+                e,
+                fuel,
+            );
             ChainChange::new(blocks, n)
         }
     }

@@ -1,5 +1,5 @@
 -- The ways out of `expect_sheet` and of `verdict_line`, and that what is written in the end is the verdict.
-use mathlib.Core.Path.{◌≡◌, refl, sym, ap, subst, ◌∙◌}
+use mathlib.Core.Path.{◌≡◌, refl, sym, ap, ◌∙◌}
 use Prim.Native.Nat.{ℕ, ◌≤◌, ◌<◌}
 use native.Mathlib.Omega.{arith}
 use mathlib.Core.List.{List, [], ◌∷◌, ◌++◌}
@@ -16,11 +16,8 @@ use Rattle.text.proofs.Decimal.{decimal_length}
 use Rattle.text.proofs.PageLaws.{write_two, write_held}
 use Rattle.text.proofs.LineLaws.{stop_length}
 use Rattle.listing.specs.Listing.{room_bytes}
-use Rattle.judging.specs.Right.{RightText, listed, stops, right_of, as_right, size_of as rightSize}
-use Rattle.judging.specs.declared.right.Right.{Right}
-use Rattle.judging.specs.declared.right.Right.TheVariants as right
-use Rattle.judge.specs.Output.{Awaited, sheet, nothing, awaited, awaited_of, told, verdict_line, line_bytes, size_of}
-use Rattle.judge.specs.declared.output.Expected.{Expected}
+use Rattle.judging.specs.Right.{RightText, listed, stops, right_of}
+use Rattle.judge.specs.Output.{Awaited, sheet, nothing, awaited, awaited_of, told, verdict_line, line_bytes}
 
 -- what a page holds whose text fits
 page_holds : {A : Type 0} (give : List ℕ → A) (xs out : List ℕ) (q : Page) (a : A) → q ≡ write xs (page out 0) → length xs ≤ length out → give xs ≡ a
@@ -55,22 +52,15 @@ await_is bs h = rw (le-ltb 65536 (length bs) h) (go (grow_list bs).stop)
 
 module _ (bs : List ℕ) (short : length bs ≤ 65536) where
   -- a list that is read whole: its right text is the sheet awaited
-  pub sheet_awaited : (r : Right) (n : ℕ) (xs : List ℕ) → r ≡ right.Text n → Counted (rightSize r) xs × (as_right r xs ≡ right_of (grow_list bs))
-      → Counted n xs × (sheet (take n xs) ≡ awaited bs)
-  sheet_awaited r n xs e h =
-      let g = subst (λ (z : Right). Counted (rightSize z) xs × (as_right z xs ≡ right_of (grow_list bs))) e h in
-      (g.0, ap await g.1 ∙ await_is bs short)
+  pub sheet_awaited : (right : List ℕ) → listed right ≡ right_of (grow_list bs) → sheet right ≡ awaited bs
+  sheet_awaited right h = ap await h ∙ await_is bs short
 
   -- a list that stops: no sheet is awaited, and its line says where
-  pub none_awaited : (r : Right) (k x : ℕ) (xs out : List ℕ) (q : Page) → as_right r xs ≡ stops k x → as_right r xs ≡ right_of (grow_list bs)
+  pub none_awaited : (k x : ℕ) (out : List ℕ) (q : Page) → stops k x ≡ right_of (grow_list bs)
       → k < 18446744073709551616 → x < 4294967296 → room_bytes ≤ length out → q ≡ write (stop_line (stopped k x)) (page out 0)
       → Counted q.at q.slice × (nothing (take q.at q.slice) ≡ awaited bs)
-  none_awaited r k x xs out q s h hk hx l e =
-      page_holds nothing _ out q (awaited bs) e (omega (arith, stop_length k x hk hx)) (ap await (sym s ∙ h) ∙ await_is bs short)
-
--- an equal answer has as many bytes in the slice
-pub size_held : (r s : Expected) (xs : List ℕ) → r ≡ s → Counted (size_of r) xs → Counted (size_of s) xs
-size_held r s xs e h = subst (λ (o : Expected). Counted (size_of o) xs) e h
+  none_awaited k x out q h hk hx l e =
+      page_holds nothing _ out q (awaited bs) e (omega (arith, stop_length k x hk hx)) (ap await h ∙ await_is bs short)
 
 -- ---- from the right text and the sheet
 

@@ -1,10 +1,8 @@
 -- What the program writes for the list and the sheet that it read.
-use Rattle.std.specs.Prelude.{ℕ, List, [], ◌∷◌, ◌++◌, length, take, ltb, if◌then◌else◌}
+use Rattle.std.specs.Prelude.{ℕ, List, [], ◌∷◌, ◌++◌, length, take, ltb, if◌then◌else◌, Result, Ok, Err}
 use Rattle.model.specs.Format.{Read, whole, stopped, grow_list}
 use Rattle.model.specs.Printing.{ascii, line, stop_line, listing}
 use Rattle.model.specs.Judging.{Verdict, agrees, wrong_line, not_judged, compare_texts}
-use Rattle.judge.specs.declared.output.Expected.{Expected}
-use Rattle.judge.specs.declared.output.Expected.TheVariants as expected
 
 -- what follows from the list alone: the text that its sheet has to be; or of a list that is refused or too long the line that says so, as the
 -- printing program has it, whatever the sheet
@@ -30,13 +28,13 @@ told bs text = elim (awaited bs) [ sheet right ↦ verdict_line (compare_texts r
 
 -- ---- the program's answer on a list: so many bytes at the front of its slice
 
-abbrev pub size_of : Expected → ℕ
-size_of (expected.Sheet n) = n
-size_of (expected.Nothing n) = n
+abbrev pub size_of : Result ℕ ℕ → ℕ
+size_of (Ok n) = n
+size_of (Err n) = n
 
-abbrev pub as_awaited : Expected → List ℕ → Awaited
-as_awaited (expected.Sheet n) xs = sheet (take n xs)
-as_awaited (expected.Nothing n) xs = nothing (take n xs)
+abbrev pub as_awaited : Result ℕ ℕ → List ℕ → Awaited
+as_awaited (Ok n) xs = sheet (take n xs)
+as_awaited (Err n) xs = nothing (take n xs)
 
 -- the program's slice for a verdict: no line is longer
 abbrev pub line_bytes : ℕ

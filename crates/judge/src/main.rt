@@ -7,13 +7,13 @@ mod output;
 ghost use Rattle.streams.specs.Input.{Held};
 
 use listing::listing::ROOM;
-use output::{Expected, LINE, expect_sheet, verdict_line};
+use output::{LINE, expect_sheet, verdict_line};
 use std::fs::File;
 use std::io::Print;
 use std::os::unix::fs::PermissionsExt;
 use std::rt::Files;
 use std::{fs, io};
-use streams::reading::{MAX_LIST, ReadAnswer, read_from, read_list};
+use streams::reading::{MAX_LIST, read_from, read_list};
 use streams::writing::{complain, write_output};
 
 // std reaches a descriptor by its name alone: the file or the pipe that it stands for is opened once more, and read from its beginning.
@@ -32,13 +32,11 @@ fn open_sheet<R: Files>(files: &R) -> io::Result<R::File> {
 }
 
 // A sheet that cannot be opened, as where the descriptor is closed, counts as one whose read failed.
-fn read_sheet<R: Files>(files: &R, sheet: &mut [u8]) -> ReadAnswer
+fn read_sheet<R: Files>(files: &R, sheet: &mut [u8]) -> io::Result<usize>
     ensures { Held result sheet.new }
 {
-    match open_sheet(files) {
-        Ok(mut file) => read_from(&mut file, sheet),
-        Err(_) => ReadAnswer::Failed,
-    }
+    let mut file = open_sheet(files)?;
+    read_from(&mut file, sheet)
 }
 
 fn write_line<P: Print, E: Print>(output: &P, errors: &E, line: &[u8]) {
@@ -59,10 +57,9 @@ fn write_verdict<P: Print, E: Print>(output: &P, errors: &E, right: &[u8], sheet
 fn judge_sheet<R: Files + Print, E: Print>(rt: &R, errors: &E, right: &[u8]) {
     // Room for a byte more than the right text can have: what follows in a longer sheet changes no verdict (`longer_same`).
     let mut sheet = [0u8; ROOM + 1];
-    let read = read_sheet(rt, &mut sheet);
-    match read {
-        ReadAnswer::Bytes(n) => write_verdict(rt, errors, right, &sheet[..n]),
-        ReadAnswer::Failed => complain(
+    match read_sheet(rt, &mut sheet) {
+        Ok(n) => write_verdict(rt, errors, right, &sheet[..n]),
+        Err(_) => complain(
             errors,
             b"judge: the sheet could not be read to its end, so it is not judged\n",
         ),
@@ -72,10 +69,9 @@ fn judge_sheet<R: Files + Print, E: Print>(rt: &R, errors: &E, right: &[u8]) {
 // Of a list that is refused or too long the sheet is not read.
 fn judge_list<R: Files + Print, E: Print>(rt: &R, errors: &E, list: &[u8]) {
     let mut out = [0u8; ROOM];
-    let expected = expect_sheet(list, &mut out);
-    match expected {
-        Expected::Sheet(k) => judge_sheet(rt, errors, &out[..k]),
-        Expected::Nothing(k) => write_line(rt, errors, &out[..k]),
+    match expect_sheet(list, &mut out) {
+        Ok(k) => judge_sheet(rt, errors, &out[..k]),
+        Err(k) => write_line(rt, errors, &out[..k]),
     }
 }
 
@@ -83,10 +79,9 @@ fn main(rt: HostRuntime) {
     let errors = rt.stderr();
     // Room for a byte more than a list may have, so that a longer one shows.
     let mut list = [0u8; MAX_LIST + 1];
-    let read = read_list(&rt, &mut list);
-    match read {
-        ReadAnswer::Bytes(n) => judge_list(&rt, &errors, &list[..n]),
-        ReadAnswer::Failed => complain(
+    match read_list(&rt, &mut list) {
+        Ok(n) => judge_list(&rt, &errors, &list[..n]),
+        Err(_) => complain(
             &errors,
             b"judge: the list could not be read to its end, so the sheet is not judged\n",
         ),

@@ -1,5 +1,5 @@
 -- The ways out of `right_text` and of `judge`.
-use mathlib.Core.Path.{◌≡◌, refl, sym, ap, subst, ◌∙◌}
+use mathlib.Core.Path.{◌≡◌, refl, sym, ap, ◌∙◌}
 use Prim.Native.Nat.{ℕ, ◌+◌, ◌*◌, ◌≤◌}
 use native.Mathlib.Omega.{arith}
 use mathlib.Core.List.{List}
@@ -18,8 +18,7 @@ use Rattle.streams.proofs.Input.{counted}
 use Rattle.text.specs.Pages.{Page, page, write}
 use Rattle.listing.specs.Listing.{listing_in, head_bytes, row_bytes, stop_bytes, room_bytes}
 use Rattle.listing.proofs.Whole.{lists}
-use Rattle.judging.specs.Right.{RightText, listed, stops, right_of, as_right, size_of}
-use Rattle.judging.specs.declared.right.Right.{Right}
+use Rattle.judging.specs.Right.{RightText, listed, stops, right_of}
 
 -- ---- the right text
 
@@ -65,16 +64,9 @@ judged_by_lem bs text = go (grow_list bs).stop refl
     go (stopped k x) e = ap (λ (t : RightText). judged_by t text) (sym (right_stops (grow_list bs) k x e)) ∙ sym (refused_told bs text k x e)
 
 -- the verdict of the comparison with the right text is that on the list and the text
-pub text_judged : (bs right text : List ℕ) (v w : Verdict) → listed right ≡ right_of (grow_list bs) → v ≡ w → w ≡ compare_texts right text → v ≡ judge bs text
-text_judged bs right text v w e f g = f ∙ g ∙ ap (λ (t : RightText). judged_by t text) e ∙ judged_by_lem bs text
+pub text_judged : (bs right text : List ℕ) (v : Verdict) → listed right ≡ right_of (grow_list bs) → v ≡ compare_texts right text → v ≡ judge bs text
+text_judged bs right text v e f = f ∙ ap (λ (t : RightText). judged_by t text) e ∙ judged_by_lem bs text
 
 -- of a list that stops, no text is judged
 pub stop_judged : (bs text : List ℕ) (k x : ℕ) → stops k x ≡ right_of (grow_list bs) → not_judged k x ≡ judge bs text
 stop_judged bs text k x e = ap (λ (t : RightText). judged_by t text) e ∙ judged_by_lem bs text
-
--- an equal answer has as many bytes in the slice, and means the same right text
-pub size_held : (r s : Right) (xs : List ℕ) → r ≡ s → Counted (size_of r) xs → Counted (size_of s) xs
-size_held r s xs e h = subst (λ (o : Right). Counted (size_of o) xs) e h
-
-pub right_held : (r s : Right) (xs bs : List ℕ) → r ≡ s → as_right r xs ≡ right_of (grow_list bs) → as_right s xs ≡ right_of (grow_list bs)
-right_held r s xs bs e h = subst (λ (o : Right). as_right o xs ≡ right_of (grow_list bs)) e h

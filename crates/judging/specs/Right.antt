@@ -1,13 +1,11 @@
 -- The right text of a list, and the verdict for which an answer stands.
-use Rattle.std.specs.Prelude.{ℕ, List, take}
+use Rattle.std.specs.Prelude.{ℕ, List, take, Option, Result, Ok, Err}
 use Rattle.model.specs.Format.{Read, whole, stopped}
 use Rattle.model.specs.Printing.{listing}
 use Rattle.model.specs.Judging as J
+use Rattle.comparing.specs.Beginnings.{as_comparison}
 use Rattle.counters.specs.Refusals.{number_of}
-use Rattle.judging.specs.declared.right.Right.{Right}
-use Rattle.judging.specs.declared.right.Right.TheVariants as right
-use Rattle.judging.specs.declared.verdict.Verdict.{Verdict}
-use Rattle.judging.specs.declared.verdict.Verdict.TheVariants as verdict
+use Rattle.counters.specs.declared.refusals.Refusal.{Refusal}
 
 -- the listing of a list that is read whole; of one that stops, where
 pub data RightText : Type 0 where
@@ -18,15 +16,14 @@ unfoldable pub right_of : Read → RightText
 right_of d = elim d.stop [ whole ↦ listed (listing d) | stopped k x ↦ stops k x ]
 
 -- so many bytes at the front of the slice
-abbrev pub size_of : Right → ℕ
-size_of (right.Text n) = n
-size_of (right.Stopped k x) = 0
+abbrev pub size_of : Result ℕ (ℕ × Refusal) → ℕ
+size_of (Ok n) = n
+size_of (Err stop) = 0
 
-abbrev pub as_right : Right → List ℕ → RightText
-as_right (right.Text n) xs = listed (take n xs)
-as_right (right.Stopped k x) xs = stops k (number_of x)
+abbrev pub as_right : Result ℕ (ℕ × Refusal) → List ℕ → RightText
+as_right (Ok n) xs = listed (take n xs)
+as_right (Err stop) xs = stops stop.0 (number_of stop.1)
 
-abbrev pub as_verdict : Verdict → J.Verdict
-as_verdict verdict.Agrees = J.agrees
-as_verdict (verdict.WrongLine n) = J.wrong_line n
-as_verdict (verdict.Stopped k x) = J.not_judged k (number_of x)
+abbrev pub as_verdict : Result (Option ℕ) (ℕ × Refusal) → J.Verdict
+as_verdict (Ok comparison) = as_comparison comparison
+as_verdict (Err stop) = J.not_judged stop.0 (number_of stop.1)

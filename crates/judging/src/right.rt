@@ -12,13 +12,7 @@ use landing::records::grow_list;
 use listing::listing::put_listing;
 
 // So many bytes of the slice; or the record and the refusal of a list that stops.
-#[derive(Clone, Copy)]
-pub enum Right {
-    Text(usize),
-    Stopped(usize, Refusal),
-}
-
-pub fn right_text(list: &[u8], out: &mut [u8]) -> Right
+pub fn right_text(list: &[u8], out: &mut [u8]) -> Result<usize, (usize, Refusal)>
     requires { room_bytes ≤ length out.old }
     ensures { Counted (size_of result) out.new × (as_right result out.new ≡ right_of (grow_list list.now)) }
 {
@@ -50,8 +44,8 @@ pub fn right_text(list: &[u8], out: &mut [u8]) -> Right
                 reading.counts,
                 Stop::Whole,
             );
-            Right::Text(size)
+            Ok(size)
         }
-        Stop::Stopped(record, refusal) => Right::Stopped(record, refusal),
+        Stop::Stopped(record, refusal) => Err((record, refusal)),
     }
 }

@@ -5,7 +5,6 @@ use mathlib.Core.Bool.{Bool, true, false}
 use mathlib.Core.List.{List}
 use Prim.Native.Nat.{ℕ, zero, suc, ◌+◌, ◌*◌, ◌-◌, ◌<◌, ◌≤◌}
 use native.Mathlib.Nat.{not-suc-le-zero, add_assoc, zero-add, add-zero}
-use native.Mathlib.Numerals.{sub-one}
 use native.Mathlib.Omega.{arith}
 use borrow.Author.Tests.{eq-eqb, ne_eqb}
 use lib.Dec.{eqb}
@@ -69,15 +68,15 @@ module _ (degrees ends : List ℕ) (up : Bool) where
   unfolding relabel_in
   relabel_on n s l d v label d' v' label' e f g i = rw (eq-eqb _ _ e, f, g, i)
 
-  -- a turn of the loop, k vertices having been relabelled before
-  pub loop_step : (n : ℕ) (s l s' l' : List ℕ) (d v label d' v' label' k m : ℕ) → 0 < n → get_or degrees v 0 ≡ 2
+  -- turn i of the loop, k vertices having been relabelled before
+  pub loop_step : (n i : ℕ) (s l s' l' : List ℕ) (d v label d' v' label' k m : ℕ) → i < n → get_or degrees v 0 ≡ 2
       → d' ≡ turn_in s d v → v' ≡ far_in ends d' v → label' ≡ next_in up label
       → marks_in s' l' m ≡ label_vertex_in s l v label d d' up
-      → count_ahead k (relabel_in degrees ends up n s l d v label)
-      ≡ count_ahead (k + m) (relabel_in degrees ends up (n - 1) s' l' d' v' label')
-  loop_step zero s l s' l' d v label d' v' label' k m h e f g i j = absurd (not-suc-le-zero h)
-  loop_step (suc n) s l s' l' d v label d' v' label' k m h e f g i j =
-      rw (relabel_on n s l d v label d' v' label' e (sym f) (sym g) (sym i), ← j, sub-one) (ahead_twice k m _)
+      → count_ahead k (relabel_in degrees ends up (n - i) s l d v label)
+      ≡ count_ahead (k + m) (relabel_in degrees ends up (n - (i + 1)) s' l' d' v' label')
+  loop_step n i s l s' l' d v label d' v' label' k m h e f g j o =
+      let next : n - i ≡ suc (n - (i + 1)) = omega (arith, h) in
+      rw (next, relabel_on (n - (i + 1)) s l d v label d' v' label' e (sym f) (sym g) (sym j), ← o) (ahead_twice k m _)
 
   count_if : (b : Bool) (x y : MarksIn) (n : ℕ) → x.count ≤ n → y.count ≤ n → (if b then x else y).count ≤ n
   count_if true x y n h g = h

@@ -96,8 +96,7 @@ pub fn relabel_chain(
     let mut w = from;
     let mut next = label;
     let mut count: u32 = 0;
-    let mut left = fuel;
-    while 0 < left {
+    for _ in 0..fuel {
         if degree_of(degrees, w.at) != 2 {
             break;
         }
@@ -105,7 +104,6 @@ pub fn relabel_chain(
         count += label_vertex(sides, labels, w.at, next, w.edge, on.edge, up);
         next = next_label(next, up);
         w = on;
-        left -= 1;
     }
     count
 }

@@ -2,7 +2,7 @@
 use mathlib.Core.Path.{◌≡◌, refl, ap}
 use Prim.Native.Nat.{ℕ, zero, suc, ◌+◌, ◌-◌, ◌≤◌, ◌<◌}
 use native.Mathlib.Nat.{not-suc-le-zero}
-use native.Mathlib.Numerals.{sub-one}
+use native.Mathlib.Omega.{arith}
 use mathlib.Core.Bool.{Bool}
 use mathlib.Core.List.{List}
 use lib.ListN.{length}
@@ -63,12 +63,12 @@ module _ (land : EdgeLanding) (bs : List ℕ) (limit : ℕ) where
   records_stop zero k t t' c rings p x h e = absurd (not-suc-le-zero h)
   records_stop (suc n) k t t' c rings p x h e = rw (← steps_are e, land_records_by, ← tables_of_lem e)
 
-  pub records_on : (n k : ℕ) (t t' : Tables) (c c' : Counts) (rings rings' : Bool) (p p' : Place) → 0 < n
+  pub records_on : (n i k : ℕ) (t t' : Tables) (c c' : Counts) (rings rings' : Bool) (p p' : Place) → i < n
       → stepped_in t' (went_on c' rings' p') ≡ land_record_by land t c limit rings (record_at bs p)
-      → land_records_by land bs n k t c limit rings p ≡ land_records_by land bs (n - 1) (k + 1) t' c' limit rings' p'
+      → land_records_by land bs (n - i) k t c limit rings p ≡ land_records_by land bs (n - (i + 1)) (k + 1) t' c' limit rings' p'
   unfolding land_records_by
-  records_on zero k t t' c c' rings rings' p p' h e = absurd (not-suc-le-zero h)
-  records_on (suc n) k t t' c c' rings rings' p p' h e = rw (← steps_are e, sub-one, land_records_by, ← tables_of_lem e)
+  records_on n i k t t' c c' rings rings' p p' h e =
+      let next : n - i ≡ suc (n - (i + 1)) = omega (arith, h) in rw (next, ← steps_are e, land_records_by, ← tables_of_lem e)
 
 -- ---- the header
 

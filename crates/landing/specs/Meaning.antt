@@ -10,7 +10,7 @@ use Rattle.landing.specs.declared.records.Reading.{Reading}
 
 abbrev pub as_step : Step → StepIn
 as_step End = ended
-as_step (Landed c rings at) = went_on (as_counts c) rings (as_place at)
+as_step (Landed i at) = went_on (as_counts i.counts) i.rings (as_place at)
 as_step (Refused x) = stopped_in (number_of x)
 
 abbrev pub as_reading : Tables → Reading → ReadingIn

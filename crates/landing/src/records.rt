@@ -3,6 +3,7 @@ ghost use Rattle.std.specs.Prelude.{◌≡◌, length, ltb};
 ghost use Rattle.model.specs.Basics.{max_edges};
 ghost use Rattle.model.specs.Tables.{no_counts};
 ghost use Rattle.counters.specs.Answers.{counts, as_counts, as_stop};
+ghost use Rattle.lent.specs.Lent.{of_lent, SameLent};
 ghost use Rattle.tables.specs.Meaning.{tables};
 ghost use Rattle.insertion.specs.Meaning.{as_answer};
 ghost use Rattle.list.specs.Reading.{as_place, record_at};
@@ -16,14 +17,16 @@ use counters::refusals::Refusal;
 use counters::sizes::MAX_EDGES;
 use insertion::edges::Inserted;
 use insertion::vertices::land_vertex;
+use lent::slices::Tables;
 use list::reader::record_at;
-use list::records::{Cursor, Header, Record, read_header};
+use list::records::{Cursor, Record, read_header};
 
 // What stands behind a record: the end of the list; the counts, whether a ring may stand, and the next record; or the record's refusal.
+// Three ways, since the end is no failure.
 #[derive(Clone, Copy)]
 pub enum Step {
     End,
-    Landed(Counts, bool, Cursor),
+    Landed(Inserted, Cursor),
     Refused(Refusal),
 }
 
@@ -35,30 +38,26 @@ pub struct Reading {
 }
 
 // A landed record goes on at the next one, a refused one stops.
-pub fn step_of(inserted: Inserted, next: Cursor) -> Step
+pub fn step_of(inserted: Result<Inserted, Refusal>, next: Cursor) -> Step
     ensures { as_step result ≡ step_of (as_place next) (as_answer inserted) }
 {
     match inserted {
-        Inserted::Done(counts, rings) => Step::Landed(counts, rings, next),
-        Inserted::Refused(refusal) => Step::Refused(refusal),
+        Ok(landed) => Step::Landed(landed, next),
+        Err(refusal) => Step::Refused(refusal),
     }
 }
 
 fn land_record(
-    degrees: &mut [u16],
-    sides: &mut [u16],
-    ends: &mut [u16],
-    lengths: &mut [u32],
-    volumes: &mut [u32],
-    labels: &mut [u32],
+    register: &mut Tables,
     counts: Counts,
     limit: u16,
     list: &[u8],
     at: Cursor,
     rings: bool,
 ) -> Step
-    ensures { stepped_in (tables degrees.new sides.new ends.new lengths.new volumes.new labels.new) (as_step result)
-        ≡ land_record_in (tables degrees.old sides.old ends.old lengths.old volumes.old labels.old)
+    ensures lent { SameLent register.new register.old }
+    ensures lands { stepped_in (of_lent register.new) (as_step result)
+        ≡ land_record_in (of_lent register.old)
         (as_counts counts) limit rings (record_at list.now (as_place at)) }
 {
     let found = record_at(list, at);
@@ -67,8 +66,19 @@ fn land_record(
         Record::Vertex(next) => step_of(land_vertex(counts, rings), next),
         Record::Edge(first, second, length, volume, next) => {
             let inserted = land_edge(
-                degrees, sides, ends, lengths, volumes, labels, counts, limit, first, second,
-                length, volume, rings,
+                register.degrees,
+                register.sides,
+                register.ends,
+                register.lengths,
+                register.volumes,
+                register.labels,
+                counts,
+                limit,
+                first,
+                second,
+                length,
+                volume,
+                rings,
             );
             step_of(inserted, next)
         }
@@ -85,54 +95,45 @@ fn land_records(
     blocks: &mut u16,
     relabellings: &mut u32,
     limit: u16,
-    degrees: &mut [u16],
-    sides: &mut [u16],
-    ends: &mut [u16],
-    lengths: &mut [u32],
-    volumes: &mut [u32],
-    labels: &mut [u32],
+    register: &mut Tables,
     list: &[u8],
     from: Cursor,
 ) -> Stop
-    ensures { reading_in (tables degrees.new sides.new ends.new lengths.new volumes.new labels.new)
+    ensures lent { SameLent register.new register.old }
+    ensures lands { reading_in (of_lent register.new)
         (counts vertices.new edges.new blocks.new relabellings.new) (as_stop result)
         ≡ land_records_in list.now (length list.now) 0
-        (tables degrees.old sides.old ends.old lengths.old volumes.old labels.old)
+        (of_lent register.old)
         (counts vertices.old edges.old blocks.old relabellings.old) limit
         (ltb 0 edges.old) (as_place from) }
 {
     let mut at = from;
     let mut rings = 0 < *edges;
-    let mut number: usize = 0;
-    let mut left = list.len();
-    while 0 < left {
+    for number in 0..list.len() {
         let head = Counts {
             vertices: *vertices,
             edges: *edges,
             blocks: *blocks,
             relabellings: *relabellings,
         };
-        let step = land_record(
-            degrees, sides, ends, lengths, volumes, labels, head, limit, list, at, rings,
-        );
+        let step = land_record(register, head, limit, list, at, rings);
         match step {
             Step::End => {
                 return Stop::Whole;
             }
-            Step::Landed(counts, then, next) => {
+            Step::Landed(landed, next) => {
+                let counts = landed.counts;
                 *vertices = counts.vertices;
                 *edges = counts.edges;
                 *blocks = counts.blocks;
                 *relabellings = counts.relabellings;
-                rings = then;
+                rings = landed.rings;
                 at = next;
             }
             Step::Refused(refusal) => {
                 return Stop::Stopped(number, refusal);
             }
         }
-        number += 1;
-        left -= 1;
     }
     Stop::Whole
 }
@@ -144,41 +145,33 @@ pub fn land_list(
     blocks: &mut u16,
     relabellings: &mut u32,
     limit: u16,
-    degrees: &mut [u16],
-    sides: &mut [u16],
-    ends: &mut [u16],
-    lengths: &mut [u32],
-    volumes: &mut [u32],
-    labels: &mut [u32],
+    register: &mut Tables,
     list: &[u8],
 ) -> Stop
-    ensures { reading_in (tables degrees.new sides.new ends.new lengths.new volumes.new labels.new)
+    ensures lent { SameLent register.new register.old }
+    ensures lands { reading_in (of_lent register.new)
         (counts vertices.new edges.new blocks.new relabellings.new) (as_stop result)
-        ≡ land_list_in (tables degrees.old sides.old ends.old lengths.old volumes.old labels.old)
+        ≡ land_list_in (of_lent register.old)
         (counts vertices.old edges.old blocks.old relabellings.old) limit list.now }
 {
     let header = read_header(list);
     match header {
-        Header::Good(from) => land_records(
+        Ok(from) => land_records(
             vertices,
             edges,
             blocks,
             relabellings,
             limit,
-            degrees,
-            sides,
-            ends,
-            lengths,
-            volumes,
-            labels,
+            register,
             list,
             from,
         ),
-        Header::Refused(refusal) => Stop::Stopped(0, refusal),
+        Err(refusal) => Stop::Stopped(0, refusal),
     }
 }
 
 // A whole list from empty, on tables that come cleared, without a licence. The head lies here.
+// They come as slices: each of its five callers lends arrays of its own and reads them afterwards, and a struct would stand between.
 pub fn grow_list(
     degrees: &mut [u16],
     sides: &mut [u16],
@@ -192,6 +185,14 @@ pub fn grow_list(
         ≡ land_list_in (tables degrees.old sides.old ends.old lengths.old volumes.old labels.old)
         no_counts max_edges list.now }
 {
+    let mut register = Tables {
+        degrees,
+        sides,
+        ends,
+        lengths,
+        volumes,
+        labels,
+    };
     let mut vertices: u16 = 0;
     let mut edges: u16 = 0;
     let mut blocks: u16 = 0;
@@ -202,12 +203,7 @@ pub fn grow_list(
         &mut blocks,
         &mut relabellings,
         MAX_EDGES,
-        degrees,
-        sides,
-        ends,
-        lengths,
-        volumes,
-        labels,
+        &mut register,
         list,
     );
     Reading {

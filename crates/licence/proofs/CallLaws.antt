@@ -1,5 +1,5 @@
 -- A call for a house, from the gate of the others to what its part of the tables comes to.
-use mathlib.Core.Path.{◌≡◌, sym, ap, ◌∙◌, subst}
+use mathlib.Core.Path.{◌≡◌, sym, ap, ◌∙◌}
 use Prim.Native.Nat.{ℕ, ◌+◌, ◌*◌, ◌-◌, ◌<◌}
 use native.Mathlib.Omega.{arith}
 use mathlib.Core.Bool.{Bool, false}
@@ -44,19 +44,6 @@ module _ (h : ℕ) (degrees sides ends lengths volumes labels : List ℕ) where
   pub parts_are : cut ≡ tables_in h (tables degrees sides ends lengths volumes labels)
   unfolding tables_in part
   parts_are = rw (one, two)
-
-  -- so what holds of them holds of the house
-  pub on_parts : (P : Tables → Type 0)
-      → P cut
-      → P (tables_in h (tables degrees sides ends lengths volumes labels))
-  on_parts P p = subst P parts_are p
-
-  -- so is what is done on them
-  pub parts_step : (limit removals : ℕ) (k : HouseCall) (c : Counts) (s s' : Tables) (xs : List ℕ) (a : Reply)
-      → own.outcome cut c s' xs a ≡ own_step limit removals k (own.lent cut c s)
-      → own.outcome (tables_in h (tables degrees sides ends lengths volumes labels)) c s' xs a
-      ≡ own_step limit removals k (own.lent (tables_in h (tables degrees sides ends lengths volumes labels)) c s)
-  parts_step limit removals k c s s' xs a p = on_parts (λ (t : Tables). own.outcome t c s' xs a ≡ own_step limit removals k (own.lent t c s)) p
 
 -- ---- the call
 

@@ -1,28 +1,25 @@
 -- The call of a house joined from the gate of the other houses and what is done on its own part of the tables.
-use Rattle.std.specs.Prelude.{if◌then◌else◌}
-use mathlib.Core.Path.{◌≡◌, refl, sym, ap, ap₂, ◌∙◌, subst}
+use mathlib.Core.Path.{◌≡◌, refl, sym, ap, ◌∙◌}
 use mathlib.Core.Logic.{◌≢◌}
-use Prim.Native.Nat.{ℕ, zero, suc, ◌+◌, ◌*◌, ◌-◌, ◌≤◌, ◌<◌}
+use Prim.Native.Nat.{ℕ, zero, suc, ◌+◌, ◌*◌, ◌≤◌, ◌<◌}
 use native.Mathlib.Omega.{arith}
-use native.Mathlib.Decide.{dec_lt}
 use native.Mathlib.Nat.{mul-le-mul_left}
-use mathlib.Core.Bool.{Bool, true, false, not, ◌&&◌, ◌||◌}
-use mathlib.Core.List.{List, [], ◌∷◌, map}
+use mathlib.Core.Bool.{Bool, true, false, ◌&&◌, ◌||◌}
+use mathlib.Core.List.{List, [], ◌∷◌}
 use mathlib.Core.Option.{Option, none, some, none-ne-some}
-use lib.ListN.{length, get_or, set, take, drop, length-drop}
+use lib.ListN.{length, set, drop, length-drop}
 use lib.Seq.{length-take-le, set-get_or}
 use lib.Dec.{eqb, leb, ltb}
-use borrow.Author.Tests.{eq-eqb, eqb-true, leb-false, le-ltb, lt-ltb, ltb-false, ltb-true, ne_eqb, not-false}
+use borrow.Author.Tests.{eqb-true, leb-false, lt-ltb, ltb-false, ltb-true, ne_eqb}
 use Rattle.model.specs.Basics.{count_from, max_edges, max_vertices, up_to}
 use Rattle.model.specs.Register.{Landed, Quote, Register, commit, empty, landed, refused}
 use Rattle.model.specs.Format.{land_list}
-use Rattle.model.specs.Queries.{Reply, refuses, reported}
-use Rattle.model.specs.Tables.{Counts, Stored, Tables, cleared, counts_of, eq_list, fits, held, no_counts, right_sizes, sizes, stored_of, tables_of}
-use Rattle.model.specs.Calls.{Ask, House, answer}
+use Rattle.model.specs.Queries.{refuses, reported}
+use Rattle.model.specs.Tables.{Counts, Tables, cleared, fits, held, no_counts, right_sizes, sizes, stored_of}
+use Rattle.model.specs.Calls.{Ask, House}
 use Rattle.model.proofs.Basics.Booleans.{or_false}
 use Rattle.theory.proofs.Registers.Equality.{eq_list_refl}
 use Rattle.theory.proofs.Registers.Kept.{cleared_fits}
-use Rattle.theory.proofs.Registers.OnlyHeld.{only_held}
 use Rattle.nursery.specs.Licence.{houses, limit_of, overfull}
 use Rattle.nursery.specs.Nursery.{Nursery, edges_in, house_in, limit_in, part, put_in, put_tables, register_in, removals_in, stored_in, tables_in, vertices_in}
 use Rattle.nursery.specs.Calls as call
@@ -33,7 +30,7 @@ use Rattle.nursery.proofs.Gate.{damaged_21, question_quiet, step_barred, step_ef
 use Rattle.admission.specs.Own as own
 use Rattle.admission.specs.Own.{house_of, own_step}
 use Rattle.admission.proofs.OwnLaws.{outcome_of, step_admits}
-use Rattle.licence.specs.Gate.{PassedAs, bars_with, emptied, licence_in, opens_with, pass_others, scratch_passed}
+use Rattle.licence.specs.Gate.{bars_with, emptied, licence_in, opens_with, pass_others, scratch_passed}
 
 -- whether a call grows its house
 unfoldable pub is_grow : HouseCall → Bool

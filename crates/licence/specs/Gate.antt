@@ -1,5 +1,6 @@
 -- What stands before a call for a house, but for 21 of that house, which the call looks at itself.
-use Rattle.std.specs.Prelude.{ℕ, ◌+◌, ◌-◌, max, Bool, true, false, not, ◌&&◌, ◌||◌, List, get_or, ltb, if◌then◌else◌}
+use Rattle.counters.specs.declared.refusals.Refusal.{Refusal}
+use Rattle.std.specs.Prelude.{ℕ, max, Bool, true, false, not, ◌&&◌, List, get_or, ltb, if◌then◌else◌, Result, Ok, Err}
 use Rattle.std.proofs.Math.Option.{Option, none, some}
 use Rattle.model.specs.Basics.{up_to}
 use Rattle.model.specs.Tables.{Tables, cleared, fits}
@@ -7,17 +8,15 @@ use Rattle.counters.specs.Refusals.{number_of}
 use Rattle.nursery.specs.Licence.{houses, limit_of, overfull}
 use Rattle.nursery.specs.Nursery.{edges_in}
 use Rattle.nursery.specs.Calls.{Lent, any_damaged, edges_but, nursery_fits}
-use Rattle.licence.specs.declared.gate.Passed.{Passed}
-use Rattle.licence.specs.declared.gate.Passed.TheVariants as v
 
 -- a limit, or a refusal
 pub data PassedAs : Type 0 where
   opens_with : ℕ → PassedAs
   bars_with : ℕ → PassedAs
 
-abbrev pub as_passed : Passed → PassedAs
-as_passed (v.Open limit) = opens_with limit
-as_passed (v.Refused x) = bars_with (number_of x)
+abbrev pub as_passed : Result ℕ Refusal → PassedAs
+as_passed (Ok limit) = opens_with limit
+as_passed (Err x) = bars_with (number_of x)
 
 -- the house that a grow counts as empty
 unfoldable pub emptied : ℕ → Bool → Option ℕ

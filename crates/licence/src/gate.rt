@@ -1,7 +1,7 @@
 // The gate before a call for a house: 25, then 21 of the other houses and of the sum, then 37. The own house is looked at by the call itself, on
 // its part of the tables; a grow clears it instead.
 ghost use Rattle.std.specs.Prelude.{◌≡◌, ◌<◌, length};
-ghost use Rattle.tables.specs.Meaning.{tables};
+ghost use Rattle.lent.specs.Lent.{of_lent, of_view, SameLent};
 ghost use Rattle.nursery.specs.Licence.{houses};
 ghost use Rattle.heads.specs.Meaning.{edges_of, lent};
 ghost use Rattle.licence.specs.Gate.{as_passed, licence_in, own_reserve, pass_others, scratch_passed};
@@ -13,14 +13,8 @@ use counters::sizes::MAX_EDGES;
 use heads::heads::{Heads, head_of};
 use heads::reserves::{larger, others_reserve};
 use heads::sizes::houses_fit;
-use tables::access::at16;
-
-// The limit that the licence comes to, on the house's edges; or a refusal.
-#[derive(Clone, Copy)]
-pub enum Passed {
-    Open(u16),
-    Refused(Refusal),
-}
+use lent::slices::{Tables, View};
+use tables::access::at;
 
 // What the house itself keeps of the licence: "A grow counts its own house as empty there".
 fn own_reserve(heads: Heads, shares: &[u16], house: u32, grows: bool) -> u32
@@ -31,7 +25,7 @@ fn own_reserve(heads: Heads, shares: &[u16], house: u32, grows: bool) -> u32
         return 0;
     }
     let h = house as usize;
-    let share = at16(shares, h);
+    let share = at(shares, h);
     if grows {
         return larger(share, 0);
     }
@@ -40,7 +34,7 @@ fn own_reserve(heads: Heads, shares: &[u16], house: u32, grows: bool) -> u32
 }
 
 // "holds too where the larger of share and pipes, summed over them, passes 4,096"; 37; or what the others leave of the licence.
-fn pass_licence(heads: Heads, shares: &[u16], house: u32, grows: bool) -> Passed
+fn pass_licence(heads: Heads, shares: &[u16], house: u32, grows: bool) -> Result<u16, Refusal>
     requires { length shares.now ≡ houses }
     ensures { as_passed result ≡ licence_in house grows shares.now (edges_of heads) }
 {
@@ -48,55 +42,36 @@ fn pass_licence(heads: Heads, shares: &[u16], house: u32, grows: bool) -> Passed
     let others = others_reserve(heads, shares, house);
     let own = own_reserve(heads, shares, house, grows);
     if licence < others + own {
-        return Passed::Refused(Refusal::NotGrown);
+        return Err(Refusal::NotGrown);
     }
     if 7 < house {
-        return Passed::Refused(Refusal::OutOfPlace);
+        return Err(Refusal::OutOfPlace);
     }
     let limit = (licence - others) as u16;
-    Passed::Open(limit)
+    Ok(limit)
 }
 
 // Under 25 nothing is written; else scratch ends all zero.
 pub fn pass_others(
-    degrees: &[u16],
-    sides: &[u16],
-    ends: &[u16],
-    lengths: &[u32],
-    volumes: &[u32],
-    labels: &[u32],
+    register: &View,
     heads: Heads,
     shares: &[u16],
-    sdegrees: &mut [u16],
-    ssides: &mut [u16],
-    sends: &mut [u16],
-    slengths: &mut [u32],
-    svolumes: &mut [u32],
-    slabels: &mut [u32],
+    scratch: &mut Tables,
     house: u32,
     grows: bool,
-) -> Passed
-    ensures { (as_passed result ≡ pass_others house grows (lent
-        (tables degrees.now sides.now ends.now lengths.now volumes.now labels.now)
-        heads shares.now
-        (tables sdegrees.old ssides.old sends.old slengths.old svolumes.old slabels.old)))
-        × (tables sdegrees.new ssides.new sends.new slengths.new svolumes.new slabels.new
-        ≡ scratch_passed (lent
-        (tables degrees.now sides.now ends.now lengths.now volumes.now labels.now)
-        heads shares.now
-        (tables sdegrees.old ssides.old sends.old slengths.old svolumes.old slabels.old))) }
+) -> Result<u16, Refusal>
+    ensures lent { SameLent scratch.new scratch.old }
+    ensures gates { (as_passed result ≡ pass_others house grows (lent (of_view register.now) heads shares.now (of_lent scratch.old)))
+        × (of_lent scratch.new ≡ scratch_passed (lent (of_view register.now) heads shares.now (of_lent scratch.old))) }
 {
-    if !houses_fit(degrees, sides, ends, lengths, volumes, labels, shares) {
-        return Passed::Refused(Refusal::WrongSize);
+    if !houses_fit(register, shares) {
+        return Err(Refusal::WrongSize);
     }
-    if !sizes_fit(sdegrees, ssides, sends, slengths, svolumes, slabels) {
-        return Passed::Refused(Refusal::WrongSize);
+    if !sizes_fit(&scratch.view()) {
+        return Err(Refusal::WrongSize);
     }
-    if !others_held(
-        degrees, sides, ends, lengths, volumes, labels, heads, sdegrees, ssides, sends, slengths,
-        svolumes, slabels, house,
-    ) {
-        return Passed::Refused(Refusal::NotGrown);
+    if !others_held(register, heads, scratch, house) {
+        return Err(Refusal::NotGrown);
     }
     pass_licence(heads, shares, house, grows)
 }

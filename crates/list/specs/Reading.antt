@@ -1,12 +1,11 @@
 -- What stands in a list's bytes, by index, said with the definitions of model's Format; and what the enums of this crate mean.
-use Rattle.std.specs.Prelude.{ℕ, ◌+◌, List, [], ◌∷◌, drop}
+use Rattle.std.specs.Prelude.{ℕ, ◌+◌, List, [], ◌∷◌, drop, Result, Ok, Err}
 use Rattle.std.proofs.Math.Option.{none, some}
 use Rattle.model.specs.Graph.{Edge}
 use Rattle.model.specs.Format.{vertex, edge, bad, edge_body, first_record, header_refusal, version_of}
 use Rattle.counters.specs.Refusals.{number_of}
 use Rattle.list.specs.declared.records.Cursor.{Cursor}
-use Rattle.list.specs.declared.records.Header.{Header}
-use Rattle.list.specs.declared.records.Header.TheVariants as header
+use Rattle.counters.specs.declared.refusals.Refusal.{Refusal}
 use Rattle.list.specs.declared.records.Record.{Record}
 use Rattle.list.specs.declared.records.Record.TheVariants as record'
 
@@ -49,9 +48,9 @@ record_of p (kind ∷ bs) =
 unfoldable pub record_at : List ℕ → Place → RecordAt
 record_at bs p = record_of p (drop p.at bs)
 
-abbrev pub as_header : Header → HeaderAt
-as_header (header.Good c) = good (as_place c)
-as_header (header.Refused x) = bad_header (number_of x)
+abbrev pub as_header : Result Cursor Refusal → HeaderAt
+as_header (Ok c) = good (as_place c)
+as_header (Err x) = bad_header (number_of x)
 
 abbrev pub as_record : Record → RecordAt
 as_record record'.End = ends

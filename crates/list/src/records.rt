@@ -30,14 +30,8 @@ pub struct Cursor {
     pub version: u16,
 }
 
-// The cursor behind a good header, or the header's refusal.
-#[derive(Clone, Copy)]
-pub enum Header {
-    Good(Cursor),
-    Refused(Refusal),
-}
-
-// What stands at a cursor: the end of the list; a fitting; a pipe, its two fittings, its length and its volume; or a refusal.
+// What stands at a cursor: the end of the list; a fitting; a pipe, its two fittings, its length and its volume; or a refusal. Four
+// ways, since the end is no failure.
 #[derive(Clone, Copy)]
 pub enum Record {
     End,
@@ -61,26 +55,27 @@ fn has_mark(list: &[u8]) -> bool
     list[2] == b'L'
 }
 
-pub fn read_header(list: &[u8]) -> Header
+// The cursor behind a good header, or the header's refusal.
+pub fn read_header(list: &[u8]) -> Result<Cursor, Refusal>
     ensures { as_header result ≡ header_at list.now }
 {
     if !has_mark(list) {
-        return Header::Refused(Refusal::NoMark);
+        return Err(Refusal::NoMark);
     }
     if list.len() < HEADER_SIZE {
-        return Header::Refused(Refusal::Cut);
+        return Err(Refusal::Cut);
     }
     let version = u16_at(list, MARK_SIZE);
     if version != PLAIN {
         if version != WITH_VOLUMES {
-            return Header::Refused(Refusal::Version);
+            return Err(Refusal::Version);
         }
     }
     let from = Cursor {
         at: HEADER_SIZE,
         version,
     };
-    Header::Good(from)
+    Ok(from)
 }
 
 // The bytes of an edge, its kind included.

@@ -6,7 +6,7 @@ ghost use Rattle.text.specs.Pages.{page, write};
 ghost use Rattle.list.specs.Writing.{list_in, records_in};
 
 use counters::counts::Counts;
-use tables::access::{at16, of32};
+use tables::access;
 use text::records::{put_edge, put_header, put_vertices};
 
 fn put_edge_of(
@@ -24,10 +24,10 @@ fn put_edge_of(
     put_edge(
         out,
         at,
-        at16(ends, i),
-        at16(ends, i + 1),
-        of32(lengths, edge),
-        of32(volumes, edge),
+        access::at(ends, i),
+        access::at(ends, i + 1),
+        access::of(lengths, edge),
+        access::of(volumes, edge),
     )
 }
 
@@ -44,12 +44,8 @@ fn put_edges(
         ≡ write (records_in ends.now lengths.now volumes.now (up_to edges)) (page out.old at) }
 {
     let mut next = at;
-    let mut edge: u16 = 0;
-    let mut left = edges;
-    while 0 < left {
+    for edge in 0..edges {
         next = put_edge_of(out, next, ends, lengths, volumes, edge);
-        edge += 1;
-        left -= 1;
     }
     next
 }

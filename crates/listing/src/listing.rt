@@ -9,7 +9,6 @@ ghost use Rattle.io.specs.Counts.{IsPrefixLen as Counted};
 ghost use Rattle.text.specs.Pages.{page, write};
 ghost use Rattle.listing.specs.Listing.{listing_in, head_bytes, row_bytes, stop_bytes, room_bytes};
 
-use chains::marks::next_unmarked;
 use chains::names::count_chains;
 use chains::rows::{Row, take_row};
 use counters::answers::Stop;
@@ -18,6 +17,7 @@ use counters::numbers::Edge;
 use counters::sizes::{EDGES, ENDS, SIDES, VERTICES};
 use landing::records::grow_list;
 use streams::reading::MAX_LIST;
+use tables::access::of;
 use text::lines::{put_line4, put_row_line, put_stopped};
 use text::writing::put_text;
 
@@ -63,8 +63,10 @@ fn put_sheet_lines(
         (page out.old at)) × (result ≤ at + row_bytes * edges) }
 {
     let mut next = at;
-    let mut edge = next_unmarked(marks, 0, edges);
-    while edge < edges {
+    for edge in 0..edges {
+        if of(marks, edge) != 0 {
+            continue;
+        }
         let row = take_row(
             degrees,
             sides,
@@ -76,7 +78,6 @@ fn put_sheet_lines(
             edges,
         );
         next = put_chain_line(out, next, row);
-        edge = next_unmarked(marks, edge + 1, edges);
     }
     next
 }

@@ -8,6 +8,7 @@ use mathlib.Core.Option.{Option, none, some}
 use Prim.Native.Nat.{ℕ, zero, suc, ◌+◌, ◌-◌, ◌*◌, ◌≤◌, ◌<◌, min}
 use native.Mathlib.Nat.{not-suc-le-zero}
 use native.Mathlib.Numerals.{sub-one}
+use native.Mathlib.Omega.{arith}
 use lib.ListN.{get_or}
 use borrow.Author.Tests.{eq-eqb, ne_eqb}
 use Rattle.model.specs.Queries.{Reply, found}
@@ -61,11 +62,13 @@ module _ (ds ss es lens ls : List ℕ) (label home : ℕ) where
   unfolding look_in
   look_on n s d v c w h i j = rw (h, i, j)
 
-  -- the step on, as a turn of the loop
-  pub look_step : (n : ℕ) (s t : Seen) (d v c w : ℕ) → 0 < n → goes_on_in ds home v ≡ true → c ≡ turn_in ss d v → w ≡ far_in es c v
-      → t ≡ with_edge lens ls label s v c → look_in ds ss es lens ls label home n s d v ≡ look_in ds ss es lens ls label home (n - 1) t c w
-  look_step zero s t d v c w h g a b e = absurd (not-suc-le-zero h)
-  look_step (suc n) s t d v c w h g a b e = rw (sub-one, e) (look_on n s d v c w g (sym a) (sym b))
+  -- the step on, as turn i of the loop
+  pub look_step : (n i : ℕ) (s t : Seen) (d v c w : ℕ) → i < n → goes_on_in ds home v ≡ true → c ≡ turn_in ss d v → w ≡ far_in es c v
+      → t ≡ with_edge lens ls label s v c
+      → look_in ds ss es lens ls label home (n - i) s d v ≡ look_in ds ss es lens ls label home (n - (i + 1)) t c w
+  look_step n i s t d v c w h g a b e =
+      let next : n - i ≡ suc (n - (i + 1)) = omega (arith, h) in
+      rw (next, e) (look_on (n - (i + 1)) s d v c w g (sym a) (sym b))
 
 -- the first edge is looked at before the walk
 pub along_law : (ds ss es lens ls : List ℕ) (label n v on back from : ℕ) (s : Seen) (l : Look) → s ≡ with_edge lens ls label (seen 0 0 0 back) v on

@@ -3,7 +3,6 @@ ghost use Rattle.std.specs.Prelude.{◌≡◌};
 ghost use Rattle.looking.specs.Looking.{edge_towards, look_along_in, look_in, look_through_in, told_in, wearer_in, with_edge};
 ghost use Rattle.looking.specs.Answers.{as_found, as_look, as_seen};
 
-use chains::numbers::lesser_edge;
 use chains::walks::goes_on;
 use counters::numbers::{Edge, Label, Millimetres, Vertex};
 use tables::access::one_more16;
@@ -30,9 +29,11 @@ pub struct Look {
 
 // The name of the chain that holds the label, the vertex that wears it, and the lengths from there to the low and to the high end.
 #[derive(Clone, Copy)]
-pub enum Found {
-    Chain(Edge, Vertex, Millimetres, Millimetres),
-    Nothing,
+pub struct FoundChain {
+    pub name: Edge,
+    pub wearer: Vertex,
+    pub low: Millimetres,
+    pub high: Millimetres,
 }
 
 // The first that wears the label: one before vertex v, or v.
@@ -52,7 +53,7 @@ fn with_edge(lengths: &[u32], labels: &[u32], label: Label, known: Seen, v: Vert
 {
     let wearer = wearer_with(labels, label, known.wearer, v);
     let own = length_of(lengths, d);
-    let lowest = lesser_edge(d, known.lowest);
+    let lowest = d.min(known.lowest);
     let before = known.before;
     let behind = known.behind;
     if wearer == 0 {
@@ -91,15 +92,13 @@ fn look_onwards(
 {
     let mut w = Walker { edge, at: from };
     let mut so_far = known;
-    let mut left = fuel;
-    while 0 < left {
+    for _ in 0..fuel {
         if !goes_on(degrees, home, w.at) {
             break;
         }
         let v = Vertex(w.at.0);
         w = step_over(sides, ends, w);
         so_far = with_edge(lengths, labels, label, so_far, v, w.edge);
-        left -= 1;
     }
     Look {
         at: Vertex(w.at.0),
@@ -139,7 +138,7 @@ fn look_along(
 
 // What is told of the vertex that wears the label. On the way up the low end lies behind the edge `back`, on the way down the high end; a
 // walk round a ring has come home, to a regular vertex.
-fn told(degrees: &[u16], lengths: &[u32], walked: Look, back: Edge, up: bool) -> Found
+fn told(degrees: &[u16], lengths: &[u32], walked: Look, back: Edge, up: bool) -> Option<FoundChain>
     ensures { as_found result ≡ told_in degrees.now lengths.now up back.0 (as_look walked) }
 {
     let at = walked.at;
@@ -148,17 +147,32 @@ fn told(degrees: &[u16], lengths: &[u32], walked: Look, back: Edge, up: bool) ->
     let before = known.before;
     let behind = known.behind;
     if known.wearer == 0 {
-        return Found::Nothing;
+        return None;
     }
     let wearer = Vertex(known.wearer - 1);
     if degree_of(degrees, at) == 2 {
-        return Found::Chain(name, wearer, Millimetres(0), add_lengths(before, behind));
+        return Some(FoundChain {
+            name,
+            wearer,
+            low: Millimetres(0),
+            high: add_lengths(before, behind),
+        });
     }
     let near = add_lengths(length_of(lengths, back), before);
     if up {
-        return Found::Chain(name, wearer, near, behind);
+        return Some(FoundChain {
+            name,
+            wearer,
+            low: near,
+            high: behind,
+        });
     }
-    Found::Chain(name, wearer, behind, near)
+    Some(FoundChain {
+        name,
+        wearer,
+        low: behind,
+        high: near,
+    })
 }
 
 // Of the two edges of v on its chain the one towards the high end, or the one towards the low end.
@@ -183,7 +197,7 @@ pub fn look_through(
     v: Vertex,
     up: bool,
     fuel: u16,
-) -> Found
+) -> Option<FoundChain>
     ensures { as_found result
         ≡ look_through_in degrees.now sides.now ends.now lengths.now labels.now fuel label.0 up v.0 }
 {

@@ -1,69 +1,17 @@
 // Distance in a house: the least length of a way between two vertices (document 01: fittings): 25, 21, 37, then 5.
-ghost use Rattle.std.specs.Prelude.{◌≡◌, ℕ, ◌<◌, []};
-ghost use Rattle.counters.specs.Answers.{as_counts};
+ghost use Rattle.std.specs.Prelude.{◌≡◌, []};
 ghost use Rattle.tables.specs.Meaning.{tables};
 ghost use Rattle.questions.specs.Meaning.{measured_reply};
-ghost use Rattle.nursery.specs.Licence.{houses};
-ghost use Rattle.nursery.specs.Nursery.{tables_in};
 ghost use Rattle.nursery.specs.Calls.{measures, in_house, step};
-ghost use Rattle.admission.specs.Own.{own_step};
-ghost use Rattle.admission.specs.Lent.{lent as own_lent, outcome as ownOutcome};
 ghost use Rattle.heads.specs.Meaning.{lent, outcome};
-ghost use Rattle.heads.specs.Others.{Long};
 
 use asking::distance::distance as distance_own;
-use counters::counts::Counts;
-use counters::numbers::Vertex;
-use counters::sizes::{EDGES, ENDS, SIDES, VERTICES};
+use counters::numbers::{Millimetres, Vertex};
+use counters::refusals::Refusal;
 use heads::heads::{Heads, head_of};
-use licence::gate::{Passed, pass_others};
-use questions::measure::Measured;
-
-// On the house's part of the tables.
-fn distance_house(
-    degrees: &[u16],
-    sides: &[u16],
-    ends: &[u16],
-    lengths: &[u32],
-    volumes: &[u32],
-    labels: &[u32],
-    own: Counts,
-    sdegrees: &mut [u16],
-    ssides: &mut [u16],
-    sends: &mut [u16],
-    slengths: &mut [u32],
-    svolumes: &mut [u32],
-    slabels: &mut [u32],
-    h: usize,
-    from: Vertex,
-    to: Vertex,
-) -> Measured
-    requires { (h < houses) × Long (tables degrees.now sides.now ends.now lengths.now volumes.now labels.now) }
-    ensures { (limit removals : ℕ) → ownOutcome (tables_in h (tables degrees.now sides.now ends.now lengths.now volumes.now labels.now)) (as_counts own) (tables sdegrees.new ssides.new sends.new slengths.new svolumes.new slabels.new) [] (measured_reply result)
-        ≡ own_step limit removals (measures from.0 to.0) (own_lent (tables_in h (tables degrees.now sides.now ends.now lengths.now volumes.now labels.now)) (as_counts own) (tables sdegrees.old ssides.old sends.old slengths.old svolumes.old slabels.old)) }
-{
-    let v = VERTICES * h;
-    let s = SIDES * h;
-    let n = ENDS * h;
-    let e = EDGES * h;
-    distance_own(
-        &degrees[v..v + VERTICES],
-        &sides[s..s + SIDES],
-        &ends[n..n + ENDS],
-        &lengths[e..e + EDGES],
-        &volumes[e..e + EDGES],
-        &labels[v..v + VERTICES],
-        own,
-        sdegrees,
-        ssides,
-        sends,
-        slengths,
-        svolumes,
-        slabels,
-        from,
-        to,
-    )
-}
+use heads::part::part_of;
+use lent::slices::{Tables, View};
+use licence::gate::pass_others;
 
 // In mm, or that there is no way.
 pub fn distance(
@@ -84,23 +32,28 @@ pub fn distance(
     house: u32,
     from: Vertex,
     to: Vertex,
-) -> Measured
+) -> Result<Option<Millimetres>, Refusal>
     ensures { outcome (tables degrees.now sides.now ends.now lengths.now volumes.now labels.now) heads shares.now (tables sdegrees.new ssides.new sends.new slengths.new svolumes.new slabels.new) [] (measured_reply result)
         ≡ step (in_house house (measures from.0 to.0)) (lent (tables degrees.now sides.now ends.now lengths.now volumes.now labels.now) heads shares.now (tables sdegrees.old ssides.old sends.old slengths.old svolumes.old slabels.old)) }
 {
-    let passed = pass_others(
-        degrees, sides, ends, lengths, volumes, labels, heads, shares, sdegrees, ssides, sends,
-        slengths, svolumes, slabels, house, false,
-    );
-    match passed {
-        Passed::Open(limit) => {
-            let h = house as usize;
-            let own = head_of(heads, h);
-            distance_house(
-                degrees, sides, ends, lengths, volumes, labels, own, sdegrees, ssides, sends,
-                slengths, svolumes, slabels, h, from, to,
-            )
-        }
-        Passed::Refused(refusal) => Measured::Refused(refusal),
-    }
+    let register = View {
+        degrees,
+        sides,
+        ends,
+        lengths,
+        volumes,
+        labels,
+    };
+    let mut scratch = Tables {
+        degrees: sdegrees,
+        sides: ssides,
+        ends: sends,
+        lengths: slengths,
+        volumes: svolumes,
+        labels: slabels,
+    };
+    pass_others(&register, heads, shares, &mut scratch, house, false)?;
+    let h = house as usize;
+    let own = head_of(heads, h);
+    distance_own(&part_of(&register, h), own, &mut scratch, from, to)
 }

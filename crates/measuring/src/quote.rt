@@ -1,74 +1,17 @@
 // Quote in a house (document 02, S-5, S-10): what landing a pipe would do, within the limit of the house: 25, 21, then 37.
-ghost use Rattle.std.specs.Prelude.{◌≡◌, ℕ, ◌<◌, []};
-ghost use Rattle.counters.specs.Answers.{as_counts};
+ghost use Rattle.std.specs.Prelude.{◌≡◌, []};
 ghost use Rattle.tables.specs.Meaning.{tables};
 ghost use Rattle.counters.specs.Quotes.{quote_reply};
-ghost use Rattle.nursery.specs.Licence.{houses};
-ghost use Rattle.nursery.specs.Nursery.{tables_in};
 ghost use Rattle.nursery.specs.Calls.{quotes, in_house, step};
-ghost use Rattle.admission.specs.Own.{own_step};
-ghost use Rattle.admission.specs.Lent.{lent as own_lent, outcome as ownOutcome};
 ghost use Rattle.heads.specs.Meaning.{lent, outcome};
-ghost use Rattle.heads.specs.Others.{Long};
 
 use asking::quote::quote as quote_own;
-use counters::counts::Counts;
-use counters::quotes::QuoteAnswer;
-use counters::sizes::{EDGES, ENDS, SIDES, VERTICES};
+use counters::quotes::Quote;
+use counters::refusals::Refusal;
 use heads::heads::{Heads, head_of};
-use licence::gate::{Passed, pass_others};
-
-// On the house's part of the tables.
-fn quote_house(
-    degrees: &[u16],
-    sides: &[u16],
-    ends: &[u16],
-    lengths: &[u32],
-    volumes: &[u32],
-    labels: &[u32],
-    own: Counts,
-    sdegrees: &mut [u16],
-    ssides: &mut [u16],
-    sends: &mut [u16],
-    slengths: &mut [u32],
-    svolumes: &mut [u32],
-    slabels: &mut [u32],
-    h: usize,
-    limit: u16,
-    first: u16,
-    second: u16,
-    length: u32,
-    volume: u32,
-) -> QuoteAnswer
-    requires { (h < houses) × Long (tables degrees.now sides.now ends.now lengths.now volumes.now labels.now) }
-    ensures { (removals : ℕ) → ownOutcome (tables_in h (tables degrees.now sides.now ends.now lengths.now volumes.now labels.now)) (as_counts own) (tables sdegrees.new ssides.new sends.new slengths.new svolumes.new slabels.new) [] (quote_reply result)
-        ≡ own_step limit removals (quotes (record { first = first; second = second; len = length; volume = volume })) (own_lent (tables_in h (tables degrees.now sides.now ends.now lengths.now volumes.now labels.now)) (as_counts own) (tables sdegrees.old ssides.old sends.old slengths.old svolumes.old slabels.old)) }
-{
-    let v = VERTICES * h;
-    let s = SIDES * h;
-    let n = ENDS * h;
-    let e = EDGES * h;
-    quote_own(
-        &degrees[v..v + VERTICES],
-        &sides[s..s + SIDES],
-        &ends[n..n + ENDS],
-        &lengths[e..e + EDGES],
-        &volumes[e..e + EDGES],
-        &labels[v..v + VERTICES],
-        own,
-        sdegrees,
-        ssides,
-        sends,
-        slengths,
-        svolumes,
-        slabels,
-        limit,
-        first,
-        second,
-        length,
-        volume,
-    )
-}
+use heads::part::part_of;
+use lent::slices::{Tables, View};
+use licence::gate::pass_others;
 
 // A refused pipe is quoted too.
 pub fn quote(
@@ -91,23 +34,37 @@ pub fn quote(
     second: u16,
     length: u32,
     volume: u32,
-) -> QuoteAnswer
+) -> Result<Quote, Refusal>
     ensures { outcome (tables degrees.now sides.now ends.now lengths.now volumes.now labels.now) heads shares.now (tables sdegrees.new ssides.new sends.new slengths.new svolumes.new slabels.new) [] (quote_reply result)
         ≡ step (in_house house (quotes (record { first = first; second = second; len = length; volume = volume }))) (lent (tables degrees.now sides.now ends.now lengths.now volumes.now labels.now) heads shares.now (tables sdegrees.old ssides.old sends.old slengths.old svolumes.old slabels.old)) }
 {
-    let passed = pass_others(
-        degrees, sides, ends, lengths, volumes, labels, heads, shares, sdegrees, ssides, sends,
-        slengths, svolumes, slabels, house, false,
-    );
-    match passed {
-        Passed::Open(limit) => {
-            let h = house as usize;
-            let own = head_of(heads, h);
-            quote_house(
-                degrees, sides, ends, lengths, volumes, labels, own, sdegrees, ssides, sends,
-                slengths, svolumes, slabels, h, limit, first, second, length, volume,
-            )
-        }
-        Passed::Refused(refusal) => QuoteAnswer::Refused(refusal),
-    }
+    let register = View {
+        degrees,
+        sides,
+        ends,
+        lengths,
+        volumes,
+        labels,
+    };
+    let mut scratch = Tables {
+        degrees: sdegrees,
+        sides: ssides,
+        ends: sends,
+        lengths: slengths,
+        volumes: svolumes,
+        labels: slabels,
+    };
+    let limit = pass_others(&register, heads, shares, &mut scratch, house, false)?;
+    let h = house as usize;
+    let own = head_of(heads, h);
+    quote_own(
+        &part_of(&register, h),
+        own,
+        &mut scratch,
+        limit,
+        first,
+        second,
+        length,
+        volume,
+    )
 }

@@ -3,17 +3,18 @@ ghost use Rattle.std.specs.Prelude.{◌≡◌, [], ℕ};
 ghost use Rattle.nursery.specs.Calls.{fetches, opens};
 ghost use Rattle.admission.specs.Own.{own_step};
 ghost use Rattle.counters.specs.Answers.{as_counts};
-ghost use Rattle.tables.specs.Meaning.{tables};
+ghost use Rattle.lent.specs.Lent.{of_lent, of_view, SameLent};
 ghost use Rattle.fetching.specs.Meaning.{line_reply};
 ghost use Rattle.admission.specs.Lent.{lent, outcome};
 ghost use Rattle.opening.specs.Meaning.{as_sheet, fetched_reply, opened_reply};
 
-use admission::gate::{Gate, pass_gate};
+use admission::gate::pass_gate;
 use chains::rows::Row;
 use counters::counts::Counts;
 use counters::refusals::Refusal;
 use fetching::cleared::line_cleared;
 use fetching::lines::Line;
+use lent::slices::{Tables, View};
 
 // The counts of vertices and edges (document 01: fittings and pipes) at the opening, the place of the next line, and the house's count of
 // removals at the opening (document 02, S-11). It is its caller's to keep, and no part of the register: landing goes on meanwhile, and any
@@ -26,69 +27,40 @@ pub struct OpenSheet {
     pub removals: u32,
 }
 
-#[derive(Clone, Copy)]
-pub enum Opened {
-    Sheet(OpenSheet),
-    Refused(Refusal),
-}
-
-// A line, and the sheet at the next one; or the sheet as it was, which is done.
+// A line, and the sheet at the next one; or the sheet as it was, which is done. Either way there is a sheet, so the line alone is no Option.
 #[derive(Clone, Copy)]
 pub enum Fetched {
     Line(Row, OpenSheet),
     Done(OpenSheet),
-    Refused(Refusal),
 }
 
 impl OpenSheet {
     // 25, then 21.
     pub fn open(
-        degrees: &[u16],
-        sides: &[u16],
-        ends: &[u16],
-        lengths: &[u32],
-        volumes: &[u32],
-        labels: &[u32],
+        register: &View,
         counts: Counts,
-        sdegrees: &mut [u16],
-        ssides: &mut [u16],
-        sends: &mut [u16],
-        slengths: &mut [u32],
-        svolumes: &mut [u32],
-        slabels: &mut [u32],
+        scratch: &mut Tables,
         removals: u32,
-    ) -> Opened
-        ensures { (limit : ℕ) → outcome
-            (tables degrees.now sides.now ends.now lengths.now volumes.now labels.now)
-            (as_counts counts)
-            (tables sdegrees.new ssides.new sends.new slengths.new svolumes.new slabels.new)
-            [] (opened_reply result)
-            ≡ own_step limit removals opens
-            (lent (tables degrees.now sides.now ends.now lengths.now volumes.now labels.now)
-            (as_counts counts)
-            (tables sdegrees.old ssides.old sends.old slengths.old svolumes.old slabels.old)) }
+    ) -> Result<OpenSheet, Refusal>
+        ensures lent { SameLent scratch.new scratch.old }
+        ensures answers { (limit : ℕ) → outcome (of_view register.now) (as_counts counts) (of_lent scratch.new) [] (opened_reply result)
+            ≡ own_step limit removals opens (lent (of_view register.now) (as_counts counts) (of_lent scratch.old)) }
     {
-        let passed = pass_gate(
-            degrees, sides, ends, lengths, volumes, labels, counts, sdegrees, ssides, sends,
-            slengths, svolumes, slabels,
-        );
-        match passed {
-            Gate::Open => Opened::Sheet(OpenSheet {
-                vertices: counts.vertices,
-                edges: counts.edges,
-                place: 0,
-                removals,
-            }),
-            Gate::Refused(refusal) => Opened::Refused(refusal),
-        }
+        pass_gate(register, counts, scratch)?;
+        Ok(OpenSheet {
+            vertices: counts.vertices,
+            edges: counts.edges,
+            place: 0,
+            removals,
+        })
     }
 
     // A line moves the sheet on; nothing else does.
-    fn gives(self, line: Line) -> Fetched
+    fn gives(self, line: Line) -> Result<Fetched, Refusal>
         ensures { fetched_reply result ≡ line_reply (as_sheet self) line }
     {
         match line {
-            Line::Row(row, next) => Fetched::Line(
+            Line::Row(row, next) => Ok(Fetched::Line(
                 row,
                 OpenSheet {
                     vertices: self.vertices,
@@ -96,67 +68,36 @@ impl OpenSheet {
                     place: next,
                     removals: self.removals,
                 },
-            ),
-            Line::Past => Fetched::Done(self),
-            Line::Beyond => Fetched::Refused(Refusal::Beyond),
+            )),
+            Line::Past => Ok(Fetched::Done(self)),
+            Line::Beyond => Err(Refusal::Beyond),
         }
     }
 
     // 25, 21, 39, then 33.
     pub fn fetch(
         self,
-        degrees: &[u16],
-        sides: &[u16],
-        ends: &[u16],
-        lengths: &[u32],
-        volumes: &[u32],
-        labels: &[u32],
+        register: &View,
         counts: Counts,
-        sdegrees: &mut [u16],
-        ssides: &mut [u16],
-        sends: &mut [u16],
-        slengths: &mut [u32],
-        svolumes: &mut [u32],
-        slabels: &mut [u32],
+        scratch: &mut Tables,
         removals: u32,
-    ) -> Fetched
-        ensures { (limit : ℕ) → outcome
-            (tables degrees.now sides.now ends.now lengths.now volumes.now labels.now)
-            (as_counts counts)
-            (tables sdegrees.new ssides.new sends.new slengths.new svolumes.new slabels.new)
-            [] (fetched_reply result)
-            ≡ own_step limit removals (fetches (as_sheet self))
-            (lent (tables degrees.now sides.now ends.now lengths.now volumes.now labels.now)
-            (as_counts counts)
-            (tables sdegrees.old ssides.old sends.old slengths.old svolumes.old slabels.old)) }
+    ) -> Result<Fetched, Refusal>
+        ensures lent { SameLent scratch.new scratch.old }
+        ensures answers { (limit : ℕ) → outcome (of_view register.now) (as_counts counts) (of_lent scratch.new) [] (fetched_reply result)
+            ≡ own_step limit removals (fetches (as_sheet self)) (lent (of_view register.now) (as_counts counts) (of_lent scratch.old)) }
     {
-        let passed = pass_gate(
-            degrees, sides, ends, lengths, volumes, labels, counts, sdegrees, ssides, sends,
-            slengths, svolumes, slabels,
-        );
-        match passed {
-            Gate::Open => {
-                if self.removals != removals {
-                    return Fetched::Refused(Refusal::Ended);
-                }
-                let line = line_cleared(
-                    ends,
-                    lengths,
-                    volumes,
-                    counts,
-                    sdegrees,
-                    ssides,
-                    sends,
-                    slengths,
-                    svolumes,
-                    slabels,
-                    self.vertices,
-                    self.edges,
-                    self.place,
-                );
-                self.gives(line)
-            }
-            Gate::Refused(refusal) => Fetched::Refused(refusal),
+        pass_gate(register, counts, scratch)?;
+        if self.removals != removals {
+            return Err(Refusal::Ended);
         }
+        let line = line_cleared(
+            register,
+            counts,
+            scratch,
+            self.vertices,
+            self.edges,
+            self.place,
+        );
+        self.gives(line)
     }
 }

@@ -5,45 +5,35 @@ ghost use Rattle.nursery.specs.Calls.{grows};
 ghost use Rattle.nursery.specs.Licence.{houses};
 ghost use Rattle.nursery.specs.Nursery.{tables_in};
 ghost use Rattle.counters.specs.Answers.{list_reply};
-ghost use Rattle.tables.specs.Meaning.{tables};
+ghost use Rattle.lent.specs.Lent.{of_lent, SameLent};
 ghost use Rattle.admission.specs.Lent as own;
 ghost use Rattle.admission.specs.Own.{own_step};
 ghost use Rattle.heads.specs.Meaning.{as_heads, as_removals};
 ghost use Rattle.heads.specs.Others.{Long};
 ghost use Rattle.licence.specs.Left.{left, put_own};
 
-use crate::left::Landed;
 use calls::grow::grow_own;
+use counters::answers::Stop;
 use counters::sizes::{EDGES, ENDS, SIDES, VERTICES};
-use heads::heads::{Heads, head_of, with_head, with_removals};
+use heads::heads::{Heads, Updated, head_of, with_head, with_removals};
+use lent::slices::Tables;
 
 // On the part of house h, with the limit that the licence comes to.
 pub fn grow_house(
     heads: Heads,
     limit: u16,
-    degrees: &mut [u16],
-    sides: &mut [u16],
-    ends: &mut [u16],
-    lengths: &mut [u32],
-    volumes: &mut [u32],
-    labels: &mut [u32],
-    sdegrees: &mut [u16],
-    ssides: &mut [u16],
-    sends: &mut [u16],
-    slengths: &mut [u32],
-    svolumes: &mut [u32],
-    slabels: &mut [u32],
+    register: &mut Tables,
+    scratch: &mut Tables,
     h: usize,
     list: &[u8],
-) -> Landed
-    requires { (h < houses) × Long (tables degrees.old sides.old ends.old lengths.old volumes.old labels.old) }
-    ensures { ((removals : ℕ) → left (tables degrees.new sides.new ends.new lengths.new volumes.new labels.new) (as_heads result.heads)
-        (tables sdegrees.new ssides.new sends.new slengths.new svolumes.new slabels.new) [] (list_reply result.answer)
-        ≡ put_own h (tables degrees.old sides.old ends.old lengths.old volumes.old labels.old) (as_heads heads)
+) -> Updated<Stop>
+    requires { (h < houses) × Long (of_lent register.old) }
+    ensures lent { SameLent register.new register.old × SameLent scratch.new scratch.old }
+    ensures steps { (removals : ℕ) → left (of_lent register.new) (as_heads result.heads) (of_lent scratch.new) [] (list_reply result.answer)
+        ≡ put_own h (of_lent register.old) (as_heads heads)
         (own_step limit removals (grows list.now)
-        (own.lent (tables_in h (tables degrees.old sides.old ends.old lengths.old volumes.old labels.old)) (get_or (as_heads heads) h no_counts)
-        (tables sdegrees.old ssides.old sends.old slengths.old svolumes.old slabels.old))))
-        × (as_removals result.heads ≡ set (as_removals heads) h 0) }
+        (own.lent (tables_in h (of_lent register.old)) (get_or (as_heads heads) h no_counts) (of_lent scratch.old))) }
+    ensures count { as_removals result.heads ≡ set (as_removals heads) h 0 }
 {
     let v = VERTICES * h;
     let s = SIDES * h;
@@ -52,22 +42,17 @@ pub fn grow_house(
     let own = grow_own(
         head_of(heads, h),
         limit,
-        &mut degrees[v..v + VERTICES],
-        &mut sides[s..s + SIDES],
-        &mut ends[n..n + ENDS],
-        &mut lengths[e..e + EDGES],
-        &mut volumes[e..e + EDGES],
-        &mut labels[v..v + VERTICES],
-        sdegrees,
-        ssides,
-        sends,
-        slengths,
-        svolumes,
-        slabels,
+        &mut register.degrees[v..v + VERTICES],
+        &mut register.sides[s..s + SIDES],
+        &mut register.ends[n..n + ENDS],
+        &mut register.lengths[e..e + EDGES],
+        &mut register.volumes[e..e + EDGES],
+        &mut register.labels[v..v + VERTICES],
+        scratch,
         list,
     );
     let answer = own.answer;
-    Landed {
+    Updated {
         heads: with_removals(with_head(heads, h, own.counts), h, 0),
         answer,
     }

@@ -5,4 +5,3 @@
 pub mod commit;
 pub mod grow;
 pub mod land;
-pub mod left;

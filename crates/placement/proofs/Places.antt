@@ -1,4 +1,5 @@
 -- An edge comes to an end, and is placed.
+use Rattle.std.specs.Prelude.{Some, None, Option}
 use mathlib.Core.Path.{◌≡◌}
 use mathlib.Core.Bool.{Bool, false}
 use mathlib.Core.List.{List}
@@ -16,8 +17,6 @@ use Rattle.parting.specs.declared.splitting.Rounds.{Rounds}
 use Rattle.parting.specs.declared.splitting.Splits.{Splits}
 use Rattle.placement.specs.Placing.{meet_in, placed, goes_on_in}
 use Rattle.placement.specs.Planning.{opened_by, open_by, merged_by}
-use Rattle.placement.specs.declared.placing.Extension.{Extension}
-use Rattle.placement.specs.declared.placing.Extension.TheVariants.{Nothing, Leaf}
 
 module _ (degrees s : List ℕ) (v e : ℕ) where
   -- an isolated vertex gets the edge as its low side; any other keeps its sides
@@ -39,13 +38,13 @@ module _ (degrees s ends l degrees' s' l' : List ℕ) (blocks a b blocks' m e : 
   opened_law s₁ s₂ h i j k = rw (← h, ← i, ← j, ← k)
 
   -- where no chain goes on, the edge is placed once both ends are opened
-  pub open_nothing : (extension : Extension) → extension ≡ Nothing
+  pub open_nothing : (extension : Option Vertex) → extension ≡ None
       → placed degrees' s' l' blocks' m ring ≡ opened_by splits rounds degrees s ends l blocks a b e
       → placed degrees' s' l' blocks' m ring ≡ open_by splits rounds extension degrees s ends l blocks a b e
   open_nothing extension o h = rw o h
 
   -- where the chain of the leaf x goes on, it does so once both ends are opened
-  pub open_leaf : (extension : Extension) (x : Vertex) (s₁ l₁ : List ℕ) (k₁ k m₁ : ℕ) (ring₁ : Bool) → extension ≡ Leaf x
+  pub open_leaf : (extension : Option Vertex) (x : Vertex) (s₁ l₁ : List ℕ) (k₁ k m₁ : ℕ) (ring₁ : Bool) → extension ≡ Some x
       → placed degrees' s₁ l₁ k₁ m₁ ring₁ ≡ opened_by splits rounds degrees s ends l blocks a b e
       → marks_in s' l' k ≡ extend_in degrees' s₁ ends l₁ k₁ x.0 e → (blocks' ≡ k) × (m ≡ m₁) × (ring ≡ false)
       → placed degrees' s' l' blocks' m ring ≡ open_by splits rounds extension degrees s ends l blocks a b e

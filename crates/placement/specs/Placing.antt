@@ -1,5 +1,6 @@
 -- What an edge does to the degrees, the sides and the labels, as functions of lists that mirror the code.
-use Rattle.std.specs.Prelude.{ℕ, Bool, false, List, get_or, eqb, if◌then◌else◌}
+use Rattle.counters.specs.declared.numbers.Vertex.{Vertex}
+use Rattle.std.specs.Prelude.{ℕ, Bool, false, List, get_or, eqb, if◌then◌else◌, Some, None, Option}
 use Rattle.model.specs.Graph.{Edge}
 use Rattle.model.specs.Cases.{Case, new_chain, extends, merges, closes, split_extends, split_new, split_both, first_named, second_named, class_of, case_of}
 use Rattle.model.specs.Tables.{Tables, Counts}
@@ -10,23 +11,21 @@ use Rattle.joining.specs.Merging.{merge_in}
 use Rattle.parting.specs.Splitting.{split_ends_in}
 use Rattle.parting.specs.declared.splitting.Splits.{Splits}
 use Rattle.parting.specs.declared.splitting.Splits.TheVariants.{Neither, One, Both}
-use Rattle.placement.specs.declared.placing.Extension.{Extension}
-use Rattle.placement.specs.declared.placing.Extension.TheVariants.{Nothing, Leaf}
 use Rattle.placement.specs.declared.placing.Work.{Work}
 use Rattle.placement.specs.declared.placing.Work.TheVariants.{Merge, Open}
 
 -- what is done in each case; a ring is closed as two chains are merged
 abbrev pub work_for : Case → ℕ → ℕ → Work
-work_for new_chain a b = Open Neither Nothing
-work_for (extends first_named) a b = Open Neither (Leaf (vertex_of a))
-work_for (extends second_named) a b = Open Neither (Leaf (vertex_of b))
+work_for new_chain a b = Open Neither None
+work_for (extends first_named) a b = Open Neither (Some (vertex_of a))
+work_for (extends second_named) a b = Open Neither (Some (vertex_of b))
 work_for merges a b = Merge
 work_for closes a b = Merge
-work_for (split_extends first_named) a b = Open (One (vertex_of b) (vertex_of a)) (Leaf (vertex_of a))
-work_for (split_extends second_named) a b = Open (One (vertex_of a) (vertex_of b)) (Leaf (vertex_of b))
-work_for (split_new first_named) a b = Open (One (vertex_of a) (vertex_of b)) Nothing
-work_for (split_new second_named) a b = Open (One (vertex_of b) (vertex_of a)) Nothing
-work_for split_both a b = Open Both Nothing
+work_for (split_extends first_named) a b = Open (One (vertex_of b) (vertex_of a)) (Some (vertex_of a))
+work_for (split_extends second_named) a b = Open (One (vertex_of a) (vertex_of b)) (Some (vertex_of b))
+work_for (split_new first_named) a b = Open (One (vertex_of a) (vertex_of b)) None
+work_for (split_new second_named) a b = Open (One (vertex_of b) (vertex_of a)) None
+work_for split_both a b = Open Both None
 
 -- edge e comes to v: an isolated one gets e as its low side, any other is left
 unfoldable pub meet_in : List ℕ → List ℕ → ℕ → ℕ → List ℕ
@@ -58,9 +57,9 @@ goes_on_in p ends x e =
     let g = extend_in p.degrees p.sides ends p.labels p.blocks x e in
     placed p.degrees g.sides g.labels g.count p.relabellings false
 
-abbrev pub open_in : Splits → Extension → List ℕ → List ℕ → List ℕ → List ℕ → ℕ → ℕ → ℕ → ℕ → Bool → Placed
-open_in splits Nothing degrees sides ends labels blocks a b e rings = opened_in splits degrees sides ends labels blocks a b e rings
-open_in splits (Leaf x) degrees sides ends labels blocks a b e rings =
+abbrev pub open_in : Splits → Option Vertex → List ℕ → List ℕ → List ℕ → List ℕ → ℕ → ℕ → ℕ → ℕ → Bool → Placed
+open_in splits None degrees sides ends labels blocks a b e rings = opened_in splits degrees sides ends labels blocks a b e rings
+open_in splits (Some x) degrees sides ends labels blocks a b e rings =
     goes_on_in (opened_in splits degrees sides ends labels blocks a b e rings) ends x.0 e
 
 -- both are leaves

@@ -1,16 +1,14 @@
 -- What is planned for an edge by reading the tables, and what a plan does, as functions of lists that mirror the code. By `planned_is` in
 -- Plans a plan that was made of the tables does what Placing says at once.
-use Rattle.std.specs.Prelude.{ℕ, Bool, false, List}
+use Rattle.counters.specs.declared.numbers.Vertex.{Vertex}
+use Rattle.std.specs.Prelude.{ℕ, Bool, false, List, Some, None, Option}
 use Rattle.tables.specs.Steps.{raise_both_in}
 use Rattle.joining.specs.Merging.{merger, merger_for, merge_by}
 use Rattle.parting.specs.Splitting.{no_rounds, rounds_for, ends_by}
-use Rattle.joining.specs.declared.merging.Keeper.TheVariants.{Neither}
 use Rattle.joining.specs.declared.merging.Merger.{Merger}
 use Rattle.parting.specs.declared.splitting.Splits.{Splits}
 use Rattle.parting.specs.declared.splitting.Rounds.{Rounds}
 use Rattle.placement.specs.Placing.{meet_in, Placed, placed, goes_on_in}
-use Rattle.placement.specs.declared.placing.Extension.{Extension}
-use Rattle.placement.specs.declared.placing.Extension.TheVariants.{Nothing, Leaf}
 use Rattle.placement.specs.declared.placing.Work.{Work}
 use Rattle.placement.specs.declared.placing.Work.TheVariants.{Merge, Open}
 use Rattle.placement.specs.declared.planning.Plan.{Plan}
@@ -22,7 +20,7 @@ plan work merger rounds = record { work = work; merger = merger; rounds = rounds
 abbrev pub plan_for : Work → List ℕ → List ℕ → List ℕ → ℕ → ℕ → ℕ → Bool → Plan
 plan_for Merge degrees sides ends a b n rings = plan Merge (merger_for degrees sides ends a b n) no_rounds
 plan_for (Open splits extension) degrees sides ends a b n rings =
-    plan (Open splits extension) (merger false Neither) (rounds_for splits degrees sides ends a b n rings)
+    plan (Open splits extension) (merger false None) (rounds_for splits degrees sides ends a b n rings)
 
 -- ---- what it does
 
@@ -34,9 +32,9 @@ opened_by splits rounds degrees sides ends labels blocks a b e =
     c.ring
 
 -- .. and then the chain of a leaf goes on
-abbrev pub open_by : Splits → Rounds → Extension → List ℕ → List ℕ → List ℕ → List ℕ → ℕ → ℕ → ℕ → ℕ → Placed
-open_by splits rounds Nothing degrees sides ends labels blocks a b e = opened_by splits rounds degrees sides ends labels blocks a b e
-open_by splits rounds (Leaf x) degrees sides ends labels blocks a b e =
+abbrev pub open_by : Splits → Rounds → Option Vertex → List ℕ → List ℕ → List ℕ → List ℕ → ℕ → ℕ → ℕ → ℕ → Placed
+open_by splits rounds None degrees sides ends labels blocks a b e = opened_by splits rounds degrees sides ends labels blocks a b e
+open_by splits rounds (Some x) degrees sides ends labels blocks a b e =
     goes_on_in (opened_by splits rounds degrees sides ends labels blocks a b e) ends x.0 e
 
 -- both are leaves

@@ -14,19 +14,12 @@ use parting::splitting::{Rounds, Splits, split_ends};
 use tables::kinds::{degree_of, put_sides};
 use tables::steps::raise_both;
 
-// The leaf whose chain goes on over the edge, if one does.
-#[derive(Clone, Copy)]
-pub enum Extension {
-    Nothing,
-    Leaf(Vertex),
-}
-
 // What is done for an edge: the chains of both ends are merged; or both ends are opened, those that are regular by a split, and then a
-// leaf's chain goes on.
+// leaf's chain goes on over the edge, if one does. Two kinds of work, of which neither is the lack of the other.
 #[derive(Clone, Copy)]
 pub enum Work {
     Merge,
-    Open(Splits, Extension),
+    Open(Splits, Option<Vertex>),
 }
 
 // Document 01's cases. Document 02's ring is closed where chains are merged, and tapped where one is split.
@@ -34,15 +27,15 @@ pub fn work_of(case: Case, a: Vertex, b: Vertex) -> Work
     ensures { result ≡ work_for (as_case case) a.0 b.0 }
 {
     match case {
-        Case::New => Work::Open(Splits::Neither, Extension::Nothing),
-        Case::ExtendFirst => Work::Open(Splits::Neither, Extension::Leaf(a)),
-        Case::ExtendSecond => Work::Open(Splits::Neither, Extension::Leaf(b)),
+        Case::New => Work::Open(Splits::Neither, None),
+        Case::ExtendFirst => Work::Open(Splits::Neither, Some(a)),
+        Case::ExtendSecond => Work::Open(Splits::Neither, Some(b)),
         Case::Merge => Work::Merge,
-        Case::SplitExtendFirst => Work::Open(Splits::One(b, a), Extension::Leaf(a)),
-        Case::SplitExtendSecond => Work::Open(Splits::One(a, b), Extension::Leaf(b)),
-        Case::SplitFirst => Work::Open(Splits::One(a, b), Extension::Nothing),
-        Case::SplitSecond => Work::Open(Splits::One(b, a), Extension::Nothing),
-        Case::SplitBoth => Work::Open(Splits::Both, Extension::Nothing),
+        Case::SplitExtendFirst => Work::Open(Splits::One(b, a), Some(a)),
+        Case::SplitExtendSecond => Work::Open(Splits::One(a, b), Some(b)),
+        Case::SplitFirst => Work::Open(Splits::One(a, b), None),
+        Case::SplitSecond => Work::Open(Splits::One(b, a), None),
+        Case::SplitBoth => Work::Open(Splits::Both, None),
     }
 }
 
@@ -83,7 +76,7 @@ fn open_both(
 pub fn place_open(
     splits: Splits,
     rounds: Rounds,
-    extension: Extension,
+    extension: Option<Vertex>,
     degrees: &mut [u16],
     sides: &mut [u16],
     ends: &[u16],
@@ -100,8 +93,8 @@ pub fn place_open(
         splits, rounds, degrees, sides, ends, labels, blocks, a, b, e,
     );
     match extension {
-        Extension::Nothing => c,
-        Extension::Leaf(x) => {
+        None => c,
+        Some(x) => {
             let k = extend_chain(degrees, sides, ends, labels, c.blocks, x, e);
             ChainChange::new(k, c.relabellings)
         }

@@ -5,7 +5,7 @@ ghost use Rattle.placement.specs.Planning.{plan_for, planned_in};
 
 use crate::placing::{Work, place_merged, place_open};
 use counters::numbers::{Edge, Vertex};
-use joining::merging::{Keeper, Merger, merger_of};
+use joining::merging::{Merger, merger_of};
 use labels::changes::ChainChange;
 use parting::splitting::{Rounds, rounds_for};
 
@@ -44,7 +44,7 @@ pub fn plan_work(
         Work::Open(splits, extension) => {
             let merger = Merger {
                 ring: false,
-                keeper: Keeper::Neither,
+                keeper: None,
             };
             let rounds = rounds_for(splits, degrees, sides, ends, a, b, fuel, rings);
             Plan {

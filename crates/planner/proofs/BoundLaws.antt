@@ -1,6 +1,6 @@
--- The ways out of the test for 34.
+-- How many numbers are too many windows, and a minute that is none of the week, for 34.
 use mathlib.Core.Path.{◌≡◌, refl}
-use Prim.Native.Nat.{ℕ, ◌≤◌, ◌<◌}
+use Prim.Native.Nat.{ℕ, ◌<◌}
 use native.Mathlib.Omega.{arith}
 use native.Mathlib.Decide.{dec_lt}
 use mathlib.Core.Bool.{Bool, true, false, ◌||◌}
@@ -14,7 +14,7 @@ use Rattle.planner.specs.Planning.{out_of_bounds}
 use Rattle.planner.proofs.WindowLaws.{count_least, count_most}
 
 -- more than 64 numbers are more than 32 windows
-counted : (xs : List ℕ) → ltb 64 (length xs) ≡ ltb max_windows (length (windows_in xs))
+pub counted : (xs : List ℕ) → ltb 64 (length xs) ≡ ltb max_windows (length (windows_in xs))
 counted xs = go (dec_lt 64 (length xs))
   where
     go : Dec (64 < length xs) → ltb 64 (length xs) ≡ ltb max_windows (length (windows_in xs))
@@ -30,21 +30,3 @@ minute_out flow minute ws h = rw (lt-ltb 10079 minute h) (go (ltb flow 1) (ltb m
     go true b = refl
     go false true = refl
     go false false = refl
-
-module _ (flow minute : ℕ) (xs : List ℕ) where
-  -- a flow of 0, one above the greatest, a minute past the week; else the number of windows decides
-  pub flow_low : flow < 1 → true ≡ out_of_bounds flow minute (windows_in xs)
-  unfolding out_of_bounds
-  flow_low h = rw (lt-ltb flow 1 h)
-
-  pub flow_high : 1 ≤ flow → max_flow < flow → true ≡ out_of_bounds flow minute (windows_in xs)
-  unfolding out_of_bounds
-  flow_high l h = rw (le-ltb flow 1 l, lt-ltb max_flow flow h)
-
-  pub minute_high : 1 ≤ flow → flow ≤ max_flow → 10079 < minute → true ≡ out_of_bounds flow minute (windows_in xs)
-  unfolding out_of_bounds
-  minute_high l h m = rw (le-ltb flow 1 l, le-ltb max_flow flow h, lt-ltb 10079 minute m)
-
-  pub many : 1 ≤ flow → flow ≤ max_flow → minute ≤ 10079 → ltb 64 (length xs) ≡ out_of_bounds flow minute (windows_in xs)
-  unfolding out_of_bounds
-  many l h m = rw (le-ltb flow 1 l, le-ltb max_flow flow h, le-ltb 10079 minute m) (counted xs)

@@ -1,6 +1,6 @@
 -- the windows of a slice, how many there are, and when they are in order
 pub mod WindowLaws
--- the ways out of the test for 34
+-- how many numbers are too many windows, and a minute that is none of the week
 pub mod BoundLaws
 -- a quotient rounded up
 pub mod Transit

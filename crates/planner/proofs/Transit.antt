@@ -1,4 +1,6 @@
 -- A quotient rounded up.
+use Rattle.std.specs.Int.{div_ceil}
+use Rattle.std.proofs.lemmas.Grind.{div_ceil_times}
 use mathlib.Core.Path.{◌≡◌, sym}
 use Prim.Native.Nat.{ℕ, ◌+◌, ◌-◌, ◌*◌, ◌/◌, ◌≤◌}
 use native.Mathlib.Omega.{arith}
@@ -22,3 +24,8 @@ module _ (volume flow : ℕ) (v : 1 ≤ volume) (f : 1 ≤ flow) where
   -- .. and fewer do not
   pub transit_least : (n : ℕ) → volume ≤ n * flow → transit volume flow ≤ n
   transit_least n h = rw (← transit_is) (omega (arith, (div-lt_iff_lt-mul {k = flow} {x = volume - 1} {y = n} f).1 (omega arith)))
+
+  -- the library rounds up by the remainder
+  pub ceil_is : div_ceil volume flow ≡ transit volume flow
+  unfolding transit
+  ceil_is = sym (div-eq_of_lt-le flow (omega (arith, (div_ceil_times volume flow f).1)) (omega (arith, (div_ceil_times volume flow f).0)))

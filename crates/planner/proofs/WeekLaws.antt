@@ -1,14 +1,14 @@
 -- The windows of one week, taken in order, give its first minute. Before that, laws for the loop that takes them.
 use mathlib.Core.Path.{◌≡◌, refl, sym, ap, ◌∙◌}
-use Prim.Native.Nat.{ℕ, ◌+◌, ◌-◌, ◌≤◌, ◌<◌, max}
+use Prim.Native.Nat.{ℕ, ◌+◌, ◌≤◌, ◌<◌, max}
 use native.Mathlib.Omega.{arith}
-use native.Mathlib.Decide.{dec_le, dec_lt}
+use native.Mathlib.Decide.{dec_lt}
 use mathlib.Core.Bool.{Bool, true, false}
-use mathlib.Core.List.{List, [], ◌∷◌}
+use mathlib.Core.List.{List, [], ◌∷◌, ◌++◌}
 use mathlib.Core.Option.{none, some, some-injective, some-ne-none}
-use lib.ListN.{length, get_or, drop}
-use lib.Dec.{leb, ltb}
-use borrow.Author.Tests.{le-leb, lt-leb, lt-ltb, le-ltb, leb-true, leb-false}
+use lib.ListN.{length, get_or}
+use lib.Dec.{leb}
+use borrow.Author.Tests.{le-leb, lt-leb, leb-true, leb-false}
 use Rattle.planner.specs.Numbers.{week}
 use Rattle.planner.specs.Windows.{Window, windows_in, ordered}
 use Rattle.planner.specs.Planning.{inside, inside_one}
@@ -17,34 +17,26 @@ use Rattle.planner.proofs.WindowLaws.{none_left, one_number_left, window_left, F
 
 -- ---- the ways out of the loop
 
--- a sum is tested by a difference
-pub by_difference : (b n e : ℕ) → 1 ≤ n → b ≤ e → ltb (n - 1) (e - b) ≡ leb (b + n) e
-by_difference b n e l h = go (dec_le (b + n) e)
-  where
-    go : Dec (b + n ≤ e) → ltb (n - 1) (e - b) ≡ leb (b + n) e
-    go (yes k) = rw (lt-ltb (n - 1) (e - b) (omega arith), le-leb (b + n) e k)
-    go (no k) = rw (le-ltb (n - 1) (e - b) (omega arith), lt-leb (b + n) e (omega arith))
-
 -- no window is left, or a last number alone, in which nothing fits
-pub first_end : (n from : ℕ) (xs : List ℕ) (i : ℕ) → length xs ≤ i → none ≡ first_in n from (windows_in (drop i xs))
+pub first_end : (n from : ℕ) (xs : List ℕ) → length xs ≡ 0 → none ≡ first_in n from (windows_in xs)
 unfolding first_in
-first_end n from xs i h = rw (none_left xs i h)
+first_end n from xs h = rw (none_left xs h)
 
-pub first_cut : (n from : ℕ) (xs : List ℕ) (i : ℕ) → 1 ≤ n → i < length xs → length xs ≤ i + 1 → none ≡ first_in n from (windows_in (drop i xs))
+pub first_cut : (n from : ℕ) (xs : List ℕ) → 1 ≤ n → 0 < length xs → length xs < 2 → none ≡ first_in n from (windows_in xs)
 unfolding first_in
-first_cut n from xs i l h e = rw (one_number_left xs i h e, lt-leb (max (get_or xs i 0) from + n) 0 (omega arith), first_in)
+first_cut n from xs l h e = rw (one_number_left xs h e, lt-leb (max (get_or xs 0 0) from + n) 0 (omega arith), first_in)
 
-module _ (n from : ℕ) (xs : List ℕ) (i b : ℕ) (h : i + 1 < length xs) (e : b ≡ max (get_or xs i 0) from) where
+module _ (n from : ℕ) (xs chunk rest : List ℕ) (b : ℕ) (h : xs ≡ chunk ++ rest) (l : length chunk ≡ 2) (e : b ≡ max (get_or chunk 0 0) from) where
   -- the transit fits in the next window, or is tried in those behind it
-  pub first_here : true ≡ leb (b + n) (get_or xs (i + 1) 0) → some b ≡ first_in n from (windows_in (drop i xs))
+  pub first_here : true ≡ leb (b + n) (get_or chunk 1 0) → some b ≡ first_in n from (windows_in xs)
   unfolding first_in
-  first_here t = rw (window_left xs i h, ← e, ← t, first_in) (ap some e)
+  first_here t = rw (window_left xs chunk rest h l, ← e, ← t, first_in) (ap some e)
 
-  pub first_next : false ≡ leb (b + n) (get_or xs (i + 1) 0) → first_in n from (windows_in (drop i xs)) ≡ first_in n from (windows_in (drop (i + 2) xs))
+  pub first_next : false ≡ leb (b + n) (get_or chunk 1 0) → first_in n from (windows_in xs) ≡ first_in n from (windows_in rest)
   unfolding first_in
-  first_next t = rw (window_left xs i h, ← e, ← t, first_in)
+  first_next t = rw (window_left xs chunk rest h l, ← e, ← t, first_in)
 
--- ---- one window, and one step of firstIn
+-- ---- one window, and one step of first_in
 
 module _ (n from : ℕ) (w : Window) (ws : List Window) where
   first_now : leb (max w.start from + n) w.end ≡ true → first_in n from (w ∷ ws) ≡ some (max w.start from)

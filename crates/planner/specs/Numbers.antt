@@ -1,14 +1,11 @@
 -- The limits of document 02, S-8, and what the checked constructors answer.
+use Rattle.std.specs.Prelude as rust
 use Rattle.std.specs.Prelude.{ℕ}
 use Rattle.std.proofs.Math.Option.{Option, none, some}
-use Rattle.planner.specs.declared.numbers.CheckedVolume.{CheckedVolume}
-use Rattle.planner.specs.declared.numbers.CheckedVolume.TheVariants as volume
-use Rattle.planner.specs.declared.numbers.CheckedFlow.{CheckedFlow}
-use Rattle.planner.specs.declared.numbers.CheckedFlow.TheVariants as flow
-use Rattle.planner.specs.declared.numbers.CheckedMinute.{CheckedMinute}
-use Rattle.planner.specs.declared.numbers.CheckedMinute.TheVariants as minute
-use Rattle.planner.specs.declared.numbers.CheckedBeginning.{CheckedBeginning}
-use Rattle.planner.specs.declared.numbers.CheckedBeginning.TheVariants as beginning
+use Rattle.planner.specs.declared.numbers.Volume.{Volume}
+use Rattle.planner.specs.declared.numbers.Flow.{Flow}
+use Rattle.planner.specs.declared.numbers.Minute.{Minute}
+use Rattle.planner.specs.declared.numbers.Beginning.{Beginning}
 
 -- "in minutes of the week 0 to 10,079"
 abbrev pub week : ℕ
@@ -26,18 +23,18 @@ max_windows = 32
 abbrev pub max_volume : ℕ
 max_volume = 4096000000
 
-abbrev pub as_volume : CheckedVolume → Option ℕ
-as_volume (volume.Is v) = some v.0
-as_volume volume.OutOfRange = none
+abbrev pub as_volume : rust.Option Volume → Option ℕ
+as_volume (rust.Some v) = some v.0
+as_volume rust.None = none
 
-abbrev pub as_flow : CheckedFlow → Option ℕ
-as_flow (flow.Is f) = some f.0
-as_flow flow.OutOfRange = none
+abbrev pub as_flow : rust.Option Flow → Option ℕ
+as_flow (rust.Some f) = some f.0
+as_flow rust.None = none
 
-abbrev pub as_minute : CheckedMinute → Option ℕ
-as_minute (minute.Is m) = some m.0
-as_minute minute.OutOfRange = none
+abbrev pub as_minute : rust.Option Minute → Option ℕ
+as_minute (rust.Some m) = some m.0
+as_minute rust.None = none
 
-abbrev pub as_beginning : CheckedBeginning → Option ℕ
-as_beginning (beginning.Is m) = some m.0
-as_beginning beginning.OutOfRange = none
+abbrev pub as_beginning : rust.Option Beginning → Option ℕ
+as_beginning (rust.Some m) = some m.0
+as_beginning rust.None = none

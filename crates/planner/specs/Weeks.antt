@@ -1,13 +1,12 @@
 -- The windows of one week, taken in order: functions that mirror the code. That they give the first minute is a theorem.
+use Rattle.std.specs.Prelude as rust
 use Rattle.std.specs.Prelude.{ℕ, ◌+◌, max, true, false, List, [], ◌∷◌, leb}
 use Rattle.std.proofs.Math.Option.{Option, none, some}
 use Rattle.planner.specs.Windows.{Window}
-use Rattle.planner.specs.declared.answers.Found.{Found}
-use Rattle.planner.specs.declared.answers.Found.TheVariants as found
 
-abbrev pub as_found : Found → Option ℕ
-as_found (found.At m) = some m
-as_found found.Nothing = none
+abbrev pub as_found : rust.Option ℕ → Option ℕ
+as_found (rust.Some m) = some m
+as_found rust.None = none
 
 -- the later of `from` and the start of the first window that has so many minutes left from there
 unfoldable pub first_in : ℕ → ℕ → List Window → Option ℕ

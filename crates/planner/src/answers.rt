@@ -9,16 +9,8 @@ pub enum Refusal {
 
 // At: the first minute from which the whole transit lies inside one window. Never: document 02's "none".
 #[derive(Clone, Copy)]
-pub enum Planned {
+pub enum Plan {
     At(Beginning),
     Never,
     Unknown,
-    Refused(Refusal),
-}
-
-// The first minute in the windows of one week.
-#[derive(Clone, Copy)]
-pub enum Found {
-    At(u16),
-    Nothing,
 }

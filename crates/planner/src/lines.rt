@@ -6,7 +6,7 @@ ghost use Rattle.planner.specs.Planning.{plan};
 ghost use Rattle.planner.specs.Lines.{line_volume};
 ghost use Rattle.planner.specs.Answers.{planned_reply};
 
-use crate::answers::Planned;
+use crate::answers::{Plan, Refusal};
 use crate::numbers::{Flow, Minute, Volume};
 use crate::planning::plan_change;
 
@@ -19,16 +19,20 @@ const VOLUME: usize = 5;
 fn volume_of(sheet: &[u32], line: u16) -> u32
     ensures { result ≡ line_volume sheet.now line }
 {
-    let place = LINE * (line as usize) + VOLUME;
-    if place < sheet.len() {
-        sheet[place]
-    } else {
-        Volume::UNKNOWN
-    }
+    sheet
+        .get(LINE * (line as usize) + VOLUME)
+        .copied()
+        .unwrap_or(Volume::UNKNOWN)
 }
 
 // `sheet` is the slice that the register's sheet was answered in, and `line` one of so many as it answered.
-pub fn plan_line(sheet: &[u32], line: u16, windows: &[u16], flow: Flow, minute: Minute) -> Planned
+pub fn plan_line(
+    sheet: &[u32],
+    line: u16,
+    windows: &[u16],
+    flow: Flow,
+    minute: Minute,
+) -> Result<Plan, Refusal>
     ensures { planned_reply result
         ≡ plan (line_volume sheet.now line) flow.0 minute.0 (windows_in windows.now) }
 {

@@ -1,5 +1,6 @@
 // The volume of a run, the flow, a minute of the week and a minute of two weeks: four types, so that none stands where another is expected.
-// Each has its bounds, and a constructor that tests them, on a number that is wide enough to be out of them.
+// Each has its bounds, and a constructor that tests them, on a number that is wide enough to be out of them. One generic constructor would
+// need an `impl` for each type that says how one is made of a number and a law of it, more than the test itself.
 ghost use Rattle.std.specs.Prelude.{◌≡◌, ◌-◌, ◌*◌};
 ghost use Rattle.counters.specs.Numbers.{within};
 ghost use Rattle.planner.specs.Numbers.{max_volume, max_flow, week, as_volume, as_flow, as_minute, as_beginning};
@@ -10,25 +11,20 @@ ghost use Rattle.planner.specs.Numbers.{max_volume, max_flow, week, as_volume, a
 #[derive(Clone, Copy)]
 pub struct Volume(pub u32);
 
-#[derive(Clone, Copy)]
-pub enum CheckedVolume {
-    Is(Volume),
-    OutOfRange,
-}
-
 impl Volume {
     // What stands for a volume that is not known.
     pub const UNKNOWN: u32 = 0;
 
     pub const MAX: u32 = 4096000000;
 
-    pub fn new(n: u32) -> CheckedVolume
+    pub fn new(n: u32) -> Option<Volume>
         ensures { as_volume result ≡ within 0 max_volume n }
     {
         if n <= Volume::MAX {
-            return CheckedVolume::Is(Volume(n));
+            Some(Volume(n))
+        } else {
+            None
         }
-        CheckedVolume::OutOfRange
     }
 }
 
@@ -36,27 +32,19 @@ impl Volume {
 #[derive(Clone, Copy)]
 pub struct Flow(pub u32);
 
-#[derive(Clone, Copy)]
-pub enum CheckedFlow {
-    Is(Flow),
-    OutOfRange,
-}
-
 impl Flow {
     pub const MIN: u32 = 1;
 
     pub const MAX: u32 = 1000000;
 
-    pub fn new(n: u32) -> CheckedFlow
+    pub fn new(n: u32) -> Option<Flow>
         ensures { as_flow result ≡ within 1 max_flow n }
     {
-        if n < Flow::MIN {
-            return CheckedFlow::OutOfRange;
+        if Flow::MIN <= n && n <= Flow::MAX {
+            Some(Flow(n))
+        } else {
+            None
         }
-        if n <= Flow::MAX {
-            return CheckedFlow::Is(Flow(n));
-        }
-        CheckedFlow::OutOfRange
     }
 }
 
@@ -64,25 +52,20 @@ impl Flow {
 #[derive(Clone, Copy)]
 pub struct Minute(pub u16);
 
-#[derive(Clone, Copy)]
-pub enum CheckedMinute {
-    Is(Minute),
-    OutOfRange,
-}
-
 impl Minute {
     pub const MAX: u16 = 10079;
 
     // The minutes of a week: the first minute of the next one, and the last end of a window.
     pub const WEEK: u16 = Minute::MAX + 1;
 
-    pub fn new(n: u32) -> CheckedMinute
+    pub fn new(n: u32) -> Option<Minute>
         ensures { as_minute result ≡ within 0 (week - 1) n }
     {
         if n <= (Minute::MAX as u32) {
-            return CheckedMinute::Is(Minute(n as u16));
+            Some(Minute(n as u16))
+        } else {
+            None
         }
-        CheckedMinute::OutOfRange
     }
 }
 
@@ -90,21 +73,16 @@ impl Minute {
 #[derive(Clone, Copy)]
 pub struct Beginning(pub u16);
 
-#[derive(Clone, Copy)]
-pub enum CheckedBeginning {
-    Is(Beginning),
-    OutOfRange,
-}
-
 impl Beginning {
     pub const MAX: u16 = 20159;
 
-    pub fn new(n: u32) -> CheckedBeginning
+    pub fn new(n: u32) -> Option<Beginning>
         ensures { as_beginning result ≡ within 0 (2 * week - 1) n }
     {
         if n <= (Beginning::MAX as u32) {
-            return CheckedBeginning::Is(Beginning(n as u16));
+            Some(Beginning(n as u16))
+        } else {
+            None
         }
-        CheckedBeginning::OutOfRange
     }
 }

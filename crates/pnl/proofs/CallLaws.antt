@@ -1,4 +1,6 @@
 -- A call whole: a list that stops, and the answer of a question on the tables that a list leaves.
+use Rattle.counters.specs.declared.numbers.Label.{Label}
+use Rattle.std.specs.Prelude.{Option, Some, None}
 use mathlib.Core.Path.{◌≡◌, sym, ap, ◌∙◌}
 use Prim.Native.Nat.{ℕ}
 use mathlib.Core.List.{List}
@@ -17,8 +19,6 @@ use Rattle.theory.proofs.Series.Landings.{reachable_grown}
 use Rattle.theory.proofs.Registers.OnlyHeld.{held_tables}
 use Rattle.tables.specs.Meaning.{stored, tables}
 use Rattle.counters.specs.Numbers.{as_label}
-use Rattle.counters.specs.declared.numbers.CheckedLabel.{CheckedLabel}
-use Rattle.counters.specs.declared.numbers.CheckedLabel.TheVariants.{Is, OutOfRange}
 use Rattle.holders.specs.Finding.{find_in}
 use Rattle.landing.specs.Records.{ReadingIn, reading_in, land_list_in}
 use Rattle.landing.proofs.ListAgrees.{shown_read}
@@ -68,9 +68,9 @@ module _ (d s e l u lb : List ℕ) (c : Counts) (r : Register) (h : HeldOf (stor
 -- ---- the label that a question comes to
 
 -- one that is given
-pub asked_given : (x : CheckedLabel) (label : ℕ) (r : Register) → as_label x ≡ some label → asked x r ≡ find r label
-asked_given (Is l) label r e = ap (find r) (some-injective l.0 label e)
-asked_given OutOfRange label r e = absurd (some-ne-none label (sym e))
+pub asked_given : (x : Option Label) (label : ℕ) (r : Register) → as_label x ≡ some label → asked x r ≡ find r label
+asked_given (Some l) label r e = ap (find r) (some-injective l.0 label e)
+asked_given None label r e = absurd (some-ne-none label (sym e))
 
 -- that of a vertex
 pub asked_at : (d s e l u lb : List ℕ) (c : Counts) (r : Register) → HeldOf (stored (tables d s e l u lb) c) r → (v w label : ℕ) → w ≡ v → label ≡ get_or lb w 0

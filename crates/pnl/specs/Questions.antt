@@ -1,8 +1,8 @@
 -- What a question asks.
+use Rattle.counters.specs.declared.numbers.Label.{Label}
+use Rattle.std.specs.Prelude.{Option, Some, None}
 use Rattle.model.specs.Register.{Register}
 use Rattle.model.specs.Queries.{Reply, refuses, find, find_at}
-use Rattle.counters.specs.declared.numbers.CheckedLabel.{CheckedLabel}
-use Rattle.counters.specs.declared.numbers.CheckedLabel.TheVariants.{Is, OutOfRange}
 use Rattle.pnl.specs.declared.asked.Question.{Question}
 use Rattle.pnl.specs.declared.asked.Question.TheVariants.{Find, FindAt}
 
@@ -12,6 +12,6 @@ as_question (Find label) = λ r. find r label
 as_question (FindAt v) = λ r. find_at r v
 
 -- what find answers of the label that a question comes to, and 8 where it comes to none
-abbrev pub asked : CheckedLabel → Register → Reply
-asked (Is l) = λ r. find r l.0
-asked OutOfRange = λ r. refuses 8
+abbrev pub asked : Option Label → Register → Reply
+asked (Some l) = λ r. find r l.0
+asked None = λ r. refuses 8

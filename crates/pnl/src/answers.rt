@@ -7,12 +7,11 @@ ghost use Rattle.questions.specs.Meaning.{found_reply};
 ghost use Rattle.text.specs.Pages.{page, write};
 ghost use Rattle.pnl.specs.FromC.{returned};
 
-use chains::numbers::wide;
 use counters::refusals::Refusal;
-use questions::find::FoundChain;
-use tables::access::at32;
+use looking::through::FoundChain;
 use text::bytes::put_word;
 
+// No `From`: it would have to stand in counters, where the number of a refusal has no sign.
 pub fn refused(refusal: Refusal) -> i32
     ensures { result ≡ neg_ℤ (pos (number_of refusal)) }
 {
@@ -21,6 +20,7 @@ pub fn refused(refusal: Refusal) -> i32
 }
 
 // A count of bytes. A sheet's rows are counted by a u16: at most 65,535, of 24 bytes each, and no answer has more.
+// So `try_from` would want an answer for a case that is none.
 pub fn byte_count(n: usize) -> i32
     requires { n ≤ 24 * 65535 }
     ensures { result ≡ pos n }
@@ -32,10 +32,8 @@ pub fn put_words(out: &mut [u8], at: usize, numbers: &[u32]) -> usize
     ensures { page out.new result ≡ write (bytes_of numbers.now) (page out.old at) }
 {
     let mut next = at;
-    let mut i: usize = 0;
-    while i < numbers.len() {
-        next = put_word(out, next, at32(numbers, i));
-        i += 1;
+    for n in numbers {
+        next = put_word(out, next, *n);
     }
     next
 }
@@ -53,15 +51,15 @@ pub fn answer_numbers(answer: &mut [u8], numbers: &[u32]) -> i32
     byte_count(size)
 }
 
-pub fn answer_found(answer: &mut [u8], found: FoundChain) -> i32
+pub fn answer_found(answer: &mut [u8], found: Result<FoundChain, Refusal>) -> i32
     ensures { (register : Register) → returned answer.new result ≡ returns_reply register answer.old (found_reply found) }
 {
     match found {
-        FoundChain::Chain(name, vertex, low, high) => {
-            let run = wide(name.0);
-            let coupling = wide(vertex.0);
-            answer_numbers(answer, &[run, coupling, low.0, high.0])
+        Ok(chain) => {
+            let run = u32::from(chain.name.0);
+            let coupling = u32::from(chain.wearer.0);
+            answer_numbers(answer, &[run, coupling, chain.low.0, chain.high.0])
         }
-        FoundChain::Refused(refusal) => refused(refusal),
+        Err(refusal) => refused(refusal),
     }
 }

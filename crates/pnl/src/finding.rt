@@ -5,8 +5,10 @@ ghost use Rattle.holders.specs.Finding.{find_in};
 ghost use Rattle.questions.specs.Meaning.{found_reply};
 
 use counters::numbers::Label;
+use counters::refusals::Refusal;
 use counters::sizes::SIDES;
-use questions::find::{FoundChain, find_in};
+use looking::through::FoundChain;
+use questions::find::find_in;
 
 // The array is the scratch of the search; nobody reads it after that, so the compiler leaves its clearing out. Two numbers of the head are enough: the
 // others need not be kept for it (docs/SPEED.md).
@@ -19,7 +21,7 @@ pub fn find_from(
     vertices: u16,
     edges: u16,
     label: Label,
-) -> FoundChain
+) -> Result<FoundChain, Refusal>
     ensures { (volumes : List ℕ) → found_reply result
         ≡ find_in (tables degrees.now sides.now ends.now lengths.now volumes labels.now)
         vertices edges label.0 }

@@ -13,7 +13,6 @@ use crate::asked::{Question, label_asked};
 use crate::finding::find_from;
 use counters::answers::Stop;
 use counters::counts::Counts;
-use counters::numbers::CheckedLabel;
 use counters::refusals::Refusal;
 use counters::sizes::{EDGES, ENDS, SIDES, VERTICES};
 use landing::records::grow_list;
@@ -34,18 +33,20 @@ fn answer_question(
         → HeldOf (stored (tables degrees.now sides.now ends.now lengths.now volumes labels.now) (as_counts counts)) register
         → returned answer.new result ≡ returns_reply register answer.old (as_question question register) }
 {
-    let asked = label_asked(labels, question);
-    match asked {
-        CheckedLabel::Is(label) => {
-            let vertices = counts.vertices;
-            let edges = counts.edges;
-            let found = find_from(
-                degrees, sides, ends, lengths, labels, vertices, edges, label,
-            );
-            answer_found(answer, found)
-        }
-        CheckedLabel::OutOfRange => refused(Refusal::NotRegular),
-    }
+    let Some(label) = label_asked(labels, question) else {
+        return refused(Refusal::NotRegular);
+    };
+    let found = find_from(
+        degrees,
+        sides,
+        ends,
+        lengths,
+        labels,
+        counts.vertices,
+        counts.edges,
+        label,
+    );
+    answer_found(answer, found)
 }
 
 // The tables of a call are its own, all zero at the start.

@@ -3,7 +3,7 @@
 
 use listing::listing::{ROOM, print_list};
 use std::io::Print;
-use streams::reading::{MAX_LIST, ReadAnswer, read_list};
+use streams::reading::{MAX_LIST, read_list};
 use streams::writing::{complain, write_output};
 
 fn write_listing<P: Print, E: Print>(output: &P, errors: &E, list: &[u8]) {
@@ -21,10 +21,9 @@ fn main(rt: HostRuntime) {
     let errors = rt.stderr();
     // Room for a byte more than a list may have, so that a longer one shows.
     let mut list = [0u8; MAX_LIST + 1];
-    let read = read_list(&rt, &mut list);
-    match read {
-        ReadAnswer::Bytes(n) => write_listing(&rt, &errors, &list[..n]),
-        ReadAnswer::Failed => complain(
+    match read_list(&rt, &mut list) {
+        Ok(n) => write_listing(&rt, &errors, &list[..n]),
+        Err(_) => complain(
             &errors,
             b"print: the list could not be read to its end, so nothing is printed\n",
         ),

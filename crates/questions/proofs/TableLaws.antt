@@ -16,6 +16,12 @@ use Rattle.holders.specs.Newest.{Sought, search_in}
 use Rattle.holders.specs.Finding.{find_at_in, find_in}
 use Rattle.chains.proofs.SheetLaws.{sheet_count}
 use Rattle.text.specs.Pages.{page, write}
+use Rattle.std.specs.Prelude as rust
+use Rattle.std.specs.Option.{ok_or}
+use Rattle.counters.specs.declared.refusals.Refusal.TheVariants.{NotRegular}
+use Rattle.looking.specs.Answers.{as_found}
+use Rattle.looking.specs.declared.through.FoundChain.{FoundChain}
+use Rattle.questions.specs.Meaning.{found_reply}
 use Rattle.questions.specs.Answering.{answered, sheeted_in}
 
 -- ---- find
@@ -23,13 +29,17 @@ use Rattle.questions.specs.Answering.{answered, sheeted_in}
 module _ (t : Tables) where
   module _ (n m label : ℕ) (s : Sought) (e : s ≡ search_in t.degrees t.sides t.ends t.lengths t.labels n m label) where
     -- nobody wears the label: 8; else what is told of the one who does
-    pub find_nobody : none ≡ s.found → refuses 8 ≡ find_in t n m label
+    find_nobody : none ≡ s.found → refuses 8 ≡ find_in t n m label
     unfolding find_in
     find_nobody f = let g : (search_in t.degrees t.sides t.ends t.lengths t.labels n m label).found ≡ none = rw e at (sym f) in rw (g, find_in)
 
-    pub find_told : (a : Reply) → some a ≡ s.found → a ≡ find_in t n m label
+    find_told : (a : Reply) → some a ≡ s.found → a ≡ find_in t n m label
     unfolding find_in
     find_told a f = let g : (search_in t.degrees t.sides t.ends t.lengths t.labels n m label).found ≡ some a = rw e at (sym f) in rw (g, find_in)
+
+    pub find_reply : (o : rust.Option FoundChain) → as_found o ≡ s.found → found_reply (ok_or o NotRegular) ≡ find_in t n m label
+    find_reply (rust.Some c) f = find_told _ f
+    find_reply rust.None f = find_nobody f
 
   -- through the label of a vertex
   pub find_at_law : (n m v label : ℕ) (r : Reply) → label ≡ get_or t.labels v 0 → r ≡ find_in t n m label → r ≡ find_at_in t n m v

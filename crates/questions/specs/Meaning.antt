@@ -1,32 +1,28 @@
 -- Document 01's values of the answers to sheet and distance, and document 02's to find and write.
+use Rattle.counters.specs.declared.numbers.Millimetres.{Millimetres}
+use Rattle.looking.specs.declared.through.FoundChain.{FoundChain}
+use Rattle.counters.specs.declared.refusals.Refusal.{Refusal}
+use Rattle.std.specs.Prelude.{ℕ, Option, Result, Ok, Err}
 use Rattle.model.specs.Queries.{Reply, found, listed, measured, wrote, refuses}
 use Rattle.counters.specs.Refusals.{number_of}
 use Rattle.search.specs.Meaning.{as_distance}
-use Rattle.questions.specs.declared.find.FoundChain.{FoundChain}
-use Rattle.questions.specs.declared.find.FoundChain.TheVariants as find
-use Rattle.questions.specs.declared.sheet.Listed.{Listed}
-use Rattle.questions.specs.declared.sheet.Listed.TheVariants as sheet
-use Rattle.questions.specs.declared.write.Written.{Written}
-use Rattle.questions.specs.declared.write.Written.TheVariants as write
-use Rattle.questions.specs.declared.measure.Measured.{Measured}
-use Rattle.questions.specs.declared.measure.Measured.TheVariants as measure
 
 -- "the run, the coupling wearing it, and the lengths to the low and high end"
-abbrev pub found_reply : FoundChain → Reply
-found_reply (find.Chain name v low high) = found name.0 v.0 low.0 high.0
-found_reply (find.Refused x) = refuses (number_of x)
+abbrev pub found_reply : Result FoundChain Refusal → Reply
+found_reply (Ok c) = found c.name.0 c.wearer.0 c.low.0 c.high.0
+found_reply (Err x) = refuses (number_of x)
 
 -- the number of chains
-abbrev pub listed_reply : Listed → Reply
-listed_reply (sheet.Chains n) = listed n
-listed_reply (sheet.Refused x) = refuses (number_of x)
+abbrev pub listed_reply : Result ℕ Refusal → Reply
+listed_reply (Ok n) = listed n
+listed_reply (Err x) = refuses (number_of x)
 
 -- the number of bytes
-abbrev pub written_reply : Written → Reply
-written_reply (write.Bytes n) = wrote n
-written_reply (write.Refused x) = refuses (number_of x)
+abbrev pub written_reply : Result ℕ Refusal → Reply
+written_reply (Ok n) = wrote n
+written_reply (Err x) = refuses (number_of x)
 
 -- the distance
-abbrev pub measured_reply : Measured → Reply
-measured_reply (measure.Distance d) = measured (as_distance d)
-measured_reply (measure.Refused x) = refuses (number_of x)
+abbrev pub measured_reply : Result (Option Millimetres) Refusal → Reply
+measured_reply (Ok d) = measured (as_distance d)
+measured_reply (Err x) = refuses (number_of x)

@@ -6,20 +6,13 @@ ghost use Rattle.tables.specs.Meaning.{tables};
 ghost use Rattle.holders.specs.Finding.{find_at_in, find_in};
 ghost use Rattle.questions.specs.Meaning.{found_reply};
 
-use clearing::whole::clear16;
 use counters::counts::Counts;
-use counters::numbers::{Edge, Label, Millimetres, Vertex};
+use counters::numbers::{Label, Vertex};
 use counters::refusals::Refusal;
 use holders::newest::search_label;
-use looking::through::Found;
+use lent::slices::View;
+use looking::through::FoundChain;
 use tables::kinds::label_of;
-
-// The name of a chain, which is the lowest number of an edge there; the vertex; the lengths, to the low end first.
-#[derive(Clone, Copy)]
-pub enum FoundChain {
-    Chain(Edge, Vertex, Millimetres, Millimetres),
-    Refused(Refusal),
-}
 
 // A table is lent for the order of the search; what it holds decides nothing.
 pub fn find_in(
@@ -32,7 +25,7 @@ pub fn find_in(
     edges: u16,
     order: &mut [u16],
     label: Label,
-) -> FoundChain
+) -> Result<FoundChain, Refusal>
     ensures { (volumes : List ℕ) → found_reply result
         ≡ find_in (tables degrees.now sides.now ends.now lengths.now volumes labels.now)
         vertices edges label.0 }
@@ -40,54 +33,48 @@ pub fn find_in(
     let searched = search_label(
         degrees, sides, ends, lengths, labels, order, vertices, edges, label,
     );
-    let found = searched.found;
-    match found {
-        Found::Chain(name, wearer, low, high) => FoundChain::Chain(name, wearer, low, high),
-        Found::Nothing => FoundChain::Refused(Refusal::NotRegular),
-    }
+    searched.found.ok_or(Refusal::NotRegular)
 }
 
 // The same; that table ends all zero.
 pub fn find_cleared(
-    degrees: &[u16],
-    sides: &[u16],
-    ends: &[u16],
-    lengths: &[u32],
-    labels: &[u32],
+    register: &View,
     counts: Counts,
     order: &mut [u16],
     label: Label,
-) -> FoundChain
-    ensures { ((volumes : List ℕ) → found_reply result
-        ≡ find_in (tables degrees.now sides.now ends.now lengths.now volumes labels.now)
-        (as_counts counts).vertices (as_counts counts).edges label.0)
-        × (order.new ≡ replicate (length order.old) 0) }
+) -> Result<FoundChain, Refusal>
+    ensures found { (volumes : List ℕ) → found_reply result
+        ≡ find_in (tables register.now.degrees.now register.now.sides.now register.now.ends.now register.now.lengths.now volumes register.now.labels.now)
+        (as_counts counts).vertices (as_counts counts).edges label.0 }
+    ensures cleared { order.new ≡ replicate (length order.old) 0 }
 {
-    let vertices = counts.vertices;
-    let edges = counts.edges;
     let found = find_in(
-        degrees, sides, ends, lengths, labels, vertices, edges, order, label,
+        register.degrees,
+        register.sides,
+        register.ends,
+        register.lengths,
+        register.labels,
+        counts.vertices,
+        counts.edges,
+        order,
+        label,
     );
-    clear16(order);
+    order.fill(0);
     found
 }
 
 // By a vertex, through its label, which is 0 where it has none: 8.
 pub fn find_at_cleared(
-    degrees: &[u16],
-    sides: &[u16],
-    ends: &[u16],
-    lengths: &[u32],
-    labels: &[u32],
+    register: &View,
     counts: Counts,
     order: &mut [u16],
     vertex: Vertex,
-) -> FoundChain
-    ensures { ((volumes : List ℕ) → found_reply result
-        ≡ find_at_in (tables degrees.now sides.now ends.now lengths.now volumes labels.now)
-        (as_counts counts).vertices (as_counts counts).edges vertex.0)
-        × (order.new ≡ replicate (length order.old) 0) }
+) -> Result<FoundChain, Refusal>
+    ensures found { (volumes : List ℕ) → found_reply result
+        ≡ find_at_in (tables register.now.degrees.now register.now.sides.now register.now.ends.now register.now.lengths.now volumes register.now.labels.now)
+        (as_counts counts).vertices (as_counts counts).edges vertex.0 }
+    ensures cleared { order.new ≡ replicate (length order.old) 0 }
 {
-    let label = label_of(labels, vertex);
-    find_cleared(degrees, sides, ends, lengths, labels, counts, order, label)
+    let label = label_of(register.labels, vertex);
+    find_cleared(register, counts, order, label)
 }

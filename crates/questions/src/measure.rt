@@ -4,21 +4,16 @@ ghost use Rattle.model.specs.Basics.{max_vertices};
 ghost use Rattle.counters.specs.Answers.{as_counts};
 ghost use Rattle.tables.specs.Meaning.{tables};
 ghost use Rattle.tables.specs.Steps.{zeroed};
+ghost use Rattle.lent.specs.Lent.{of_lent, SameLent};
 ghost use Rattle.questions.specs.Meaning.{measured_reply};
 ghost use Rattle.questions.specs.Measure.{Measurable, measure_in};
 
 use clearing::whole::clear_tables;
 use counters::counts::Counts;
-use counters::numbers::Vertex;
+use counters::numbers::{Millimetres, Vertex};
 use counters::refusals::Refusal;
-use search::shortest::{Distance, search};
-
-// What outsiders are answered.
-#[derive(Clone, Copy)]
-pub enum Measured {
-    Distance(Distance),
-    Refused(Refusal),
-}
+use lent::slices::Tables;
+use search::shortest::search;
 
 // What the scratch holds at the end is of no use to the caller.
 pub fn measure_in(
@@ -32,7 +27,7 @@ pub fn measure_in(
     keys: &mut [u32],
     from: Vertex,
     to: Vertex,
-) -> Measured
+) -> Result<Option<Millimetres>, Refusal>
     requires { Measurable ends.now lengths.now (as_counts counts) × (max_vertices ≤ length distances.old) }
     ensures { (degrees sides volumes labels : List ℕ) → measured_reply result
         ≡ measure_in (tables degrees sides ends.now lengths.now volumes labels) (as_counts counts) from.0 to.0 }
@@ -40,16 +35,15 @@ pub fn measure_in(
     let v = from.0;
     let w = to.0;
     if counts.vertices <= v {
-        return Measured::Refused(Refusal::NotLanded);
+        return Err(Refusal::NotLanded);
     }
     if counts.vertices <= w {
-        return Measured::Refused(Refusal::NotLanded);
+        return Err(Refusal::NotLanded);
     }
     let edges = counts.edges;
-    let distance = search(
+    Ok(search(
         ends, lengths, edges, v, w, heads, heap, next, distances, keys,
-    );
-    Measured::Distance(distance)
+    ))
 }
 
 // The tables are those of a register: a replay has shown it, or the call grew them. Five scratch tables serve the search as heads,
@@ -58,24 +52,28 @@ pub fn measure(
     ends: &[u16],
     lengths: &[u32],
     counts: Counts,
-    sdegrees: &mut [u16],
-    ssides: &mut [u16],
-    sends: &mut [u16],
-    slengths: &mut [u32],
-    svolumes: &mut [u32],
-    slabels: &mut [u32],
+    scratch: &mut Tables,
     from: Vertex,
     to: Vertex,
-) -> Measured
-    requires { Measurable ends.now lengths.now (as_counts counts) × (max_vertices ≤ length slengths.old) }
-    ensures { (tables sdegrees.new ssides.new sends.new slengths.new svolumes.new slabels.new
-        ≡ zeroed (tables sdegrees.old ssides.old sends.old slengths.old svolumes.old slabels.old))
-        × ((degrees sides volumes labels : List ℕ) → measured_reply result
-        ≡ measure_in (tables degrees sides ends.now lengths.now volumes labels) (as_counts counts) from.0 to.0) }
+) -> Result<Option<Millimetres>, Refusal>
+    requires { Measurable ends.now lengths.now (as_counts counts) × (max_vertices ≤ length scratch.old.lengths.now) }
+    ensures lent { SameLent scratch.new scratch.old }
+    ensures cleared { of_lent scratch.new ≡ zeroed (of_lent scratch.old) }
+    ensures measured { (degrees sides volumes labels : List ℕ) → measured_reply result
+        ≡ measure_in (tables degrees sides ends.now lengths.now volumes labels) (as_counts counts) from.0 to.0 }
 {
     let answer = measure_in(
-        ends, lengths, counts, sdegrees, ssides, sends, slengths, slabels, from, to,
+        ends,
+        lengths,
+        counts,
+        scratch.degrees,
+        scratch.sides,
+        scratch.ends,
+        scratch.lengths,
+        scratch.labels,
+        from,
+        to,
     );
-    clear_tables(sdegrees, ssides, sends, slengths, svolumes, slabels);
+    clear_tables(scratch);
     answer
 }

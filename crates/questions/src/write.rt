@@ -8,13 +8,6 @@ use counters::counts::Counts;
 use counters::refusals::Refusal;
 use list::writing::put_list;
 
-// How many bytes of the slice are the list.
-#[derive(Clone, Copy)]
-pub enum Written {
-    Bytes(u32),
-    Refused(Refusal),
-}
-
 // A header of 5 bytes, a byte a vertex, 13 bytes an edge.
 fn list_bytes(counts: Counts) -> u32
     ensures { result ≡ 5 + (as_counts counts).vertices + 13 * (as_counts counts).edges }
@@ -29,14 +22,14 @@ pub fn write_in(
     volumes: &[u32],
     counts: Counts,
     out: &mut [u8],
-) -> Written
+) -> Result<u32, Refusal>
     ensures { answered out.new (written_reply result)
         ≡ written_in ends.now lengths.now volumes.now (as_counts counts) out.old }
 {
     let size = list_bytes(counts);
     if out.len() < (size as usize) {
-        return Written::Refused(Refusal::ShortSlice);
+        return Err(Refusal::ShortSlice);
     }
     put_list(out, ends, lengths, volumes, counts);
-    Written::Bytes(size)
+    Ok(size)
 }

@@ -7,13 +7,11 @@ use Rattle.model.specs.Graph.{Edge}
 use Rattle.model.specs.Cases.{Case}
 use Rattle.model.specs.Register.{Terms, offers, case_number}
 use Rattle.model.specs.Tables.{Counts}
-use Rattle.counters.specs.declared.numbers.Millilitres.{Millilitres}
-use Rattle.counters.specs.declared.numbers.Millimetres.{Millimetres}
-use Rattle.counters.specs.declared.numbers.Vertex.{Vertex}
+use Rattle.std.specs.Prelude.{Result, Ok}
+use Rattle.counters.specs.declared.refusals.Refusal.{Refusal}
 use Rattle.checking.specs.Checks.{check_in}
 use Rattle.checking.specs.Meaning.{as_checked}
 use Rattle.checking.specs.declared.checks.Checked.{Checked}
-use Rattle.checking.specs.declared.checks.Checked.TheVariants.{Passed}
 use Rattle.counting.specs.Counting.{Estimated, estimated}
 use Rattle.counting.proofs.Laws.{merger_counts, rounds_count_lem}
 use Rattle.placement.specs.Placing.{work_for}
@@ -51,7 +49,7 @@ offered d s ends l a b n rings case work p m terms h g i j k =
     (rw (← h, ← g, ← planned_counts work d s ends l a b n rings, ← i, ← j) k, rw (← h, ← g) i)
 
 -- an edge was checked: its quote, and what the commit does
-module _ (d s ends : List ℕ) (c : Counts) (limit : ℕ) (rings : Bool) (e : Edge) (k k' : Checked) (q : k ≡ k') (h : as_checked k ≡ check_in c limit e) where
+module _ (d s ends : List ℕ) (c : Counts) (limit : ℕ) (rings : Bool) (e : Edge) (k k' : Result Checked Refusal) (q : k ≡ k') (h : as_checked k ≡ check_in c limit e) where
   -- the quote has the terms that follow from the check, and the counts of now
   pub quote_checked : (l : List ℕ) (terms : Terms) → terms ≡ terms_in d s ends l c.edges rings (as_checked k')
       → record { asked = e; terms = terms; vertices = c.vertices; edges = c.edges } ≡ quote_in d s ends l c limit rings e
@@ -64,7 +62,8 @@ module _ (d s ends : List ℕ) (c : Counts) (limit : ℕ) (rings : Bool) (e : Ed
   intent_checked x g = rw (← h, q) g
 
 -- an edge that passed is placed by its commit, as planned
-pub intent_passed : (d s ends : List ℕ) (c : Counts) (limit : ℕ) (rings : Bool) (e : Edge) (k : Checked) (a b : Vertex) (l : Millimetres) (v : Millilitres) (p : Plan)
-    → k ≡ Passed a b l v → as_checked k ≡ check_in c limit e → p ≡ plan_for (work_for (case_in d a.0 b.0) a.0 b.0) d s ends a.0 b.0 c.edges rings
-    → place a.0 b.0 l.0 v.0 p ≡ intent_in d s ends c limit rings e
-intent_passed d s ends c limit rings e k a b l v p q h g = intent_checked d s ends c limit rings e k (Passed a b l v) q h _ (rw g)
+pub intent_passed : (d s ends : List ℕ) (c : Counts) (limit : ℕ) (rings : Bool) (e : Edge) (k : Result Checked Refusal) (x : Checked) (p : Plan)
+    → k ≡ Ok x → as_checked k ≡ check_in c limit e
+    → p ≡ plan_for (work_for (case_in d x.first.0 x.second.0) x.first.0 x.second.0) d s ends x.first.0 x.second.0 c.edges rings
+    → place x.first.0 x.second.0 x.length.0 x.volume.0 p ≡ intent_in d s ends c limit rings e
+intent_passed d s ends c limit rings e k x p q h g = intent_checked d s ends c limit rings e k (Ok x) q h _ (rw g)

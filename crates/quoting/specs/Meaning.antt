@@ -1,9 +1,10 @@
--- What the enum of this crate stands for.
+-- What the answer of this crate stands for.
 use Rattle.counters.specs.Refusals.{number_of}
 use Rattle.quoting.specs.Intents.{IntentIn, place, refuse}
 use Rattle.quoting.specs.declared.edges.Intent.{Intent}
-use Rattle.quoting.specs.declared.edges.Intent.TheVariants as intent
+use Rattle.counters.specs.declared.refusals.Refusal.{Refusal}
+use Rattle.std.specs.Prelude.{Result, Ok, Err}
 
-abbrev pub as_intent : Intent → IntentIn
-as_intent (intent.Place a b l v plan) = place a.0 b.0 l.0 v.0 plan
-as_intent (intent.Refuse x) = refuse (number_of x)
+abbrev pub as_intent : Result Intent Refusal → IntentIn
+as_intent (Ok i) = place i.edge.first.0 i.edge.second.0 i.edge.length.0 i.edge.volume.0 i.plan
+as_intent (Err x) = refuse (number_of x)

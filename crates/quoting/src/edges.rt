@@ -1,5 +1,5 @@
 // The quote of an edge (document 02, S-5), made together with what its commit does. Nothing is written.
-ghost use Rattle.std.specs.Prelude.{◌≡◌};
+ghost use Rattle.std.specs.Prelude.{◌≡◌, Ok};
 ghost use Rattle.model.specs.Register.{case_number};
 ghost use Rattle.counters.specs.Answers.{as_counts};
 ghost use Rattle.counters.specs.Quotes.{number_of_case, as_terms, as_quote};
@@ -15,32 +15,32 @@ use crate::plans::count_planned;
 use checking::cases::{Case, case_of, class_of};
 use checking::checks::{Checked, check_edge};
 use counters::counts::Counts;
-use counters::numbers::{Millilitres, Millimetres, Vertex};
-use counters::quotes::{Quote, QuotedCase, Terms};
+use counters::numbers::Vertex;
+use counters::quotes::{Offer, Quote, QuotedCase};
 use counters::refusals::Refusal;
 use counting::counts::Estimate;
 use placement::placing::work_of;
 use placement::planning::{Plan, plan_work};
 use tables::kinds::degree_of;
 
-// What the commit of a quote does: the edge is placed as planned, or refused.
+// What the commit of a quote does: the edge is placed as planned.
 #[derive(Clone, Copy)]
-pub enum Intent {
-    Place(Vertex, Vertex, Millimetres, Millilitres, Plan),
-    Refuse(Refusal),
+pub struct Intent {
+    pub edge: Checked,
+    pub plan: Plan,
 }
 
-// A quote, with what its commit does.
+// A quote, with what its commit does, or its refusal.
 #[derive(Clone, Copy)]
 pub struct Prepared {
     pub quote: Quote,
-    pub intent: Intent,
+    pub intent: Result<Intent, Refusal>,
 }
 
-// The terms of an edge that no refusal holds of, with its plan.
+// What is offered of an edge that no refusal holds of, with its plan.
 #[derive(Clone, Copy)]
-pub struct Offer {
-    pub terms: Terms,
+pub struct Offered {
+    pub offer: Offer,
     pub plan: Plan,
 }
 
@@ -61,14 +61,20 @@ fn quoted_case(case: Case) -> QuotedCase
 }
 
 // "Its case (one of the six, or a ring) and re-hangings".
-fn terms_of(case: Case, estimate: Estimate) -> Terms
-    ensures { as_terms result ≡ offer_in (as_case case) (estimated estimate.ring estimate.count) }
+fn offer_of(case: Case, estimate: Estimate) -> Offer
+    ensures { as_terms (Ok result) ≡ offer_in (as_case case) (estimated estimate.ring estimate.count) }
 {
+    let relabellings = estimate.count;
     if estimate.ring {
-        return Terms::Offers(QuotedCase::Ring, estimate.count);
+        return Offer {
+            case: QuotedCase::Ring,
+            relabellings,
+        };
     }
-    let quoted = quoted_case(case);
-    Terms::Offers(quoted, estimate.count)
+    Offer {
+        case: quoted_case(case),
+        relabellings,
+    }
 }
 
 // The edge between a and b, with so many edges before it. Only a quote needs the count: where it is left unused the compiler leaves out the
@@ -82,8 +88,8 @@ fn offer_edge(
     a: Vertex,
     b: Vertex,
     rings: bool,
-) -> Offer
-    ensures { (as_terms result.terms ≡ offer_in (case_in degrees.now a.0 b.0)
+) -> Offered
+    ensures { (as_terms (Ok result.offer) ≡ offer_in (case_in degrees.now a.0 b.0)
         (work_count_in (work_for (case_in degrees.now a.0 b.0) a.0 b.0)
         degrees.now sides.now ends.now labels.now a.0 b.0 edges rings))
         × (result.plan ≡ plan_for (work_for (case_in degrees.now a.0 b.0) a.0 b.0)
@@ -93,13 +99,13 @@ fn offer_edge(
     let work = work_of(case, a, b);
     let plan = plan_work(work, degrees, sides, ends, a, b, edges, rings);
     let estimate = count_planned(plan, degrees, sides, ends, labels, edges);
-    let terms = terms_of(case, estimate);
-    Offer { terms, plan }
+    let offer = offer_of(case, estimate);
+    Offered { offer, plan }
 }
 
 // The pipe asked for, and the counts now.
 fn quote_with(
-    terms: Terms,
+    terms: Result<Offer, Refusal>,
     counts: Counts,
     first: u16,
     second: u16,
@@ -146,18 +152,18 @@ pub fn prepare_edge(
 {
     let checked = check_edge(counts, limit, first, second, length, volume);
     match checked {
-        Checked::Passed(a, b, millimetres, millilitres) => {
-            let offer = offer_edge(degrees, sides, ends, labels, counts.edges, a, b, rings);
-            let terms = offer.terms;
-            let plan = offer.plan;
-            let quote = quote_with(terms, counts, first, second, length, volume);
-            let intent = Intent::Place(a, b, millimetres, millilitres, plan);
+        Ok(edge) => {
+            let a = edge.first;
+            let b = edge.second;
+            let offered = offer_edge(degrees, sides, ends, labels, counts.edges, a, b, rings);
+            let plan = offered.plan;
+            let quote = quote_with(Ok(offered.offer), counts, first, second, length, volume);
+            let intent = Ok(Intent { edge, plan });
             Prepared { quote, intent }
         }
-        Checked::Refused(refusal) => {
-            let terms = Terms::Declines(refusal);
-            let quote = quote_with(terms, counts, first, second, length, volume);
-            let intent = Intent::Refuse(refusal);
+        Err(refusal) => {
+            let quote = quote_with(Err(refusal), counts, first, second, length, volume);
+            let intent = Err(refusal);
             Prepared { quote, intent }
         }
     }

@@ -15,7 +15,7 @@ use counters::counts::Counts;
 use insertion::vertices::land_vertex;
 use landing::records::{Reading, Step, step_of};
 use list::reader::record_at;
-use list::records::{Cursor, Header, Record, read_header};
+use list::records::{Cursor, Record, read_header};
 
 fn note_record(
     degrees: &mut [u16],
@@ -65,9 +65,7 @@ fn note_records(
     let mut at = from;
     let mut counts = Counts::none();
     let mut rings = false;
-    let mut number: usize = 0;
-    let mut left = list.len();
-    while 0 < left {
+    for number in 0..list.len() {
         let step = note_record(
             degrees, sides, ends, lengths, volumes, counts, list, at, rings,
         );
@@ -76,9 +74,9 @@ fn note_records(
                 let stop = Stop::Whole;
                 return Reading { counts, stop };
             }
-            Step::Landed(after, then, next) => {
-                counts = after;
-                rings = then;
+            Step::Landed(landed, next) => {
+                counts = landed.counts;
+                rings = landed.rings;
                 at = next;
             }
             Step::Refused(refusal) => {
@@ -86,8 +84,6 @@ fn note_records(
                 return Reading { counts, stop };
             }
         }
-        number += 1;
-        left -= 1;
     }
     let stop = Stop::Whole;
     Reading { counts, stop }
@@ -108,8 +104,8 @@ pub fn record_list(
 {
     let header = read_header(list);
     match header {
-        Header::Good(from) => note_records(degrees, sides, ends, lengths, volumes, list, from),
-        Header::Refused(refusal) => {
+        Ok(from) => note_records(degrees, sides, ends, lengths, volumes, list, from),
+        Err(refusal) => {
             let counts = Counts::none();
             let stop = Stop::Stopped(0, refusal);
             Reading { counts, stop }

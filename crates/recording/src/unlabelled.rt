@@ -1,5 +1,5 @@
 // One edge without labels: its refusals, and then the edge itself, the degrees of its ends, and where it stands at them.
-ghost use Rattle.std.specs.Prelude.{◌≡◌, [], ◌≤◌};
+ghost use Rattle.std.specs.Prelude.{◌≡◌, [], ◌≤◌, Ok};
 ghost use Rattle.model.specs.Basics.{max_edges};
 ghost use Rattle.counters.specs.Answers.{as_counts};
 ghost use Rattle.tables.specs.Meaning.{tables};
@@ -8,12 +8,13 @@ ghost use Rattle.insertion.specs.Insertion.{landing_in};
 ghost use Rattle.insertion.specs.Meaning.{as_answer};
 ghost use Rattle.recording.specs.Unlabelled.{place_for, note_in, note_both_in, note_edge_in, unlabelled_in};
 
-use checking::checks::{Checked, check_edge};
+use checking::checks::check_edge;
 use counters::counts::Counts;
 use counters::numbers::{Edge, Millilitres, Millimetres, Vertex};
+use counters::refusals::Refusal;
 use counters::sizes::MAX_EDGES;
 use insertion::edges::{Inserted, record_edge};
-use tables::access::{one_more16, put16};
+use tables::access::{one_more16, put};
 use tables::kinds::degree_of;
 use tables::steps::raise_both;
 
@@ -32,7 +33,7 @@ fn note_end(degrees: &[u16], sides: &mut [u16], v: Vertex, e: Edge)
     let at = 2 * (v.0 as usize);
     let degree = degree_of(degrees, v);
     let place = place_for(degree);
-    put16(sides, at + place, e.0);
+    put(sides, at + place, e.0);
 }
 
 // Edge e comes to two vertices.
@@ -60,7 +61,7 @@ fn note_edge(
     rings: bool,
 ) -> Inserted
     ensures { landing_in
-        (tables degrees.new sides.new ends.new lengths.new volumes.new []) (as_answer result)
+        (tables degrees.new sides.new ends.new lengths.new volumes.new []) (as_answer (Ok result))
         ≡ note_edge_in
         (tables degrees.old sides.old ends.old lengths.old volumes.old [])
         (as_counts counts) rings (record { first = first.0; second = second.0; len = length.0; volume = volume.0 }) }
@@ -69,13 +70,13 @@ fn note_edge(
     let e = Edge(counts.edges);
     note_both(degrees, sides, first, second, e);
     record_edge(ends, lengths, volumes, e, first, second, length, volume);
-    let after = Counts {
+    let counts = Counts {
         vertices: counts.vertices,
         edges: one_more16(counts.edges),
         blocks: counts.blocks,
         relabellings: counts.relabellings,
     };
-    Inserted::Done(after, rings)
+    Inserted { counts, rings }
 }
 
 // Every refusal in its order, without a licence; a refused edge leaves the tables.
@@ -91,28 +92,25 @@ pub fn land_unlabelled(
     length: u32,
     volume: u32,
     rings: bool,
-) -> Inserted
+) -> Result<Inserted, Refusal>
     ensures { landing_in
         (tables degrees.new sides.new ends.new lengths.new volumes.new []) (as_answer result)
         ≡ unlabelled_in
         (tables degrees.old sides.old ends.old lengths.old volumes.old [])
         (as_counts counts) max_edges rings (record { first = first; second = second; len = length; volume = volume }) }
 {
-    let checked = check_edge(counts, MAX_EDGES, first, second, length, volume);
-    match checked {
-        Checked::Passed(a, b, millimetres, millilitres) => note_edge(
-            degrees,
-            sides,
-            ends,
-            lengths,
-            volumes,
-            counts,
-            a,
-            b,
-            millimetres,
-            millilitres,
-            rings,
-        ),
-        Checked::Refused(refusal) => Inserted::Refused(refusal),
-    }
+    let edge = check_edge(counts, MAX_EDGES, first, second, length, volume)?;
+    Ok(note_edge(
+        degrees,
+        sides,
+        ends,
+        lengths,
+        volumes,
+        counts,
+        edge.first,
+        edge.second,
+        edge.length,
+        edge.volume,
+        rings,
+    ))
 }

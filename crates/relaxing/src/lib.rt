@@ -2,5 +2,4 @@
 // the edges were tried before.
 #![tactic(auto)]
 
-pub mod access;
 pub mod relax;

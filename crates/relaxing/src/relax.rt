@@ -1,24 +1,11 @@
 // Edges that lower tentative distances, and rounds over all edges until none does.
-ghost use Rattle.std.specs.Prelude.{◌≡◌, true, false, ℕ, ◌<◌, min, max};
+ghost use Rattle.std.specs.Prelude.{◌≡◌, true, false, ℕ, ◌<◌};
 ghost use Rattle.relaxing.specs.Distances.{Bounded, Within, Still, Relaxed, Round, Settled, Counted};
 
-use crate::access::{at16_within, of32_within, put32_within};
-use tables::access::of32;
+use tables::access::of;
 
 // The answer of a step that lowered nothing.
 pub const NO_VERTEX: u16 = 65535;
-
-fn lesser(a: u32, b: u32) -> u32
-    ensures { result ≡ min a b }
-{
-    if a < b { a } else { b }
-}
-
-fn greater(a: u32, b: u32) -> u32
-    ensures { result ≡ max a b }
-{
-    if a < b { b } else { a }
-}
 
 // Tries edge e: one of its ends may get a lesser distance from the other, where that is below best. The answer is the vertex whose
 // distance is less now. An edge as long as best lowers nothing below it; for the others one test decides.
@@ -26,24 +13,24 @@ fn relax(ends: &[u16], lengths: &[u32], distances: &mut [u32], e: u16, best: u32
     requires { Within ends.now lengths.now distances.old e }
     ensures { Relaxed ends.now lengths.now distances.old distances.new best e result }
 {
-    let len = of32_within(lengths, e);
+    let len = lengths[e as usize];
     if best <= len {
         return NO_VERTEX;
     }
     let i = 2 * (e as usize);
-    let a = at16_within(ends, i);
-    let b = at16_within(ends, i + 1);
-    let da = of32_within(distances, a);
-    let db = of32_within(distances, b);
-    let sum = lesser(da, db) + len;
-    if lesser(best, greater(da, db)) <= sum {
+    let a = ends[i];
+    let b = ends[i + 1];
+    let da = distances[a as usize];
+    let db = distances[b as usize];
+    let sum = da.min(db) + len;
+    if best.min(da.max(db)) <= sum {
         return NO_VERTEX;
     }
     if da < db {
-        put32_within(distances, b, sum);
+        distances[b as usize] = sum;
         return b;
     }
-    put32_within(distances, a, sum);
+    distances[a as usize] = sum;
     a
 }
 
@@ -61,11 +48,9 @@ pub fn relax_all(ends: &[u16], lengths: &[u32], distances: &mut [u32], edges: u1
     ensures { Round ends.now lengths.now edges distances.old distances.new best result }
 {
     let mut changes: u16 = 0;
-    let mut e: u16 = 0;
-    while e < edges {
+    for e in 0..edges {
         let r = relax(ends, lengths, distances, e, best);
         changes = counted(changes, r);
-        e += 1;
     }
     changes
 }
@@ -75,14 +60,14 @@ fn may_lower(ends: &[u16], lengths: &[u32], distances: &[u32], e: u16, best: u32
     requires { Within ends.now lengths.now distances.now e }
     ensures { result ≡ false → Still ends.now lengths.now distances.now best e }
 {
-    let len = of32_within(lengths, e);
+    let len = lengths[e as usize];
     let i = 2 * (e as usize);
-    let a = at16_within(ends, i);
-    let b = at16_within(ends, i + 1);
-    let da = of32_within(distances, a);
-    let db = of32_within(distances, b);
-    let sum = lesser(da, db) + len;
-    let high = lesser(best, greater(da, db));
+    let a = ends[i];
+    let b = ends[i + 1];
+    let da = distances[a as usize];
+    let db = distances[b as usize];
+    let sum = da.min(db) + len;
+    let high = best.min(da.max(db));
     if high <= sum {
         return false;
     }
@@ -94,12 +79,10 @@ fn all_still(ends: &[u16], lengths: &[u32], distances: &[u32], edges: u16, best:
     requires { Bounded ends.now lengths.now edges distances.now }
     ensures { result ≡ true → (e : ℕ) → e < edges → Still ends.now lengths.now distances.now best e }
 {
-    let mut e: u16 = 0;
-    while e < edges {
+    for e in 0..edges {
         if may_lower(ends, lengths, distances, e, best) {
             return false;
         }
-        e += 1;
     }
     true
 }
@@ -111,8 +94,9 @@ pub fn settle(ends: &[u16], lengths: &[u32], distances: &mut [u32], edges: u16, 
     requires { Bounded ends.now lengths.now edges distances.old }
     ensures { Settled ends.now lengths.now edges from distances.old distances.new }
 {
+    // It ends by what it finds, and not by a count.
     loop {
-        let best = of32(distances, from);
+        let best = of(distances, from);
         if all_still(ends, lengths, distances, edges, best) {
             return;
         }

@@ -4,7 +4,7 @@ use mathlib.Core.Path.{◌≡◌, refl, sym, ap, ◌∙◌}
 use Prim.Native.Nat.{ℕ, ◌*◌, ◌<◌}
 use native.Mathlib.Omega.{arith}
 use mathlib.Core.Bool.{Bool, true, false, ◌||◌}
-use mathlib.Core.Option.{none}
+use mathlib.Core.Option.{Option, none}
 use mathlib.Core.List.{List}
 use lib.ListN.{length}
 use lib.Dec.{leb, ltb}
@@ -23,6 +23,8 @@ use Rattle.theory.proofs.Registers.Reachable.{founded}
 use Rattle.nursery.specs.Calls.{effect, remove_effect, removes}
 use Rattle.nursery.specs.Removal.{Change, change_numbers, changes_from, kept_with, max_removals, remove, removed, without}
 use Rattle.nursery.proofs.Removal.{numbers_three}
+use Rattle.lent.specs.declared.slices.Tables.{Tables as LentTables}
+use Rattle.lent.specs.Lent.{of_lent, SameLent}
 use Rattle.tables.specs.Steps.{zeroed}
 use Rattle.insertion.specs.Insertion.{AnswerIn, LandingIn, done, landing_in, refused_in}
 use Rattle.admission.specs.Own.{Outcome, house_of, own_step, scratch_after}
@@ -41,12 +43,17 @@ use Rattle.rest.proofs.RestLeft.{Left, rest_left}
 -- ---- the other edges, landed or not
 
 -- tables that keep their lengths keep their sizes
-pub sizes_kept : (t t' : Tables)
-    → (length t'.degrees ≡ length t.degrees) × ((length t'.sides ≡ length t.sides) × ((length t'.ends ≡ length t.ends)
-    × ((length t'.lengths ≡ length t.lengths) × ((length t'.volumes ≡ length t.volumes) × (length t'.labels ≡ length t.labels)))))
-    → sizes t' ≡ sizes t
+pub sizes_kept : {s t : LentTables} → SameLent s t → sizes (of_lent s) ≡ sizes (of_lent t)
 unfolding sizes
-sizes_kept t t' k = rw (k.0, k.1.0, k.1.1.0, k.1.1.1.0, k.1.1.1.1.0, k.1.1.1.1.1)
+sizes_kept k = rw (k.degrees_long, k.sides_long, k.ends_long, k.lengths_long, k.volumes_long, k.labels_long)
+
+-- the register as it was viewed
+pub viewed : (v t s : Tables) (c : Counts) (d : ℕ) (l : LandingIn) → v ≡ t → l ≡ rest_in v.ends v.lengths v.volumes c d s → l ≡ rest_in t.ends t.lengths t.volumes c d s
+viewed v t s c d l e h = rw (← e) h
+
+pub gated : (v t s s' : Tables) (c : Counts) (x : Option ℕ) → v ≡ t → (x ≡ barred (lent v c s)) × (s' ≡ scratch_after (lent v c s))
+    → (x ≡ barred (lent t c s)) × (s' ≡ scratch_after (lent t c s))
+gated v t s s' c x e h = rw (← e) h
 
 module _ (t s s' : Tables) (c : Counts) (d : ℕ) (xs : List ℕ) (a : AnswerIn) (e : landing_in s' a ≡ rest_in t.ends t.lengths t.volumes c d s) where
   tables_are : (rest_in t.ends t.lengths t.volumes c d s).tables ≡ s'
@@ -121,10 +128,6 @@ settled_as limit removals r g d xs l k x = go (ltb (length xs) (3 * length cs)) 
     go false b = rw (same, zero_again, is, numbers_three cs, b)
 
 -- ---- behind an open gate
-
--- an edge that is there
-pub edge_there : (edges removals d : ℕ) (b : Bool) → b ≡ (leb edges d || leb max_removals removals) → b ≡ false → d < edges
-edge_there edges removals d b n q = leb-false edges d (or_false (leb edges d) (leb max_removals removals) (sym n ∙ q)).0
 
 module _ (limit removals : ℕ) (t : Tables) (c : Counts) (s s' : Tables) (d : ℕ) (xs : List ℕ) (b : Bool) (h : none ≡ barred (lent t c s)) (e : s' ≡ scratch_after (lent t c s))
     (n : b ≡ (leb c.edges d || leb max_removals removals)) where

@@ -4,19 +4,21 @@ ghost use Rattle.model.specs.Tables.{sizes};
 ghost use Rattle.nursery.specs.Calls.{removes};
 ghost use Rattle.nursery.specs.Removal.{max_removals};
 ghost use Rattle.counters.specs.Answers.{as_counts};
+ghost use Rattle.lent.specs.Lent.{of_lent, SameLent};
 ghost use Rattle.tables.specs.Meaning.{tables};
 ghost use Rattle.admission.specs.Lent.{lent, outcome};
 ghost use Rattle.admission.specs.Own.{own_step};
 ghost use Rattle.settling.specs.Meaning.{removed_reply};
 ghost use Rattle.removing.specs.Removing.{removed_in};
 
-use admission::gate::{Gate, pass_gate};
+use admission::gate::pass_gate;
 use clearing::whole::clear_tables;
+use counters::answers::Answered;
 use counters::counts::Counts;
 use counters::refusals::Refusal;
-use insertion::edges::Inserted;
+use lent::slices::Tables;
 use rest::rest::land_rest;
-use settling::settling::{Removed, RemovedOwn, settle};
+use settling::settling::settle;
 
 // The largest count of removals.
 const MOST_REMOVALS: u32 = 4294967295;
@@ -34,48 +36,31 @@ fn not_removable(edges: u16, removals: u32, edge: u32) -> bool
 // Behind the gate, and an edge that there is: the others are landed anew in scratch, which comes cleared.
 fn take_out(
     c: Counts,
-    degrees: &mut [u16],
-    sides: &mut [u16],
-    ends: &mut [u16],
-    lengths: &mut [u32],
-    volumes: &mut [u32],
-    labels: &mut [u32],
-    sdegrees: &mut [u16],
-    ssides: &mut [u16],
-    sends: &mut [u16],
-    slengths: &mut [u32],
-    svolumes: &mut [u32],
-    slabels: &mut [u32],
+    register: &mut Tables,
+    scratch: &mut Tables,
     edge: u16,
     out: &mut [u32],
-) -> RemovedOwn
+) -> Answered<u16>
     requires { edge < c.edges }
-    ensures { sizes (tables sdegrees.old ssides.old sends.old slengths.old svolumes.old slabels.old)
-        ≡ sizes (tables degrees.old sides.old ends.old lengths.old volumes.old labels.old)
-        → outcome (tables degrees.new sides.new ends.new lengths.new volumes.new labels.new) (as_counts result.counts)
-        (tables sdegrees.new ssides.new sends.new slengths.new svolumes.new slabels.new) out.new (removed_reply result.answer)
-        ≡ removed_in (tables degrees.old sides.old ends.old lengths.old volumes.old labels.old) (as_counts c)
-        (tables sdegrees.old ssides.old sends.old slengths.old svolumes.old slabels.old) edge out.old }
+    ensures lent { SameLent register.new register.old × SameLent scratch.new scratch.old }
+    ensures takes { sizes (of_lent scratch.old) ≡ sizes (of_lent register.old)
+        → outcome (of_lent register.new) (as_counts result.counts) (of_lent scratch.new) out.new (removed_reply result.answer)
+        ≡ removed_in (of_lent register.old) (as_counts c) (of_lent scratch.old) edge out.old }
 {
-    let rest = land_rest(
-        ends, lengths, volumes, c, edge, sdegrees, ssides, sends, slengths, svolumes, slabels,
-    );
-    match rest {
-        Inserted::Done(next, rings) => settle(
-            c, next, degrees, sides, ends, lengths, volumes, labels, sdegrees, ssides, sends,
-            slengths, svolumes, slabels, out,
-        ),
-        Inserted::Refused(refusal) => {
-            clear_tables(sdegrees, ssides, sends, slengths, svolumes, slabels);
-            RemovedOwn {
+    match land_rest(&register.view(), c, edge, scratch) {
+        Ok(landed) => settle(c, landed.counts, register, scratch, out),
+        Err(refusal) => {
+            clear_tables(scratch);
+            Answered {
                 counts: c,
-                answer: Removed::Refused(refusal),
+                answer: Err(refusal),
             }
         }
     }
 }
 
 // The pipe of this number, from a house that has counted so many removals.
+// The register comes as slices: of a part that is lent in a struct the borrow checker does not tell what it holds afterwards.
 pub fn remove_own(
     c: Counts,
     removals: u32,
@@ -85,54 +70,34 @@ pub fn remove_own(
     lengths: &mut [u32],
     volumes: &mut [u32],
     labels: &mut [u32],
-    sdegrees: &mut [u16],
-    ssides: &mut [u16],
-    sends: &mut [u16],
-    slengths: &mut [u32],
-    svolumes: &mut [u32],
-    slabels: &mut [u32],
+    scratch: &mut Tables,
     edge: u32,
     out: &mut [u32],
-) -> RemovedOwn
-    ensures { (limit : ℕ) → outcome (tables degrees.new sides.new ends.new lengths.new volumes.new labels.new) (as_counts result.counts)
-        (tables sdegrees.new ssides.new sends.new slengths.new svolumes.new slabels.new) out.new (removed_reply result.answer)
+) -> Answered<u16>
+    ensures lent { SameLent scratch.new scratch.old }
+    ensures steps { (limit : ℕ) → outcome (tables degrees.new sides.new ends.new lengths.new volumes.new labels.new) (as_counts result.counts) (of_lent scratch.new) out.new (removed_reply result.answer)
         ≡ own_step limit removals (removes edge out.old)
-        (lent (tables degrees.old sides.old ends.old lengths.old volumes.old labels.old) (as_counts c)
-        (tables sdegrees.old ssides.old sends.old slengths.old svolumes.old slabels.old)) }
+        (lent (tables degrees.old sides.old ends.old lengths.old volumes.old labels.old) (as_counts c) (of_lent scratch.old)) }
 {
-    let passed = pass_gate(
-        degrees, sides, ends, lengths, volumes, labels, c, sdegrees, ssides, sends, slengths,
-        svolumes, slabels,
-    );
-    match passed {
-        Gate::Open => {
-            if not_removable(c.edges, removals, edge) {
-                return RemovedOwn {
-                    counts: c,
-                    answer: Removed::Refused(Refusal::NotRemovable),
-                };
-            }
-            take_out(
-                c,
-                degrees,
-                sides,
-                ends,
-                lengths,
-                volumes,
-                labels,
-                sdegrees,
-                ssides,
-                sends,
-                slengths,
-                svolumes,
-                slabels,
-                edge as u16,
-                out,
-            )
-        }
-        Gate::Refused(refusal) => RemovedOwn {
+    let mut register = Tables {
+        degrees,
+        sides,
+        ends,
+        lengths,
+        volumes,
+        labels,
+    };
+    if let Err(refusal) = pass_gate(&register.view(), c, scratch) {
+        return Answered {
             counts: c,
-            answer: Removed::Refused(refusal),
-        },
+            answer: Err(refusal),
+        };
     }
+    if not_removable(c.edges, removals, edge) {
+        return Answered {
+            counts: c,
+            answer: Err(Refusal::NotRemovable),
+        };
+    }
+    take_out(c, &mut register, scratch, edge as u16, out)
 }

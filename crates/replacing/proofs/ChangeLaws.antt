@@ -4,7 +4,7 @@ use mathlib.Core.Path.{◌≡◌, refl, sym, ap, ◌∙◌}
 use Prim.Native.Nat.{ℕ, zero, suc, ◌+◌, ◌-◌, ◌≤◌, ◌<◌}
 use native.Mathlib.Omega.{arith}
 use native.Mathlib.Nat.{not-suc-le-zero}
-use native.Mathlib.Numerals.{sub-one, add-one}
+use native.Mathlib.Numerals.{add-one}
 use mathlib.Core.Bool.{Bool, true, false}
 use mathlib.Core.List.{List, [], ◌∷◌, ◌++◌}
 use lib.ListN.{length, get_or, length-append}
@@ -58,37 +58,36 @@ module _ (olds news : List ℕ) where
   none_left zero v h = refl
   none_left (suc n) v h = absurd (not-suc-le-zero h)
 
-  turn : (n v : ℕ) → 0 < n → changes_in olds news n v ≡ change_at v (get_or olds v 0) (get_or news v 0) ++ changes_in olds news (n - 1) (v + 1)
+  turn : (n v : ℕ) → v < n → changes_in olds news (n - v) v ≡ change_at v (get_or olds v 0) (get_or news v 0) ++ changes_in olds news (n - (v + 1)) (v + 1)
   unfolding changes_in
-  turn zero v h = absurd (not-suc-le-zero h)
-  turn (suc n) v h = rw sub-one
+  turn n v h = let next : n - v ≡ suc (n - (v + 1)) = omega (arith, h) in rw next
 
   -- counting: a turn of the loop, and its end
-  pub count_turn : (n v k old new more : ℕ) → 0 < n → old ≡ get_or olds v 0 → new ≡ get_or news v 0 → more ≡ (if eqb old new then 0 else 1)
-      → k + more + length (changes_in olds news (n - 1) (v + 1)) ≡ k + length (changes_in olds news n v)
+  pub count_turn : (n v k old new more : ℕ) → v < n → old ≡ get_or olds v 0 → new ≡ get_or news v 0 → more ≡ (if eqb old new then 0 else 1)
+      → k + more + length (changes_in olds news (n - (v + 1)) (v + 1)) ≡ k + length (changes_in olds news (n - v) v)
   count_turn n v k old new more h a b m =
       let l : length (change_at v old new) ≡ more = change_length v old new ∙ sym m in
-      let t : changes_in olds news n v ≡ change_at v old new ++ changes_in olds news (n - 1) (v + 1) = rw (a, b) (turn n v h) in
-      let s : length (changes_in olds news n v) ≡ length (change_at v old new ++ changes_in olds news (n - 1) (v + 1)) = ap length t in
-      omega (arith, s, l, length-append (change_at v old new) (changes_in olds news (n - 1) (v + 1)))
+      let t : changes_in olds news (n - v) v ≡ change_at v old new ++ changes_in olds news (n - (v + 1)) (v + 1) = rw (a, b) (turn n v h) in
+      let s : length (changes_in olds news (n - v) v) ≡ length (change_at v old new ++ changes_in olds news (n - (v + 1)) (v + 1)) = ap length t in
+      omega (arith, s, l, length-append (change_at v old new) (changes_in olds news (n - (v + 1)) (v + 1)))
 
-  pub count_end : (n v k all : ℕ) → n ≤ 0 → k + length (changes_in olds news n v) ≡ all → k ≡ all
-  count_end n v k all h e = let z : length (changes_in olds news n v) ≡ 0 = ap length (none_left n v h) in omega (arith, e, z)
+  pub count_end : (n v k all : ℕ) → n ≤ v → k + length (changes_in olds news (n - v) v) ≡ all → k ≡ all
+  count_end n v k all h e = let z : length (changes_in olds news (n - v) v) ≡ 0 = ap length (none_left (n - v) v (omega (arith, h))) in omega (arith, e, z)
 
   -- writing: the same
-  pub put_turn : (n v old new : ℕ) (p q : Page) → 0 < n → old ≡ get_or olds v 0 → new ≡ get_or news v 0 → q ≡ write (change_numbers (change_at v old new)) p
-      → write (change_numbers (changes_in olds news (n - 1) (v + 1))) q ≡ write (change_numbers (changes_in olds news n v)) p
+  pub put_turn : (n v old new : ℕ) (p q : Page) → v < n → old ≡ get_or olds v 0 → new ≡ get_or news v 0 → q ≡ write (change_numbers (change_at v old new)) p
+      → write (change_numbers (changes_in olds news (n - (v + 1)) (v + 1))) q ≡ write (change_numbers (changes_in olds news (n - v) v)) p
   put_turn n v old new p q h a b e =
-      let rest = changes_in olds news (n - 1) (v + 1) in
-      let t : changes_in olds news n v ≡ change_at v old new ++ rest = rw (a, b) (turn n v h) in
+      let rest = changes_in olds news (n - (v + 1)) (v + 1) in
+      let t : changes_in olds news (n - v) v ≡ change_at v old new ++ rest = rw (a, b) (turn n v h) in
       ap (write (change_numbers rest)) e
       ∙ sym (write_append (change_numbers (change_at v old new)) (change_numbers rest) p)
       ∙ ap (λ (ns : List ℕ). write ns p) (sym (numbers_append (change_at v old new) rest) ∙ ap change_numbers (sym t))
 
-  pub put_end : (n v : ℕ) (p q : Page) → n ≤ 0 → write (change_numbers (changes_in olds news n v)) p ≡ q → p.slice ≡ q.slice
+  pub put_end : (n v : ℕ) (p q : Page) → n ≤ v → write (change_numbers (changes_in olds news (n - v) v)) p ≡ q → p.slice ≡ q.slice
   unfolding write change_numbers
   put_end n v p q h e =
-      let z : write (change_numbers (changes_in olds news n v)) p ≡ p = ap (λ (cs : List Change). write (change_numbers cs) p) (none_left n v h) in
+      let z : write (change_numbers (changes_in olds news (n - v) v)) p ≡ p = ap (λ (cs : List Change). write (change_numbers cs) p) (none_left (n - v) v (omega (arith, h))) in
       ap (λ (x : Page). x.slice) (sym z ∙ e)
 
 -- ---- over whole lists of one length these are the changes

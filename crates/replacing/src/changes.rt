@@ -4,7 +4,7 @@ ghost use Rattle.text.specs.Pages.{page, write};
 ghost use Rattle.nursery.specs.Removal.{change_numbers};
 ghost use Rattle.replacing.specs.Changes.{change_at, changes_in};
 
-use tables::access::of32;
+use tables::access::of;
 use text::writing::put_u32;
 
 // 1 where a label differs.
@@ -22,12 +22,8 @@ pub fn count_changes(olds: &[u32], news: &[u32], n: u16) -> u16
     ensures { result ≡ length (changes_in olds.now news.now n 0) }
 {
     let mut count: u16 = 0;
-    let mut v: u16 = 0;
-    let mut left = n;
-    while 0 < left {
-        count += changed(of32(olds, v), of32(news, v));
-        v += 1;
-        left -= 1;
+    for v in 0..n {
+        count += changed(of(olds, v), of(news, v));
     }
     count
 }
@@ -49,11 +45,7 @@ pub fn put_changes(olds: &[u32], news: &[u32], n: u16, out: &mut [u32])
     ensures { out.new ≡ (write (change_numbers (changes_in olds.now news.now n 0)) (page out.old 0)).slice }
 {
     let mut next: usize = 0;
-    let mut v: u16 = 0;
-    let mut left = n;
-    while 0 < left {
-        next = put_change(out, next, v, of32(olds, v), of32(news, v));
-        v += 1;
-        left -= 1;
+    for v in 0..n {
+        next = put_change(out, next, v, of(olds, v), of(news, v));
     }
 }

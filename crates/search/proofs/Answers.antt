@@ -1,13 +1,15 @@
 -- The distances that the search begins with, and the answer that it ends with.
-use mathlib.Core.Path.{◌≡◌, ◌∙◌}
+use Rattle.counters.specs.declared.numbers.Millimetres.{Millimetres}
+use Rattle.std.specs.Prelude.{Option}
+use mathlib.Core.Path.{◌≡◌, ap, ◌∙◌}
 use mathlib.Core.Logic.{◌≢◌}
-use Prim.Native.Nat.{ℕ, ◌+◌, ◌≤◌, ◌<◌}
+use Prim.Native.Nat.{ℕ, ◌≤◌, ◌<◌}
 use native.Mathlib.Decide.{ℕ_discrete, dec_lt}
 use native.Mathlib.Omega.{arith}
 use mathlib.Core.List.{List, []}
-use lib.ListN.{length, get_or, set, length-set}
+use lib.ListN.{length, get_or, set, replicate, length-set, length-replicate}
 use lib.Seq.{get_or-set_same, get_or-set_other}
-use borrow.Author.Count.{below_more}
+use Rattle.std.proofs.lemmas.List.{get_or-replicate}
 use Rattle.model.specs.Basics.{max_vertices}
 use Rattle.model.specs.Distance.{Way, IsDistance, joined, not_joined, distance}
 use Rattle.model.specs.Tables.{stored_edges}
@@ -17,23 +19,16 @@ use Rattle.tables.specs.Steps.{edges_of}
 use Rattle.search.specs.Meaning.{as_distance}
 use Rattle.relaxing.specs.Distances.{unreached, Searchable, Reason, is_goal, Grounded, Settled}
 use Rattle.search.specs.Search.{Started}
-use Rattle.search.specs.declared.shortest.Distance.{Distance}
 use Rattle.relaxing.proofs.Edges.{distance_only}
 use Rattle.relaxing.proofs.Settled.{settled_joined, settled_none}
 
--- a table filled with one number, but for the goal
-pub filled_more : (distances distances' : List ℕ) (i v : ℕ) → i < length distances → distances' ≡ set distances i v → ((k : ℕ) → k < i → get_or distances k 0 ≡ v)
-    → (k : ℕ) → k < i + 1 → get_or distances' k 0 ≡ v
-filled_more distances distances' i v l q f =
-    rw q (below_more _ i (λ k b. get_or-set_other distances i k v 0 (λ z. omega arith) ∙ f k b) (get_or-set_same distances i v 0 l))
-
 -- a table with `unreached` everywhere and 0 at the goal is how a search starts
-pub filled_but : (distances distances' : List ℕ) (goal i : ℕ) → goal < length distances → distances' ≡ set distances goal 0 → length distances ≤ i
-    → ((k : ℕ) → k < i → get_or distances k 0 ≡ unreached) → Started distances' goal
-filled_but distances distances' goal i l q b f =
+pub filled_but : (distances distances' : List ℕ) (goal n : ℕ) → goal < n → distances ≡ replicate n unreached → distances' ≡ set distances goal 0 → Started distances' goal
+filled_but distances distances' goal n l f q =
+    let r : length distances ≡ n = ap length f ∙ length-replicate n unreached in
     rw q (record {
-      others = λ k c o. get_or-set_other distances goal k 0 0 o ∙ f k (omega (arith, c, length-set distances goal 0));
-      at_goal = get_or-set_same distances goal 0 0 l;
+      others = λ k c o. get_or-set_other distances goal k 0 0 o ∙ rw f (get_or-replicate n k unreached 0 (omega (arith, c, length-set distances goal 0)));
+      at_goal = get_or-set_same distances goal 0 0 (omega (arith, r));
     })
 
 module _ (ends lengths : List ℕ) (m goal : ℕ) where
@@ -58,7 +53,7 @@ module _ (ends lengths : List ℕ) (m goal : ℕ) where
       reason' v l r (no q) = absurd (omega (arith, far v l q))
 
   -- settled distances are the model's
-  pub answers : (from : ℕ) (distances distances' : List ℕ) (d : ℕ) (r : Distance) → from < max_vertices → goal < max_vertices → Grounded ends lengths m goal distances
+  pub answers : (from : ℕ) (distances distances' : List ℕ) (d : ℕ) (r : Option Millimetres) → from < max_vertices → goal < max_vertices → Grounded ends lengths m goal distances
       → Settled ends lengths m from distances distances' → d ≡ get_or distances' from 0 → (d < unreached → as_distance r ≡ joined d) × (unreached ≤ d → as_distance r ≡ not_joined)
       → (degrees sides volumes labels : List ℕ) → as_distance r ≡ distance (stored_edges (tables degrees sides ends lengths volumes labels) m) from goal
   answers from distances distances' d r l l' g s q c degrees sides volumes labels =

@@ -1,3 +1,1 @@
 pub mod Answers
-pub mod Linking
-pub mod Searching

@@ -11,7 +11,7 @@ use crate::incidence::{link_between, link_last, with_room};
 use crate::sampling::{NO_LIMIT, first_limit};
 use counters::numbers::Vertex;
 use counters::sizes::{ENDS, MAX_EDGES, VERTICES};
-use tables::access::{of16, of32};
+use tables::access::of;
 
 // Follows the chains from vertex v, two at a time. The answer is the heap's size.
 fn scan(
@@ -31,19 +31,17 @@ fn scan(
     ensures { Keeps ends.now lengths.now edges distances.old distances.new }
 {
     let mut size = queued;
-    let mut j = of16(heads, v);
+    let mut j = of(heads, v);
     // A vertex has at most one end of each edge.
-    let mut left = MAX_EDGES;
-    while 0 < left {
+    for _ in 0..MAX_EDGES {
         if j == 0 {
             break;
         }
-        let k = of16(next, j);
+        let k = of(next, j);
         size = follow_both(
             ends, lengths, edges, heads, heap, next, distances, keys, from, j, k, size,
         );
-        j = of16(next, k);
-        left -= 1;
+        j = of(next, k);
     }
     size
 }
@@ -66,20 +64,18 @@ fn scan_all(
 {
     let mut size = queued;
     // In this order a vertex is scanned once.
-    let mut left = Vertex::COUNT;
-    while 0 < left {
+    for _ in 0..Vertex::COUNT {
         if size == 0 {
             break;
         }
-        if of32(distances, from) <= of32(keys, 1) {
+        if of(distances, from) <= of(keys, 1) {
             break;
         }
-        let v = of16(heap, 1);
+        let v = of(heap, 1);
         size = pop(heap, keys, v, size);
         size = scan(
             ends, lengths, edges, heads, heap, next, distances, keys, from, v, size,
         );
-        left -= 1;
     }
     size
 }
@@ -92,12 +88,10 @@ fn queue_again(
     from: u16,
     queued: u16,
 ) -> u16 {
-    let best = of32(distances, from);
+    let best = of(distances, from);
     let mut size = queued;
-    let mut v: u16 = 0;
-    while v < Vertex::COUNT {
-        size = push_below(heap, keys, v, of32(distances, v), best, size);
-        v += 1;
+    for v in 0..Vertex::COUNT {
+        size = push_below(heap, keys, v, of(distances, v), best, size);
     }
     size
 }
@@ -121,19 +115,15 @@ fn scan_by_length(
 {
     let linked = with_room(edges);
     let mut size = queued;
-    let mut limit = first;
-    let mut low: u32 = 0;
-    while low < NO_LIMIT {
+    for (low, limit) in [(0, first), (first, NO_LIMIT)] {
         link_between(ends, lengths, heads, next, linked, low, limit);
         size = scan_all(
             ends, lengths, edges, heads, heap, next, distances, keys, from, size,
         );
-        if of32(distances, from) <= limit {
+        if of(distances, from) <= limit {
             break;
         }
         size = queue_again(heap, keys, distances, from, size);
-        low = limit;
-        limit = NO_LIMIT;
     }
 }
 

@@ -1,12 +1,10 @@
 // The walk along chains that lowers distances. Where it goes on it reads off the incidence lists, and tests what it reads.
-ghost use Rattle.std.specs.Prelude.{◌<◌};
 ghost use Rattle.relaxing.specs.Distances.{Bounded, Keeps};
 
 use crate::heap::offer;
 use counters::numbers::Vertex;
-use relaxing::access::{at16_within, of32_within, put32_within};
 use relaxing::relax::NO_VERTEX;
-use tables::access::{of16, of32};
+use tables::access::of;
 
 // Tries the edge of end j - 2 from that end's vertex on: the far vertex may get a lesser distance, where that is below best. The answer
 // is the far vertex where it does.
@@ -29,17 +27,17 @@ fn relax_end(
         return NO_VERTEX;
     }
     let i = j as usize;
-    let near = at16_within(ends, i - 2);
-    let sum = of32_within(distances, near) + of32_within(lengths, half - 1);
+    let near = ends[i - 2];
+    let sum = distances[near as usize] + lengths[(half - 1) as usize];
     if best <= sum {
         return NO_VERTEX;
     }
     // The ends of edge half - 1 are 2 half - 2 and 2 half - 1: their sum less this end, j - 2, is the other.
-    let far = at16_within(ends, 4 * (half as usize) - 1 - i);
-    if of32_within(distances, far) <= sum {
+    let far = ends[4 * (half as usize) - 1 - i];
+    if distances[far as usize] <= sum {
         return NO_VERTEX;
     }
-    put32_within(distances, far, sum);
+    distances[far as usize] = sum;
     far
 }
 
@@ -70,7 +68,7 @@ fn advance(
     requires { Bounded ends.now lengths.now edges distances.old }
     ensures { Keeps ends.now lengths.now edges distances.old distances.new }
 {
-    let best = of32(distances, from);
+    let best = of(distances, from);
     let v = relax_end(ends, lengths, edges, distances, j, best);
     if v == NO_VERTEX {
         return Onward {
@@ -79,10 +77,10 @@ fn advance(
         };
     }
     let back = j ^ 1;
-    let behind = of16(next, back);
-    let front = of16(heads, v);
-    let second = of16(next, front);
-    if of16(next, second) != 0 {
+    let behind = of(next, back);
+    let front = of(heads, v);
+    let second = of(next, front);
+    if of(next, second) != 0 {
         return Onward {
             entry: 0,
             branch: v,
@@ -92,19 +90,6 @@ fn advance(
         entry: other_end(front, behind, back),
         branch: NO_VERTEX,
     }
-}
-
-// One turn less; none once both walks have stopped.
-fn turns_left(left: u16, one: u16, two: u16) -> u16
-    requires { 0 < left }
-    ensures { result < left }
-{
-    if one == 0 {
-        if two == 0 {
-            return 0;
-        }
-    }
-    left - 1
 }
 
 // Follows the chains of two edge ends while they lower distances, and queues the branches that they stop at. Two at a time:
@@ -130,15 +115,16 @@ pub fn follow_both(
     let mut two = second;
     let mut size = queued;
     // No chain is longer, since it passes a vertex once.
-    let mut left = Vertex::COUNT;
-    while 0 < left {
+    for _ in 0..Vertex::COUNT {
         let s = advance(ends, lengths, edges, heads, next, distances, from, one);
         let t = advance(ends, lengths, edges, heads, next, distances, from, two);
         size = offer(heap, keys, distances, s.branch, size);
         size = offer(heap, keys, distances, t.branch, size);
         one = s.entry;
         two = t.entry;
-        left = turns_left(left, one, two);
+        if one == 0 && two == 0 {
+            break;
+        }
     }
     size
 }

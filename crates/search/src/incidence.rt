@@ -6,15 +6,14 @@ ghost use Rattle.search.specs.Search.{Linkable};
 
 use crate::sampling::NO_LIMIT;
 use counters::sizes::MAX_EDGES;
-use relaxing::access::{at16_within, of32_within, put16_at, put16_within};
-use tables::access::{of16, put16};
+use tables::access::{of, put};
 
 // An entry comes to the front of the list of vertex v. The answer is what was there.
 fn put_front(heads: &mut [u16], v: u16, entry: u16) -> u16
     requires { v < length heads.old }
 {
-    let front = at16_within(heads, v as usize);
-    put16_within(heads, v, entry);
+    let front = heads[v as usize];
+    heads[v as usize] = entry;
     front
 }
 
@@ -23,12 +22,12 @@ fn link(ends: &[u16], heads: &mut [u16], next: &mut [u16], e: usize)
     requires { Linkable ends.now (length heads.old) (length next.old) e }
 {
     let k = 2 * e;
-    let a = at16_within(ends, k);
-    let b = at16_within(ends, k + 1);
+    let a = ends[k];
+    let b = ends[k + 1];
     let second = put_front(heads, b, (k + 3) as u16);
     let first = put_front(heads, a, (k + 2) as u16);
-    put16_at(next, k + 3, second);
-    put16_at(next, k + 2, first);
+    next[k + 3] = second;
+    next[k + 2] = first;
 }
 
 // The edges below 4,095: for the ends of the last of 4,096 there is no room in next.
@@ -48,17 +47,15 @@ pub fn link_last(ends: &[u16], heads: &mut [u16], edges: u16) {
         return;
     }
     let k = 2 * MAX_EDGES;
-    put16(heads, of16(ends, k - 2) as usize, k);
-    put16(heads, of16(ends, k - 1) as usize, k + 1);
+    put(heads, of(ends, k - 2) as usize, k);
+    put(heads, of(ends, k - 1) as usize, k + 1);
 }
 
 // From the last edge down.
 fn link_all(ends: &[u16], heads: &mut [u16], next: &mut [u16], edges: u16)
     requires { (e : ℕ) → e < edges → Linkable ends.now (length heads.old) (length next.old) e }
 {
-    let mut e = edges as usize;
-    while 0 < e {
-        e -= 1;
+    for e in (0..edges as usize).rev() {
         link(ends, heads, next, e);
     }
 }
@@ -75,7 +72,7 @@ fn link_if(
 )
     requires { (e < length lengths.now) × Linkable ends.now (length heads.old) (length next.old) e }
 {
-    let len = of32_within(lengths, e);
+    let len = lengths[e as usize];
     if len < low {
         return;
     }
@@ -97,9 +94,7 @@ fn link_some(
 )
     requires { (edges ≤ length lengths.now) × ((e : ℕ) → e < edges → Linkable ends.now (length heads.old) (length next.old) e) }
 {
-    let mut e = edges;
-    while 0 < e {
-        e -= 1;
+    for e in (0..edges).rev() {
         link_if(ends, lengths, heads, next, e, low, limit);
     }
 }

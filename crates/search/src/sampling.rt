@@ -3,7 +3,7 @@
 // judged by a sample. It is a hint: where it misleads, the search takes longer, and nothing is proved of it.
 ghost use Rattle.std.specs.Prelude.{◌<◌};
 
-use tables::access::{add32, at16, of32, one_more16};
+use tables::access::{add32, at, of, one_more16};
 
 // Every length is below it.
 pub const NO_LIMIT: u32 = 4294967295;
@@ -17,13 +17,9 @@ const FEW: u16 = 2;
 // With a greater ratio the sample would say little of what is below the limit.
 const MOST_RATIO: u16 = 5;
 
-fn higher(a: u16, b: u16) -> u16 {
-    if a < b { b } else { a }
-}
-
 fn higher_end(ends: &[u16], e: u16) -> u16 {
     let i = 2 * (e as usize);
-    higher(at16(ends, i), at16(ends, i + 1))
+    at(ends, i).max(at(ends, i + 1))
 }
 
 fn one_if_less(count: u16, length: u32, limit: u32) -> u16 {
@@ -34,22 +30,13 @@ fn one_if_less(count: u16, length: u32, limit: u32) -> u16 {
     }
 }
 
-fn at_most(a: u16, most: u16) -> u16
-    requires { (0 < a) × (0 < most) }
-    ensures { 0 < result }
-{
-    if a < most { a } else { most }
-}
-
 // The highest vertex number at an edge of the sample.
 fn sampled_top(ends: &[u16], edges: u16, step: u16) -> u16
     requires { 0 < step }
 {
     let mut top: u16 = 0;
-    let mut e = edges;
-    while step <= e {
-        e -= step;
-        top = higher(top, higher_end(ends, e));
+    for e in (0..edges).step_by(step as usize) {
+        top = top.max(higher_end(ends, e));
     }
     top
 }
@@ -59,10 +46,8 @@ fn sampled_sum(lengths: &[u32], edges: u16, step: u16) -> u32
     requires { 0 < step }
 {
     let mut sum: u32 = 0;
-    let mut e = edges;
-    while step <= e {
-        e -= step;
-        sum = add32(sum, of32(lengths, e));
+    for e in (0..edges).step_by(step as usize) {
+        sum = add32(sum, of(lengths, e));
     }
     sum
 }
@@ -72,10 +57,8 @@ fn sampled_below(lengths: &[u32], edges: u16, step: u16, limit: u32) -> u16
     requires { 0 < step }
 {
     let mut count: u16 = 0;
-    let mut e = edges;
-    while step <= e {
-        e -= step;
-        count = one_if_less(count, of32(lengths, e), limit);
+    for e in (0..edges).step_by(step as usize) {
+        count = one_if_less(count, of(lengths, e), limit);
     }
     count
 }
@@ -107,5 +90,5 @@ pub fn first_limit(ends: &[u16], lengths: &[u32], edges: u16) -> u32 {
     if ratio == 0 {
         return NO_LIMIT;
     }
-    limit_at(lengths, edges, step, at_most(ratio, MOST_RATIO))
+    limit_at(lengths, edges, step, ratio.min(MOST_RATIO))
 }

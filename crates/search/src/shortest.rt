@@ -11,14 +11,7 @@ ghost use Rattle.search.specs.Search.{Started};
 use crate::dijkstra::dijkstra;
 use counters::numbers::Millimetres;
 use relaxing::relax::settle;
-use tables::access::{of32, put32};
-
-// A distance, or that there is no way.
-#[derive(Clone, Copy)]
-pub enum Distance {
-    Joined(Millimetres),
-    NotJoined,
-}
+use tables::access::{of, put};
 
 // Above every distance, which is at most 409,600,000; with an edge's length more it still fits 32 bits.
 const UNREACHED: u32 = 4000000000;
@@ -28,26 +21,22 @@ pub fn start(distances: &mut [u32], goal: u16)
     requires { goal < length distances.old }
     ensures { Started distances.new goal }
 {
-    let mut i = 0;
-    while i < distances.len() {
-        distances[i] = UNREACHED;
-        i += 1;
-    }
-    put32(distances, goal as usize, 0);
+    distances.fill(UNREACHED);
+    put(distances, goal as usize, 0);
 }
 
-// The answer for a settled distance.
-fn answer_of(distance: u32) -> Distance
+// The answer for a settled distance: none where there is no way.
+fn answer_of(distance: u32) -> Option<Millimetres>
     ensures { (distance < unreached → as_distance result ≡ joined distance) × (unreached ≤ distance → as_distance result ≡ not_joined) }
 {
     if distance < UNREACHED {
-        Distance::Joined(Millimetres(distance))
+        Some(Millimetres(distance))
     } else {
-        Distance::NotJoined
+        None
     }
 }
 
-// The distance between two vertices. The five scratch tables are all 0 at the start, or the search is slower; they end in any state.
+// The distance between two vertices, or none where there is no way. The five scratch tables are all 0 at the start, or the search is slower; they end in any state.
 pub fn search(
     ends: &[u16],
     lengths: &[u32],
@@ -59,7 +48,7 @@ pub fn search(
     next: &mut [u16],
     distances: &mut [u32],
     keys: &mut [u32],
-) -> Distance
+) -> Option<Millimetres>
     requires { Searchable ends.now lengths.now edges × ((from < max_vertices) × ((goal < max_vertices) × (max_vertices ≤ length distances.old))) }
     ensures { (degrees sides volumes labels : List ℕ) → as_distance result
         ≡ distance (stored_edges (tables degrees sides ends.now lengths.now volumes labels) edges) from goal }
@@ -69,5 +58,5 @@ pub fn search(
         ends, lengths, edges, heads, heap, next, distances, keys, goal, from,
     );
     settle(ends, lengths, distances, edges, from);
-    answer_of(of32(distances, from))
+    answer_of(of(distances, from))
 }

@@ -1,5 +1,6 @@
 -- What the answer to setting the shares stands for, and the last step of the call.
-use Rattle.std.specs.Prelude.{ℕ, ◌||◌, List, map, ltb, if◌then◌else◌}
+use Rattle.counters.specs.declared.refusals.Refusal.{Refusal}
+use Rattle.std.specs.Prelude.{ℕ, ◌||◌, List, map, ltb, if◌then◌else◌, ⊤, Result, Ok, Err}
 use Rattle.model.specs.Basics.{sum}
 use Rattle.model.specs.Queries.{Reply, allotted, refuses}
 use Rattle.model.specs.Tables.{Counts}
@@ -8,12 +9,10 @@ use Rattle.nursery.specs.Licence.{licence}
 use Rattle.nursery.specs.Calls.{any_some}
 use Rattle.heads.specs.declared.heads.Heads.{Heads}
 use Rattle.heads.specs.Meaning.{as_heads}
-use Rattle.sharing.specs.declared.shares.SharesAnswer.{SharesAnswer}
-use Rattle.sharing.specs.declared.shares.SharesAnswer.TheVariants.{Set, Refused}
 
-abbrev pub shares_reply : SharesAnswer → Reply
-shares_reply Set = allotted
-shares_reply (Refused x) = refuses (number_of x)
+abbrev pub shares_reply : Result ⊤ Refusal → Reply
+shares_reply (Ok _) = allotted
+shares_reply (Err x) = refuses (number_of x)
 
 -- the vertices of each house
 unfoldable pub vertices_of : Heads → List ℕ

@@ -6,31 +6,26 @@ ghost use Rattle.nursery.specs.Calls.{sets_shares, step};
 ghost use Rattle.heads.specs.Meaning.{lent, outcome};
 ghost use Rattle.sharing.specs.Meaning.{allot_in, answered, shares_reply, vertices_of};
 
-use crate::eight::{any_landed, copy_eight, sum_of};
+use crate::eight::{any_landed, sum_of};
 use counters::refusals::Refusal;
 use counters::sizes::MAX_EDGES;
 use heads::heads::Heads;
-use licence::gate::{Passed, pass_others};
-
-#[derive(Clone, Copy)]
-pub enum SharesAnswer {
-    Set,
-    Refused(Refusal),
-}
+use lent::slices::{Tables, View};
+use licence::gate::pass_others;
 
 // 37, or the shares.
-fn allot(heads: Heads, shares: &mut [u16], asked: &[u16]) -> SharesAnswer
+fn allot(heads: Heads, shares: &mut [u16], asked: &[u16]) -> Result<(), Refusal>
     requires { (length shares.old ≡ houses) × (length asked.now ≡ houses) }
     ensures { answered shares.new (shares_reply result) ≡ allot_in asked.now (vertices_of heads) shares.old }
 {
     if (MAX_EDGES as u32) < sum_of(asked) {
-        return SharesAnswer::Refused(Refusal::OutOfPlace);
+        return Err(Refusal::OutOfPlace);
     }
     if any_landed(heads) {
-        return SharesAnswer::Refused(Refusal::OutOfPlace);
+        return Err(Refusal::OutOfPlace);
     }
-    copy_eight(shares, asked);
-    SharesAnswer::Set
+    shares.copy_from_slice(asked);
+    Ok(())
 }
 
 // No house has the number 8: so the gate looks at all eight, and where nothing bars the call it says that there is no such house.
@@ -50,22 +45,34 @@ pub fn set_shares(
     svolumes: &mut [u32],
     slabels: &mut [u32],
     asked: &[u16],
-) -> SharesAnswer
+) -> Result<(), Refusal>
     ensures { outcome (tables degrees.now sides.now ends.now lengths.now volumes.now labels.now) heads shares.new (tables sdegrees.new ssides.new sends.new slengths.new svolumes.new slabels.new) [] (shares_reply result)
         ≡ step (sets_shares asked.now) (lent (tables degrees.now sides.now ends.now lengths.now volumes.now labels.now) heads shares.old (tables sdegrees.old ssides.old sends.old slengths.old svolumes.old slabels.old)) }
 {
     if asked.len() != 8 {
-        return SharesAnswer::Refused(Refusal::WrongSize);
+        return Err(Refusal::WrongSize);
     }
-    let passed = pass_others(
-        degrees, sides, ends, lengths, volumes, labels, heads, shares, sdegrees, ssides, sends,
-        slengths, svolumes, slabels, 8, false,
-    );
-    match passed {
-        Passed::Open(limit) => SharesAnswer::Refused(Refusal::OutOfPlace),
-        Passed::Refused(refusal) => {
-            if refusal.number() != 37 {
-                return SharesAnswer::Refused(refusal);
+    let register = View {
+        degrees,
+        sides,
+        ends,
+        lengths,
+        volumes,
+        labels,
+    };
+    let mut scratch = Tables {
+        degrees: sdegrees,
+        sides: ssides,
+        ends: sends,
+        lengths: slengths,
+        volumes: svolumes,
+        labels: slabels,
+    };
+    match pass_others(&register, heads, shares, &mut scratch, 8, false) {
+        Ok(limit) => Err(Refusal::OutOfPlace),
+        Err(refusal) => {
+            if refusal != Refusal::OutOfPlace {
+                return Err(refusal);
             }
             allot(heads, shares, asked)
         }

@@ -9,15 +9,20 @@ ghost use Rattle.questions.specs.Measure.{Measurable, measure_in};
 ghost use Rattle.pnl.specs.FromC.{returned};
 
 use counters::counts::Counts;
-use counters::numbers::{CheckedVertex, Vertex};
+use counters::numbers::{Millimetres, Vertex};
 use counters::refusals::Refusal;
 use counters::sizes::{ENDS, SIDES, VERTICES};
 use pnl::answers::{answer_numbers, refused};
-use questions::measure::{Measured, measure_in};
-use search::shortest::Distance;
+use questions::measure::measure_in;
 
 // The arrays are the scratch of the search, and end with it.
-fn distance_in(ends: &[u16], lengths: &[u32], counts: Counts, from: Vertex, to: Vertex) -> Measured
+fn distance_in(
+    ends: &[u16],
+    lengths: &[u32],
+    counts: Counts,
+    from: Vertex,
+    to: Vertex,
+) -> Result<Option<Millimetres>, Refusal>
     requires { Measurable ends.now lengths.now (as_counts counts) }
     ensures { (degrees sides volumes labels : List ℕ) → measured_reply result
         ≡ measure_in (tables degrees sides ends.now lengths.now volumes labels) (as_counts counts) from.0 to.0 }
@@ -41,48 +46,35 @@ fn distance_in(ends: &[u16], lengths: &[u32], counts: Counts, from: Vertex, to: 
     )
 }
 
-// The first is checked.
-fn measure_to(ends: &[u16], lengths: &[u32], counts: Counts, from: Vertex, to: u32) -> Measured
-    requires { Measurable ends.now lengths.now (as_counts counts) }
-    ensures { (degrees sides volumes labels : List ℕ) → measured_reply result
-        ≡ measure_in (tables degrees sides ends.now lengths.now volumes labels) (as_counts counts) from.0 to }
-{
-    let checked = Vertex::new(to);
-    match checked {
-        CheckedVertex::Is(v) => distance_in(ends, lengths, counts, from, v),
-        CheckedVertex::OutOfRange => Measured::Refused(Refusal::NotLanded),
-    }
-}
-
 pub fn measure_checked(
     ends: &[u16],
     lengths: &[u32],
     counts: Counts,
     from: u32,
     to: u32,
-) -> Measured
+) -> Result<Option<Millimetres>, Refusal>
     requires { Measurable ends.now lengths.now (as_counts counts) }
     ensures { (degrees sides volumes labels : List ℕ) → measured_reply result
         ≡ measure_in (tables degrees sides ends.now lengths.now volumes labels) (as_counts counts) from to }
 {
-    let checked = Vertex::new(from);
-    match checked {
-        CheckedVertex::Is(v) => measure_to(ends, lengths, counts, v, to),
-        CheckedVertex::OutOfRange => Measured::Refused(Refusal::NotLanded),
-    }
+    let Some(start) = Vertex::new(from) else {
+        return Err(Refusal::NotLanded);
+    };
+    let Some(goal) = Vertex::new(to) else {
+        return Err(Refusal::NotLanded);
+    };
+    distance_in(ends, lengths, counts, start, goal)
 }
 
 // What stands for a distance where there is no way.
 const NOT_JOINED: u32 = 4294967295;
 
-pub fn answer_distance(answer: &mut [u8], measured: Measured) -> i32
+pub fn answer_distance(answer: &mut [u8], measured: Result<Option<Millimetres>, Refusal>) -> i32
     ensures { (register : Register) → returned answer.new result ≡ returns_reply register answer.old (measured_reply measured) }
 {
     match measured {
-        Measured::Distance(distance) => match distance {
-            Distance::Joined(millimetres) => answer_numbers(answer, &[millimetres.0]),
-            Distance::NotJoined => answer_numbers(answer, &[NOT_JOINED]),
-        },
-        Measured::Refused(refusal) => refused(refusal),
+        Ok(Some(millimetres)) => answer_numbers(answer, &[millimetres.0]),
+        Ok(None) => answer_numbers(answer, &[NOT_JOINED]),
+        Err(refusal) => refused(refusal),
     }
 }

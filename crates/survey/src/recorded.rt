@@ -15,7 +15,7 @@ use counters::sizes::{EDGES, ENDS, SIDES, VERTICES};
 use pnl::answers::refused;
 use recording::lists::record_list;
 
-// What may be asked where no tag is hung.
+// What may be asked where no tag is hung: two kinds of question.
 #[derive(Clone, Copy)]
 pub enum Survey {
     Sheet,

@@ -8,14 +8,13 @@ ghost use Rattle.chains.specs.Chains.{names_in, sheet_in};
 ghost use Rattle.text.specs.Pages.{page, write};
 ghost use Rattle.pnl.specs.FromC.{returned};
 
-use chains::marks::next_unmarked;
 use chains::names::has_room;
-use chains::numbers::wide;
 use chains::rows::{ROW, Row, take_row};
 use counters::numbers::Edge;
 use counters::refusals::Refusal;
 use counters::sizes::EDGES;
 use pnl::answers::{byte_count, put_words, refused};
+use tables::access::of;
 
 // Four bytes a number.
 const ROW_BYTES: usize = 4 * ROW;
@@ -23,9 +22,9 @@ const ROW_BYTES: usize = 4 * ROW;
 fn put_row_bytes(out: &mut [u8], at: usize, row: Row) -> usize
     ensures { page out.new result ≡ write (bytes_of (row_of row)) (page out.old at) }
 {
-    let name = wide(row.name.0);
-    let lower = wide(row.lower.0);
-    let other = wide(row.other.0);
+    let name = u32::from(row.name.0);
+    let lower = u32::from(row.lower.0);
+    let other = u32::from(row.other.0);
     let numbers = [name, lower, other, row.inner, row.length.0, row.volume.0];
     put_words(out, at, &numbers)
 }
@@ -48,8 +47,10 @@ fn put_sheet_bytes(
 {
     let mut next: usize = 0;
     let mut count: u16 = 0;
-    let mut edge = next_unmarked(marks, 0, edges);
-    while edge < edges {
+    for edge in 0..edges {
+        if of(marks, edge) != 0 {
+            continue;
+        }
         let row = take_row(
             degrees,
             sides,
@@ -62,7 +63,6 @@ fn put_sheet_bytes(
         );
         next = put_row_bytes(out, next, row);
         count += 1;
-        edge = next_unmarked(marks, edge + 1, edges);
     }
     count
 }

@@ -1,4 +1,4 @@
--- Laws: `Lists` of clearing and comparing, at any width; `SameLengths` of six tables; `Sums` of sums that stop; `Lockstep` of the walk.
+-- Laws: `Lists` of comparing; `SameLengths` of six tables; `Sums` of sums that stop; `Lockstep` of the walk.
 pub mod Lists
 pub mod SameLengths
 pub mod Sums

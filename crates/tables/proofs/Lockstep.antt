@@ -3,7 +3,7 @@ use mathlib.Core.Path.{◌≡◌, refl, sym, ap, ◌∙◌}
 use mathlib.Core.List.{List}
 use Prim.Native.Nat.{ℕ, zero, suc, ◌+◌, ◌-◌, ◌<◌, ◌≤◌}
 use native.Mathlib.Nat.{not-suc-le-zero, zero-add, add-zero, add_assoc}
-use native.Mathlib.Numerals.{sub-one}
+use native.Mathlib.Omega.{arith}
 use borrow.Author.Tests.{eq-eqb, ne_eqb}
 use lib.ListN.{get_or}
 use Rattle.tables.specs.Steps.{far_in, turn_in}
@@ -48,10 +48,11 @@ module _ (degrees sides ends : List ℕ) where
   unfolding lockstep_in
   lockstep_on n d v c w d' v' c' w' g h e f i j = rw (eq-eqb _ _ g, eq-eqb _ _ h, e, f, i, j)
 
-  -- a turn of the loop, k steps having been taken before
-  pub loop_step : (n d v c w d' v' c' w' k : ℕ) → 0 < n → get_or degrees v 0 ≡ 2 → get_or degrees w 0 ≡ 2
+  -- step i of the loop
+  pub loop_step : (n i d v c w d' v' c' w' : ℕ) → i < n → get_or degrees v 0 ≡ 2 → get_or degrees w 0 ≡ 2
       → d' ≡ turn_in sides d v → v' ≡ far_in ends d' v → c' ≡ turn_in sides c w → w' ≡ far_in ends c' w
-      → steps_ahead k (lockstep_in degrees sides ends n d v c w) ≡ steps_ahead (k + 1) (lockstep_in degrees sides ends (n - 1) d' v' c' w')
-  loop_step zero d v c w d' v' c' w' k l g h e f i j = absurd (not-suc-le-zero l)
-  loop_step (suc n) d v c w d' v' c' w' k l g h e f i j =
-      ap (steps_ahead k) (lockstep_on n d v c w d' v' c' w' g h (sym e) (sym f) (sym i) (sym j)) ∙ rw sub-one (ahead_twice k 1 _)
+      → steps_ahead i (lockstep_in degrees sides ends (n - i) d v c w)
+      ≡ steps_ahead (i + 1) (lockstep_in degrees sides ends (n - (i + 1)) d' v' c' w')
+  loop_step n i d v c w d' v' c' w' l g h e f j k =
+      let next : n - i ≡ suc (n - (i + 1)) = omega (arith, l) in
+      rw next (ap (steps_ahead i) (lockstep_on (n - (i + 1)) d v c w d' v' c' w' g h (sym e) (sym f) (sym j) (sym k)) ∙ ahead_twice i 1 _)

@@ -4,7 +4,7 @@ use mathlib.Core.Bool.{Bool, false, ◌||◌}
 use mathlib.Core.List.{List}
 use Prim.Native.Nat.{ℕ, zero, suc, ◌+◌, ◌-◌, ◌<◌, ◌≤◌}
 use native.Mathlib.Nat.{not-suc-le-zero}
-use native.Mathlib.Numerals.{sub-one}
+use native.Mathlib.Omega.{arith}
 use borrow.Author.Tests.{eq-eqb, ne_eqb}
 use lib.Dec.{eqb}
 use lib.ListN.{get_or}
@@ -45,13 +45,13 @@ module _ (degrees sides ends : List ℕ) (v w : ℕ) where
   unfolding round_in
   round_on n k met met' d x c y d' x' c' y' g h o m e f i j = rw (eq-eqb _ _ g, eq-eqb _ _ h, ne_eqb _ _ o, m, e, f, i, j)
 
-  -- a turn of the loop
-  pub round_step : (n k : ℕ) (met met' : Bool) (d x c y d' x' c' y' : ℕ) → 0 < n → get_or degrees x 0 ≡ 2 → get_or degrees y 0 ≡ 2
+  -- step i of the loop
+  pub round_step : (n i : ℕ) (met met' : Bool) (d x c y d' x' c' y' : ℕ) → i < n → get_or degrees x 0 ≡ 2 → get_or degrees y 0 ≡ 2
       → (x ≡ v → ⊥) → met' ≡ (met || eqb x w) → d' ≡ turn_in sides d x → x' ≡ far_in ends d' x → c' ≡ turn_in sides c y → y' ≡ far_in ends c' y
-      → round_in degrees sides ends v w n k met d x c y ≡ round_in degrees sides ends v w (n - 1) (k + 1) met' d' x' c' y'
-  round_step zero k met met' d x c y d' x' c' y' l g h o m e f i j = absurd (not-suc-le-zero l)
-  round_step (suc n) k met met' d x c y d' x' c' y' l g h o m e f i j =
-      rw sub-one (round_on n k met met' d x c y d' x' c' y' g h o (sym m) (sym e) (sym f) (sym i) (sym j))
+      → round_in degrees sides ends v w (n - i) i met d x c y ≡ round_in degrees sides ends v w (n - (i + 1)) (i + 1) met' d' x' c' y'
+  round_step n i met met' d x c y d' x' c' y' l g h o m e f j k =
+      let next : n - i ≡ suc (n - (i + 1)) = omega (arith, l) in
+      rw next (round_on (n - (i + 1)) i met met' d x c y d' x' c' y' g h o (sym m) (sym e) (sym f) (sym j) (sym k))
 
 -- the two set out along the two edges of the vertex
 pub ring_law : (degrees sides ends : List ℕ) (v w n d x c y : ℕ) (r : Round) → (d ≡ lower_in sides v) × (x ≡ far_in ends d v)

@@ -3,68 +3,71 @@
 ghost use Rattle.std.specs.Prelude.{◌≡◌, get_or, set};
 ghost use Rattle.tables.specs.Steps.{more16, more32, sum32};
 
-const MOST16: u16 = 65535;
+// What a table holds: a number of 16 or of 32 bits.
+pub trait Number: Copy {
+    ghost zero: { Self };
 
-const MOST32: u32 = 4294967295;
+    fn zero() -> Self
+        ensures { result ≡ zero };
+}
+
+impl Number for u16 {
+    ghost zero = { 0 };
+
+    fn zero() -> u16 {
+        0
+    }
+}
+
+impl Number for u32 {
+    ghost zero = { 0 };
+
+    fn zero() -> u32 {
+        0
+    }
+}
 
 // The element at i, and 0 past the end.
-pub fn at16(xs: &[u16], i: usize) -> u16
-    ensures { result ≡ get_or xs.now i 0 }
+pub fn at<T: Number>(xs: &[T], i: usize) -> T
+    ensures { result ≡ get_or xs.now i T.zero }
 {
-    if i < xs.len() { xs[i] } else { 0 }
+    xs.get(i).copied().unwrap_or(T::zero())
 }
 
-pub fn at32(xs: &[u32], i: usize) -> u32
-    ensures { result ≡ get_or xs.now i 0 }
+// The same by a 16-bit index.
+pub fn of<T: Number>(xs: &[T], i: u16) -> T
+    ensures { result ≡ get_or xs.now i T.zero }
 {
-    if i < xs.len() { xs[i] } else { 0 }
-}
-
-// The same by a 16-bit index, so that no caller has a cast to show.
-pub fn of16(xs: &[u16], i: u16) -> u16
-    ensures { result ≡ get_or xs.now i 0 }
-{
-    at16(xs, i as usize)
-}
-
-pub fn of32(xs: &[u32], i: u16) -> u32
-    ensures { result ≡ get_or xs.now i 0 }
-{
-    at32(xs, i as usize)
+    at(xs, usize::from(i))
 }
 
 // The element at i becomes x; past the end nothing changes.
-pub fn put16(narrow: &mut [u16], i: usize, x: u16)
-    ensures { narrow.new ≡ set narrow.old i x }
+pub fn put<T: Number>(xs: &mut [T], i: usize, x: T)
+    ensures { xs.new ≡ set xs.old i x }
 {
-    if i < narrow.len() {
-        narrow[i] = x;
+    if i < xs.len() {
+        xs[i] = x;
     }
 }
 
-pub fn put32(wide: &mut [u32], i: usize, x: u32)
-    ensures { wide.new ≡ set wide.old i x }
-{
-    if i < wide.len() {
-        wide[i] = x;
-    }
-}
-
-// One more, or the largest number of the type.
+// One more, or the largest number of the type. Each has a name for its clause: callers' proofs then need no law of `min`.
+#[tactic(auto, unfolding(crate::specs::Steps::more16))]
 pub fn one_more16(n: u16) -> u16
     ensures { result ≡ more16 n }
 {
-    if n < MOST16 { n + 1 } else { n }
+    n.saturating_add(1)
 }
 
+#[tactic(auto, unfolding(crate::specs::Steps::more32))]
 pub fn one_more32(n: u32) -> u32
     ensures { result ≡ more32 n }
 {
-    if n < MOST32 { n + 1 } else { n }
+    n.saturating_add(1)
 }
 
+#[tactic(auto, unfolding(crate::specs::Steps::sum32))]
 pub fn add32(m: u32, n: u32) -> u32
     ensures { result ≡ sum32 m n }
 {
-    if n <= MOST32 - m { m + n } else { MOST32 }
+    m.saturating_add(n)
 }

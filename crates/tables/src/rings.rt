@@ -94,14 +94,9 @@ fn walk_round(
 {
     let mut x = first;
     let mut y = second;
-    let mut steps: u16 = 0;
     let mut met = false;
-    let mut left = fuel;
-    while 0 < left {
-        if degree_of(degrees, x.at) != 2 {
-            return Round::NoRing;
-        }
-        if degree_of(degrees, y.at) != 2 {
+    for steps in 0..fuel {
+        if degree_of(degrees, x.at) != 2 || degree_of(degrees, y.at) != 2 {
             return Round::NoRing;
         }
         if x.at.0 == v.0 {
@@ -110,8 +105,6 @@ fn walk_round(
         met = meets(met, x.at, w);
         x = step_over(sides, ends, x);
         y = step_over(sides, ends, y);
-        steps += 1;
-        left -= 1;
     }
     Round::NoRing
 }

@@ -2,7 +2,7 @@
 ghost use Rattle.std.specs.Prelude.{◌≡◌};
 ghost use Rattle.tables.specs.Steps.{far_in, turn_in, sum32, raise_in, raise_both_in};
 
-use crate::access::{add32, at16, one_more16, put16};
+use crate::access::{add32, at, one_more16, put};
 use counters::numbers::{Edge, Millimetres, Vertex};
 
 // The end of edge d that is not v.
@@ -10,9 +10,9 @@ pub fn far_end(ends: &[u16], d: Edge, v: Vertex) -> Vertex
     ensures { result.0 ≡ far_in ends.now d.0 v.0 }
 {
     let i = 2 * (d.0 as usize);
-    let first = at16(ends, i);
+    let first = at(ends, i);
     if first == v.0 {
-        return Vertex(at16(ends, i + 1));
+        return Vertex(at(ends, i + 1));
     }
     Vertex(first)
 }
@@ -22,9 +22,9 @@ pub fn turn_at(sides: &[u16], d: Edge, v: Vertex) -> Edge
     ensures { result.0 ≡ turn_in sides.now d.0 v.0 }
 {
     let i = 2 * (v.0 as usize);
-    let low = at16(sides, i);
+    let low = at(sides, i);
     if low == d.0 {
-        return Edge(at16(sides, i + 1));
+        return Edge(at(sides, i + 1));
     }
     Edge(low)
 }
@@ -41,9 +41,9 @@ fn raise_degree(degrees: &mut [u16], v: Vertex)
     ensures { degrees.new ≡ raise_in degrees.old v.0 }
 {
     let i = v.0 as usize;
-    let degree = at16(degrees, i);
+    let degree = at(degrees, i);
     let raised = one_more16(degree);
-    put16(degrees, i, raised);
+    put(degrees, i, raised);
 }
 
 pub fn raise_both(degrees: &mut [u16], v: Vertex, w: Vertex)

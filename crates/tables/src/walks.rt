@@ -62,23 +62,20 @@ pub fn walk_lockstep(
 {
     let mut v = first;
     let mut w = second;
-    let mut steps: u16 = 0;
-    let mut left = fuel;
-    while 0 < left {
-        if degree_of(degrees, v.at) != 2 {
-            break;
-        }
-        if degree_of(degrees, w.at) != 2 {
-            break;
+    for steps in 0..fuel {
+        if degree_of(degrees, v.at) != 2 || degree_of(degrees, w.at) != 2 {
+            return Meeting {
+                first: v,
+                second: w,
+                steps,
+            };
         }
         v = step_over(sides, ends, v);
         w = step_over(sides, ends, w);
-        steps += 1;
-        left -= 1;
     }
     Meeting {
         first: v,
         second: w,
-        steps,
+        steps: fuel,
     }
 }

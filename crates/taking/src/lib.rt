@@ -3,5 +3,4 @@
 #![tactic(auto)]
 
 pub mod house;
-pub mod left;
 pub mod remove;

@@ -1,31 +1,23 @@
 -- Numbers byte by byte, and the parts of a list.
 use mathlib.Core.Path.{◌≡◌, refl, sym}
-use Prim.Native.Nat.{ℕ, zero, suc, ◌+◌, ◌-◌, ◌/◌, ◌%◌, ◌≤◌, ◌<◌}
-use native.Mathlib.Nat.{not-suc-le-zero}
-use native.Mathlib.Numerals.{sub-one}
+use Prim.Native.Nat.{ℕ, suc, ◌+◌, ◌-◌, ◌≤◌, ◌<◌}
+use native.Mathlib.Omega.{arith}
 use mathlib.Core.List.{List, [], ◌∷◌, ◌++◌}
-use lib.ListN.{length, set, replicate}
+use lib.ListN.{replicate}
 use Rattle.model.specs.Basics.{bytes2, bytes4}
 use Rattle.model.specs.Format.{edge_bytes, header}
-use Rattle.text.specs.Pages.{Page, page, write}
-use Rattle.text.proofs.PageLaws.{write_append, write_in, write_two}
+use Rattle.std.specs.Int.{to_le_bytes, w16, w32}
+use Rattle.text.specs.Pages.{Page, write}
+use Rattle.text.proofs.PageLaws.{write_append, write_two}
 
--- two bytes, the lower first
-pub two_law : (n a b : ℕ) (p q r : Page) → a ≡ n % 256 → q ≡ write (a ∷ []) p → b ≡ n / 256 % 256 → r ≡ write (b ∷ []) q
-    → r ≡ write (bytes2 n) p
-unfolding bytes2 write
-two_law n a b p q r e₁ f₁ e₂ f₂ = rw (← e₁, ← e₂, ← f₁) f₂
+-- the bytes of a number, the lowest first
+pub bytes2_are : (n : ℕ) → to_le_bytes w16 n ≡ bytes2 n
+unfolding bytes2
+bytes2_are n = refl
 
--- four bytes, the lowest first
-pub word_law : (n a b c d : ℕ) (p q r s t : Page) → a ≡ n % 256 → q ≡ write (a ∷ []) p → b ≡ n / 256 % 256 → r ≡ write (b ∷ []) q
-    → c ≡ n / 65536 % 256 → s ≡ write (c ∷ []) r → d ≡ n / 16777216 % 256 → t ≡ write (d ∷ []) s → t ≡ write (bytes4 n) p
-unfolding bytes4 write
-word_law n a b c d p q r s t e₁ f₁ e₂ f₂ e₃ f₃ e₄ f₄ = rw (← e₁, ← e₂, ← e₃, ← e₄, ← f₁, ← f₂, ← f₃) f₄
-
--- a byte within the page
-pub byte_in : (b at : ℕ) (bs : List ℕ) → at < length bs → page (set bs at b) (at + 1) ≡ write (b ∷ []) (page bs at)
-unfolding write
-byte_in b at bs h = sym (write_in b [] bs at h)
+pub bytes4_are : (n : ℕ) → to_le_bytes w32 n ≡ bytes4 n
+unfolding bytes4
+bytes4_are n = refl
 
 -- ---- a list
 
@@ -44,12 +36,12 @@ edge_law a b len volume p q r s t u e₁ e₂ e₃ e₄ e₅ =
     write_two (0x50 ∷ bytes2 a) (bytes2 b ++ (bytes4 len ++ bytes4 volume)) p r u (write_two (0x50 ∷ []) (bytes2 a) p q r e₁ e₂)
     (write_two (bytes2 b) (bytes4 len ++ bytes4 volume) r s u e₃ (write_two (bytes4 len) (bytes4 volume) s t u e₄ e₅))
 
--- a loop that writes one byte n times: a turn of it, and its end
-pub copies_on : (x k : ℕ) (p q : Page) → 0 < k → q ≡ write (x ∷ []) p → write (replicate (k - 1) x) q ≡ write (replicate k x) p
-copies_on x zero p q h e = absurd (not-suc-le-zero h)
-copies_on x (suc k) p q h e = rw (sub-one, e) (sym (write_append (x ∷ []) (replicate k x) p))
+-- a loop that writes one byte n times: turn i of it, and its end
+pub copies_on : (x n i : ℕ) (p q : Page) → i < n → q ≡ write (x ∷ []) p → write (replicate (n - (i + 1)) x) q ≡ write (replicate (n - i) x) p
+copies_on x n i p q h e =
+    let next : n - i ≡ suc (n - (i + 1)) = omega (arith, h) in rw (next, e) (sym (write_append (x ∷ []) (replicate (n - (i + 1)) x) p))
 
-pub copies_end : (x k : ℕ) (p : Page) → k ≤ 0 → p ≡ write (replicate k x) p
+pub copies_end : (x n i : ℕ) (p : Page) → n ≤ i → p ≡ write (replicate (n - i) x) p
 unfolding write
-copies_end x zero p h = refl
-copies_end x (suc k) p h = absurd (not-suc-le-zero h)
+copies_end x n i p h =
+    let none : n - i ≡ 0 = omega (arith, h) in rw none refl

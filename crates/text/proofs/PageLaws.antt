@@ -1,17 +1,18 @@
 -- Writing one list of numbers after the other, and what a page holds then.
 use Rattle.std.specs.Prelude.{if◌then◌else◌}
 use mathlib.Core.Path.{◌≡◌, refl, sym, ap, ◌∙◌}
-use Prim.Native.Nat.{ℕ, suc, ◌+◌, ◌≤◌, ◌<◌}
+use Prim.Native.Nat.{ℕ, suc, ◌+◌, ◌-◌, ◌≤◌, ◌<◌}
 use native.Mathlib.Omega.{arith}
 use native.Mathlib.Numerals.{add-one}
 use native.Mathlib.Nat.{zero-add}
 use native.Mathlib.Decide.{dec_lt}
 use mathlib.Core.Bool.{Bool, true, false}
-use mathlib.Core.List.{List, [], ◌∷◌, ◌++◌, append-nil}
-use lib.ListN.{length, set, take, length-set}
+use mathlib.Core.List.{List, [], ◌∷◌, ◌++◌, append-nil, append_assoc}
+use lib.ListN.{length, set, take, drop, length-set}
 use lib.Seq.{sets, sets-eq, take-suc-set, append_snoc}
 use lib.Dec.{ltb}
 use borrow.Author.Tests.{lt-ltb, le-ltb}
+use borrow.Rule.Slice.PartMut.{put_mid, Post-is}
 use Rattle.model.specs.Basics.{in_front}
 use Rattle.text.specs.Pages.{Page, page, put, write}
 
@@ -104,6 +105,17 @@ pub write_front : (xs bs ys : List ℕ) (at : ℕ) → length xs ≤ length bs �
 unfolding in_front
 write_front xs bs ys at h e =
     ap (λ (p : Page). p.slice) e ∙ write_sets xs bs 0 (omega arith) ∙ sets-eq xs bs 0 (omega arith) ∙ rw zero-add
+
+-- .. or copied into the part that it fills
+pub write_placed : (xs bs : List ℕ) (at e : ℕ) → e ≡ at + length xs → e ≤ length bs → page (put_mid at (e - at) bs xs) e ≡ write xs (page bs at)
+write_placed xs bs at e g h =
+    let fits : at + length xs ≤ length bs = omega (arith, g, h) in
+    let behind : drop (at + length xs) bs ≡ drop e bs = rw (← g) refl in
+    let same : (write xs (page bs at)).slice ≡ put_mid at (e - at) bs xs =
+    write_sets xs bs at fits ∙ sets-eq xs bs at fits ∙ append_assoc (take at bs) xs (drop (at + length xs) bs)
+    ∙ ap (λ (r : List ℕ). take at bs ++ (xs ++ r)) (behind ∙ sym (Post-is at e bs (omega (arith, g)))) in
+    let moved : (write xs (page bs at)).at ≡ e = (write_fits xs bs at fits).next ∙ sym g in
+    sym (λ i. page (same i) (moved i))
 
 -- all of a text that fits stands at the front
 pub write_held : (xs bs : List ℕ) (q : Page) → q ≡ write xs (page bs 0) → length xs ≤ length bs → (q.at ≤ length q.slice) × (take q.at q.slice ≡ xs)

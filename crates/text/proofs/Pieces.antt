@@ -1,8 +1,8 @@
 -- A text that is written piece by piece: one piece for each number that a loop counts, or for each element of a list.
-use mathlib.Core.Path.{◌≡◌, refl, ◌∙◌}
-use Prim.Native.Nat.{ℕ, zero, suc, ◌+◌, ◌-◌, ◌≤◌, ◌<◌}
-use native.Mathlib.Nat.{not-suc-le-zero}
-use native.Mathlib.Numerals.{add-one, sub-one}
+use mathlib.Core.Path.{◌≡◌, refl}
+use Prim.Native.Nat.{ℕ, suc, ◌+◌, ◌-◌, ◌≤◌, ◌<◌}
+use native.Mathlib.Nat.{sub-zero}
+use native.Mathlib.Numerals.{add-one}
 use native.Mathlib.Omega.{arith}
 use mathlib.Core.List.{List, [], ◌∷◌, ◌++◌}
 use lib.ListN.{length, get_or, drop, drop_of_length-le}
@@ -20,33 +20,23 @@ pub record Pieces (text : List ℕ → List ℕ) : Type 0 where
 pub plain : Pieces (λ ns. ns)
 plain = record { none = refl; first = λ n ns. refl }
 
--- A loop writes the text of 0 to n - 1 from page p on. At number i, with k left, on page q, those left end the page as all do.
-pub record Comes (text : List ℕ → List ℕ) (n : ℕ) (p : Page) (i k : ℕ) (q : Page) : Type 0 where
-  pub as_long : length q.slice ≡ length p.slice
-  pub counted : i + k ≡ n
-  pub ends : write (text (count_from i k)) q ≡ write (text (up_to n)) p
-
 module _ (text : List ℕ → List ℕ) (pieces : Pieces text) where
-  -- its start, a turn of it, and its end
-  pub comes_start : (n : ℕ) (p : Page) → Comes text n p 0 n p
+  -- A loop writes the text of 0 to n - 1. At number i those from i on end the page as all do: its start, turn i of it, and its end
+  pub numbers_start : (n : ℕ) (p : Page) → write (text (count_from 0 (n - 0))) p ≡ write (text (up_to n)) p
   unfolding up_to
-  comes_start n p = record { as_long = refl; counted = omega arith; ends = refl }
+  numbers_start n p = rw sub-zero refl
 
-  pub comes_on : (n i k : ℕ) (p q q' : Page) → 0 < k → Comes text n p i k q → q' ≡ write (text (i ∷ [])) q → length q'.slice ≡ length q.slice
-      → Comes text n p (i + 1) (k - 1) q'
+  pub numbers_on : (n i : ℕ) (p q : Page) → i < n → q ≡ write (text (i ∷ [])) p
+      → write (text (count_from (i + 1) (n - (i + 1)))) q ≡ write (text (count_from i (n - i))) p
   unfolding count_from
-  comes_on n i zero p q q' h c w l = absurd (not-suc-le-zero h)
-  comes_on n i (suc k) p q q' h c w l = record {
-    as_long = l ∙ c.as_long;
-    counted = omega (arith, c.counted);
-    ends =
-        rw (sub-one, add-one, w, ← write_append (text (i ∷ [])) (text (count_from (suc i) k)) q, ← pieces.first i (count_from (suc i) k)) c.ends;
-  }
+  numbers_on n i p q h w =
+      let next : n - i ≡ suc (n - suc i) = omega (arith, h) in
+      rw (next, add-one, pieces.first i (count_from (suc i) (n - suc i)), write_append (text (i ∷ [])) (text (count_from (suc i) (n - suc i))) p, ← w) refl
 
-  pub comes_end : (n i k : ℕ) (p q : Page) → k ≤ 0 → Comes text n p i k q → q ≡ write (text (up_to n)) p
+  pub numbers_end : (n i : ℕ) (p : Page) → n ≤ i → p ≡ write (text (count_from i (n - i))) p
   unfolding count_from write
-  comes_end n i zero p q h c = rw pieces.none at c.ends
-  comes_end n i (suc k) p q h c = absurd (not-suc-le-zero h)
+  numbers_end n i p h =
+      let none : n - i ≡ 0 = omega (arith, h) in rw (none, pieces.none) refl
 
   -- a loop over the elements of a list: a turn of it, and its end
   pub elements_on : (ns : List ℕ) (i n : ℕ) (p q : Page) → i < length ns → n ≡ get_or ns i 0 → q ≡ write (text (n ∷ [])) p

@@ -23,10 +23,8 @@ pub fn put_vertices(out: &mut [u8], at: usize, n: u16) -> usize
     ensures { page out.new result ≡ write (replicate n 0x46) (page out.old at) }
 {
     let mut next = at;
-    let mut left = n;
-    while 0 < left {
+    for _ in 0..n {
         next = put_byte(out, next, VERTEX);
-        left -= 1;
     }
     next
 }

@@ -13,7 +13,7 @@ pub fn put_byte(out: &mut [u8], at: usize, b: u8) -> usize
     at
 }
 
-// The same in a slice of 32-bit numbers.
+// The same in a slice of 32-bit numbers. One function for both would want pages of any type, in every clause that has a page.
 pub fn put_u32(out: &mut [u32], at: usize, n: u32) -> usize
     ensures { page out.new result ≡ write (n ∷ []) (page out.old at) }
 {
@@ -54,10 +54,8 @@ pub fn put_text(out: &mut [u8], at: usize, text: &[u8]) -> usize
     ensures { page out.new result ≡ write text.now (page out.old at) }
 {
     let mut next = at;
-    let mut i: usize = 0;
-    while i < text.len() {
-        next = put_byte(out, next, text[i]);
-        i += 1;
+    for b in text {
+        next = put_byte(out, next, *b);
     }
     next
 }

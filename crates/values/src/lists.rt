@@ -10,12 +10,8 @@ pub fn put_start(out: &mut [u8], n: u16) -> usize {
 // The edges 0-1, 1-2, .. of a line of n vertices, 1 mm long each, of unknown volume.
 pub fn put_edges(out: &mut [u8], at: usize, n: u16) -> usize {
     let mut next = at;
-    let mut v: u16 = 0;
-    let mut left = n;
-    while 1 < left {
-        next = put_edge(out, next, v, v + 1, 1, 0);
-        v += 1;
-        left -= 1;
+    for v in 1..n {
+        next = put_edge(out, next, v - 1, v, 1, 0);
     }
     next
 }

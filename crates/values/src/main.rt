@@ -5,9 +5,11 @@
 mod lists;
 
 use calls::grow::grow_own;
-use counters::answers::{ListAnswer, Stop};
+use counters::answers::Stop;
 use counters::counts::Counts;
+use counters::refusals::Refusal;
 use counters::sizes::{EDGES, ENDS, MAX_EDGES, SIDES, VERTICES};
+use lent::slices::Tables;
 use lists::{put_edges, put_start};
 use std::io;
 use std::io::Print;
@@ -15,23 +17,23 @@ use text::lines::put_line4;
 use text::records::put_edge;
 use text::writing::put_byte;
 
-fn record_of(answer: ListAnswer) -> u64 {
+fn record_of(answer: Result<Stop, Refusal>) -> u64 {
     match answer {
-        ListAnswer::Read(stop) => match stop {
+        Ok(stop) => match stop {
             Stop::Whole => 0,
             Stop::Stopped(record, refusal) => record as u64,
         },
-        ListAnswer::Refused(refusal) => 0,
+        Err(refusal) => 0,
     }
 }
 
-fn refusal_of(answer: ListAnswer) -> u64 {
+fn refusal_of(answer: Result<Stop, Refusal>) -> u64 {
     match answer {
-        ListAnswer::Read(stop) => match stop {
+        Ok(stop) => match stop {
             Stop::Whole => 0,
             Stop::Stopped(record, refusal) => refusal.number() as u64,
         },
-        ListAnswer::Refused(refusal) => refusal.number() as u64,
+        Err(refusal) => refusal.number() as u64,
     }
 }
 
@@ -61,12 +63,14 @@ fn put_result(out: &mut [u8], at: usize, bytes: &[u8], n: usize) -> usize {
         &mut lengths,
         &mut volumes,
         &mut labels,
-        &mut sdegrees,
-        &mut ssides,
-        &mut sends,
-        &mut slengths,
-        &mut svolumes,
-        &mut slabels,
+        &mut Tables {
+            degrees: &mut sdegrees,
+            sides: &mut ssides,
+            ends: &mut sends,
+            lengths: &mut slengths,
+            volumes: &mut svolumes,
+            labels: &mut slabels,
+        },
         &bytes[..n],
     );
     let counts = answered.counts;

@@ -10,7 +10,7 @@ use lib.Seq.{take_all, take-take, take-nil}
 use lib.Dec.{ltb}
 use borrow.Author.Tests.{ltb-false, le-ltb}
 use Rattle.valve.specs.Numbers.{slots, max_amount}
-use Rattle.valve.specs.Window.{Record, record_of, total, Window, window, empty, before, newest, records_of, sizes_fit, all_within, held}
+use Rattle.valve.specs.Window.{Record, record_of, total, Window, empty, before, newest, records_of, sizes_fit, all_within, held}
 use Rattle.valve.specs.Valve.{taken, older, refuses, at_valve}
 use Rattle.valve.specs.Calls.{with_record, Outcome, outcome, gated, arrives, asks}
 use Rattle.valve.specs.Series.{Call, arrival, question, makes, series, taking, arrivals, latest, ValveIsRight, EverySeries}

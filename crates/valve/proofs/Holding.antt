@@ -2,11 +2,11 @@
 use mathlib.Core.Path.{◌≡◌, sym, ap, ◌∙◌}
 use Prim.Native.Nat.{ℕ, ◌+◌, ◌-◌, ◌≤◌, ◌<◌}
 use native.Mathlib.Omega.{arith}
-use mathlib.Core.Bool.{true, false, ◌&&◌}
+use mathlib.Core.Bool.{true, ◌&&◌}
 use mathlib.Core.List.{List, ◌∷◌}
 use lib.ListN.{length, get_or, set, length-set}
 use lib.Dec.{eqb, ltb}
-use borrow.Author.Tests.{eqb-true, ltb-true, eq-eqb, ne_eqb, lt-ltb, le-leb}
+use borrow.Author.Tests.{eqb-true, ltb-true, eq-eqb, lt-ltb, le-leb}
 use Rattle.tables.proofs.Sums.{sum32_is}
 use Rattle.model.proofs.Basics.Booleans.{and_true}
 use Rattle.valve.specs.Numbers.{slots, max_amount}
@@ -31,15 +31,6 @@ sized recipes amounts e =
 pub sizes_fit_lem : (recipes amounts : List ℕ) → Sized recipes amounts → sizes_fit recipes amounts ≡ true
 unfolding sizes_fit
 sizes_fit_lem recipes amounts s = rw (eq-eqb (length recipes) slots s.recipes_long, eq-eqb (length amounts) slots s.amounts_long)
-
--- recipes of another size fail the test; else the size of the amounts decides
-pub sizes_no : (recipes amounts : List ℕ) → (length recipes ≡ slots → ⊥) → false ≡ sizes_fit recipes amounts
-unfolding sizes_fit
-sizes_no recipes amounts h = rw (ne_eqb (length recipes) slots h)
-
-pub sizes_second : (recipes amounts : List ℕ) → length recipes ≡ slots → eqb (length amounts) slots ≡ sizes_fit recipes amounts
-unfolding sizes_fit
-sizes_second recipes amounts h = rw (eq-eqb (length recipes) slots h)
 
 -- the next slot is one, all records are within bounds, and the sum is theirs
 pub record Holds (w : Window) : Type 0 where

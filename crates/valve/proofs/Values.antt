@@ -6,13 +6,13 @@ use mathlib.Core.Bool.{true, false}
 use mathlib.Core.List.{List, [], ◌∷◌}
 use lib.ListN.{replicate}
 use Rattle.valve.specs.Numbers.{slots}
-use Rattle.valve.specs.Window.{Record, record_of, total, Window, window, empty, before, newest, records_of, sizes_fit, all_within, held}
+use Rattle.valve.specs.Window.{record_of, total, Window, window, empty, before, newest, records_of, sizes_fit, all_within, held}
 use Rattle.valve.specs.Valve.{recipe_is, older, refuses, at_valve}
 use Rattle.valve.specs.Calls.{Outcome, gated, arrives, asks}
 use Rattle.valve.specs.Series.{Call, series, taking, arrivals, latest, ValveIsRight, EverySeries}
 use Rattle.valve.specs.Values.{three, arriving, arrived, lasting, pushing, standing, stopping, full, Table}
 use Rattle.valve.proofs.LoopLaws.{within_not, held_past, held_too_much, held_sum}
-use Rattle.valve.proofs.CallLaws.{arrive_21, ask_21, ask_25}
+use Rattle.valve.proofs.CallLaws.{gate_25, gate_21, arrive_refused, ask_refused}
 use Rattle.valve.proofs.Arrivals.{blank, newest_zeros, zeros_within, zeros_sum, every_series}
 
 after_all : (cs : List Call) → ValveIsRight (series cs empty) (arrivals cs [])
@@ -60,7 +60,7 @@ full_asked = refl
 -- ---- 21 and 25
 
 reply_21 : (v : ℕ) (w : Window) → sizes_fit w.recipes w.amounts ≡ true → held w ≡ false → (asks v w).reply ≡ refuses 21
-reply_21 v w f h = ap (λ (o : Outcome). o.reply) (sym (ask_21 v w f h))
+reply_21 v w f h = ap (λ (o : Outcome). o.reply) (sym (ask_refused v w 21 (gate_21 w f h)))
 
 zeros : Window
 zeros = window (replicate slots 0) (replicate slots 0) 0 1
@@ -84,17 +84,17 @@ above_one = window (replicate slots 0) (1000001 ∷ replicate 1439 0) 1 1000001
 
 above_not : all_within (records_of above_one) ≡ false
 unfolding records_of above_one before
-above_not = within_not (replicate slots 0) (1000001 ∷ replicate 1439 0) slots 1 0 1000001 (omega arith) refl refl (omega arith)
+above_not = within_not (replicate slots 0) (1000001 ∷ replicate 1439 0) slots 1439 1 0 1000001 refl refl refl (omega arith)
 
 above : (arrives (record_of 1 1000001) (window (replicate slots 0) (1000001 ∷ replicate 1439 0) 1 1000001)).reply ≡ refuses 21
 unfolding sizes_fit above_one
 above =
     ap (λ (o : Outcome). o.reply)
-    (sym (arrive_21 (record_of 1 1000001) above_one refl (sym (held_too_much above_one (omega arith) above_not))))
+    (sym (arrive_refused (record_of 1 1000001) above_one 21 (gate_21 above_one refl (sym (held_too_much above_one (omega arith) above_not)))))
 
 short : (asks 0 (window (replicate 1439 0) (replicate slots 0) 0 1)).reply ≡ refuses 25
 unfolding sizes_fit
-short = ap (λ (o : Outcome). o.reply) (sym (ask_25 0 (window (replicate 1439 0) (replicate slots 0) 0 1) refl))
+short = ap (λ (o : Outcome). o.reply) (sym (ask_refused 0 (window (replicate 1439 0) (replicate slots 0) 0 1) 25 (gate_25 (window (replicate 1439 0) (replicate slots 0) 0 1) refl)))
 
 pub values : Table
 unfolding three at_valve total latest

@@ -1,12 +1,10 @@
 -- The limits of document 02, S-13, and what the checked constructors answer.
+use Rattle.std.specs.Prelude as rust
 use Rattle.std.specs.Prelude.{ℕ}
 use Rattle.std.proofs.Math.Option.{Option, none, some}
-use Rattle.valve.specs.declared.numbers.CheckedRecipe.{CheckedRecipe}
-use Rattle.valve.specs.declared.numbers.CheckedRecipe.TheVariants as recipe
-use Rattle.valve.specs.declared.numbers.CheckedAmount.{CheckedAmount}
-use Rattle.valve.specs.declared.numbers.CheckedAmount.TheVariants as amount
-use Rattle.valve.specs.declared.numbers.CheckedMinute.{CheckedMinute}
-use Rattle.valve.specs.declared.numbers.CheckedMinute.TheVariants as minute
+use Rattle.valve.specs.declared.numbers.Recipe.{Recipe}
+use Rattle.valve.specs.declared.numbers.Amount.{Amount}
+use Rattle.valve.specs.declared.numbers.Minute.{Minute}
 
 -- "a 16-bit recipe number"
 abbrev pub max_recipe : ℕ
@@ -20,14 +18,14 @@ max_amount = 1000000
 abbrev pub slots : ℕ
 slots = 1440
 
-abbrev pub as_recipe : CheckedRecipe → Option ℕ
-as_recipe (recipe.Is n) = some n.0
-as_recipe recipe.OutOfRange = none
+abbrev pub as_recipe : rust.Option Recipe → Option ℕ
+as_recipe (rust.Some n) = some n.0
+as_recipe rust.None = none
 
-abbrev pub as_amount : CheckedAmount → Option ℕ
-as_amount (amount.Is n) = some n.0
-as_amount amount.OutOfRange = none
+abbrev pub as_amount : rust.Option Amount → Option ℕ
+as_amount (rust.Some n) = some n.0
+as_amount rust.None = none
 
-abbrev pub as_minute : CheckedMinute → Option ℕ
-as_minute (minute.Is n) = some n.0
-as_minute minute.OutOfRange = none
+abbrev pub as_minute : rust.Option Minute → Option ℕ
+as_minute (rust.Some n) = some n.0
+as_minute rust.None = none

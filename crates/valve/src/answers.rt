@@ -1,11 +1,11 @@
-// The head of a window, what the calls answer, and the refusals. Definitions, `number_of`, `arrived_reply` and `found_reply`, give document
-// 02's number and values of each case.
+// The head of a window, and the refusals. Definitions, `number_of`, `arrived_reply` and `found_reply`, give document 02's number of each
+// refusal and its values of what the calls answer.
 ghost use Rattle.std.specs.Prelude.{◌≡◌, replicate};
 ghost use Rattle.valve.specs.Numbers.{slots};
 ghost use Rattle.valve.specs.Window.{empty};
 ghost use Rattle.valve.specs.Answers.{as_window};
 
-use crate::numbers::{Minute, Recipe};
+use crate::numbers::Minute;
 
 // The slot that takes the next record, which is the oldest one's, and the stated sum of the window's records, at most 1,440,000,000 ml.
 #[derive(Clone, Copy)]
@@ -31,19 +31,4 @@ pub enum Refusal {
     WrongSize,
     NotFromArrivals,
     TooMuch,
-}
-
-// The record was taken, and this is the head from now on: the caller keeps it, with the tables. Or nothing has changed.
-#[derive(Clone, Copy)]
-pub enum Arrived {
-    Taken(Head),
-    Refused(Refusal),
-}
-
-// The recipe at the valve; or what is there is older than the window.
-#[derive(Clone, Copy)]
-pub enum AtValve {
-    Recipe(Recipe),
-    Older,
-    Refused(Refusal),
 }

@@ -6,30 +6,32 @@ ghost use Rattle.valve.specs.Calls.{arrives, asks};
 ghost use Rattle.valve.specs.Answers.{number_of, found_reply};
 ghost use Rattle.valve.specs.FromC.{number_in_c, in_c, outcome_in_c};
 
-use crate::answers::{Arrived, AtValve, Head, Refusal};
+use crate::answers::{Head, Refusal};
 use crate::calls::{arrive, at_valve};
 use crate::numbers::{Amount, Minute, Recipe};
 
 // What stands for "older than the window": one more than the largest recipe.
 const OLDER: i32 = 65536;
 
-fn refusal_number(refusal: Refusal) -> i32
-    ensures { result ≡ number_in_c (refuses (number_of refusal)) }
-{
-    match refusal {
-        Refusal::WrongSize => -25,
-        Refusal::NotFromArrivals => -21,
-        Refusal::TooMuch => -40,
+impl From<Refusal> for i32 {
+    ghost from_gives = { λ refusal number. number ≡ number_in_c (refuses (number_of refusal)) };
+
+    fn from(refusal: Refusal) -> i32 {
+        match refusal {
+            Refusal::WrongSize => -25,
+            Refusal::NotFromArrivals => -21,
+            Refusal::TooMuch => -40,
+        }
     }
 }
 
-fn found_number(found: AtValve) -> i32
+fn found_number(found: Result<Option<Recipe>, Refusal>) -> i32
     ensures { result ≡ number_in_c (found_reply found) }
 {
     match found {
-        AtValve::Recipe(recipe) => recipe.0 as i32,
-        AtValve::Older => OLDER,
-        AtValve::Refused(refusal) => refusal_number(refusal),
+        Ok(Some(recipe)) => recipe.0 as i32,
+        Ok(None) => OLDER,
+        Err(refusal) => i32::from(refusal),
     }
 }
 
@@ -46,21 +48,17 @@ pub fn arrive_lent(
         ≡ outcome_in_c (arrives (record_of recipe amount)
         (window recipes.old amounts.old next.old sum.old)) }
 {
-    let slot = *next;
-    let stated = *sum;
     let head = Head {
-        next: Minute(slot),
-        sum: stated,
+        next: Minute(*next),
+        sum: *sum,
     };
-    let arrived = arrive(recipes, amounts, head, Recipe(recipe), Amount(amount));
-    match arrived {
-        Arrived::Taken(after) => {
-            let minute = after.next;
-            *next = minute.0;
+    match arrive(recipes, amounts, head, Recipe(recipe), Amount(amount)) {
+        Ok(after) => {
+            *next = after.next.0;
             *sum = after.sum;
             0
         }
-        Arrived::Refused(refusal) => refusal_number(refusal),
+        Err(refusal) => i32::from(refusal),
     }
 }
 
@@ -73,6 +71,5 @@ pub fn recipe_lent(recipes: &[u16], amounts: &[u32], next: u16, sum: u32, volume
         next: Minute(next),
         sum,
     };
-    let found = at_valve(recipes, amounts, head, volume);
-    found_number(found)
+    found_number(at_valve(recipes, amounts, head, volume))
 }

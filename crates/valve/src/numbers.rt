@@ -1,5 +1,6 @@
 // A recipe number, the millilitres of a record and a minute of the window: three types, so that none stands where another is expected.
-// Each has its bounds, and a constructor that tests them, on a number that is wide enough to be out of them.
+// Each has its bounds, and a constructor that tests them, on a number that is wide enough to be out of them. One generic constructor would
+// need an `impl` for each type that says how one is made of a number and a law of it, more than the test itself.
 ghost use Rattle.std.specs.Prelude.{◌≡◌, ◌-◌};
 ghost use Rattle.counters.specs.Numbers.{within};
 ghost use Rattle.valve.specs.Numbers.{max_recipe, max_amount, slots, as_recipe, as_amount, as_minute};
@@ -8,22 +9,17 @@ ghost use Rattle.valve.specs.Numbers.{max_recipe, max_amount, slots, as_recipe, 
 #[derive(Clone, Copy)]
 pub struct Recipe(pub u16);
 
-#[derive(Clone, Copy)]
-pub enum CheckedRecipe {
-    Is(Recipe),
-    OutOfRange,
-}
-
 impl Recipe {
     pub const MAX: u16 = 65535;
 
-    pub fn new(n: u32) -> CheckedRecipe
+    pub fn new(n: u32) -> Option<Recipe>
         ensures { as_recipe result ≡ within 0 max_recipe n }
     {
         if n <= (Recipe::MAX as u32) {
-            return CheckedRecipe::Is(Recipe(n as u16));
+            Some(Recipe(n as u16))
+        } else {
+            None
         }
-        CheckedRecipe::OutOfRange
     }
 }
 
@@ -32,22 +28,17 @@ impl Recipe {
 #[derive(Clone, Copy)]
 pub struct Amount(pub u32);
 
-#[derive(Clone, Copy)]
-pub enum CheckedAmount {
-    Is(Amount),
-    OutOfRange,
-}
-
 impl Amount {
     pub const MAX: u32 = 1000000;
 
-    pub fn new(n: u32) -> CheckedAmount
+    pub fn new(n: u32) -> Option<Amount>
         ensures { as_amount result ≡ within 0 max_amount n }
     {
         if n <= Amount::MAX {
-            return CheckedAmount::Is(Amount(n));
+            Some(Amount(n))
+        } else {
+            None
         }
-        CheckedAmount::OutOfRange
     }
 }
 
@@ -55,24 +46,19 @@ impl Amount {
 #[derive(Clone, Copy)]
 pub struct Minute(pub u16);
 
-#[derive(Clone, Copy)]
-pub enum CheckedMinute {
-    Is(Minute),
-    OutOfRange,
-}
-
 impl Minute {
     pub const MAX: u16 = 1439;
 
     // "The last 1,440 records": one a minute.
     pub const COUNT: u16 = Minute::MAX + 1;
 
-    pub fn new(n: u32) -> CheckedMinute
+    pub fn new(n: u32) -> Option<Minute>
         ensures { as_minute result ≡ within 0 (slots - 1) n }
     {
         if n <= (Minute::MAX as u32) {
-            return CheckedMinute::Is(Minute(n as u16));
+            Some(Minute(n as u16))
+        } else {
+            None
         }
-        CheckedMinute::OutOfRange
     }
 }

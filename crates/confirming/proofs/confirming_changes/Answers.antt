@@ -15,4 +15,4 @@ pub returns : goal.returns
 returns c =
     let pre = c.requires in
     let g = started _ _ _ _ _ pre.0 pre.1.1.1 c.start.auto.distances c.start.ensures in
-    first_round _ _ _ _ _ c.dijkstra.new.distances _ _ _ (c.dijkstra.ensures.grounded _ g) c.of32-best.ensures c.relax_all.ensures
+    first_round _ _ _ _ _ c.dijkstra.new.distances _ _ _ (c.dijkstra.ensures.grounded _ g) c.of-best.ensures c.relax_all.ensures

@@ -3,26 +3,26 @@ use Rattle.model.specs.Tables.{fits, right_sizes, sizes}
 use Rattle.admission.proofs.SizeLaws.{list_differs, list_on, list_last}
 use Rattle.admission.proofs.sizes.sizes_fit.Goals as goal
 
-pub returns-then-degrees-ne-VERTICES : goal.returns-then-degrees-ne-VERTICES
+pub returns-then-t-ne-VERTICES : goal.returns-then-t-ne-VERTICES
 unfolding fits sizes right_sizes
-returns-then-degrees-ne-VERTICES c = list_differs _ _ _ _ c.if-degrees-ne-VERTICES.true
+returns-then-t-ne-VERTICES c = list_differs _ _ _ _ c.if-t-ne-VERTICES.true
 
-pub returns-then-sides-ne-SIDES : goal.returns-then-sides-ne-SIDES
+pub returns-then-t-ne-SIDES : goal.returns-then-t-ne-SIDES
 unfolding fits sizes right_sizes
-returns-then-sides-ne-SIDES c = list_differs _ _ _ _ c.if-sides-ne-SIDES.true ∙ list_on _ _ _ _ c.if-degrees-ne-VERTICES.false
+returns-then-t-ne-SIDES c = list_differs _ _ _ _ c.if-t-ne-SIDES.true ∙ list_on _ _ _ _ c.if-t-ne-VERTICES.false
 
-pub returns-then-ends-ne-ENDS : goal.returns-then-ends-ne-ENDS
+pub returns-then-t-ne-ENDS : goal.returns-then-t-ne-ENDS
 unfolding fits sizes right_sizes
-returns-then-ends-ne-ENDS c = list_differs _ _ _ _ c.if-ends-ne-ENDS.true ∙ list_on _ _ _ _ c.if-sides-ne-SIDES.false ∙ list_on _ _ _ _ c.if-degrees-ne-VERTICES.false
+returns-then-t-ne-ENDS c = list_differs _ _ _ _ c.if-t-ne-ENDS.true ∙ list_on _ _ _ _ c.if-t-ne-SIDES.false ∙ list_on _ _ _ _ c.if-t-ne-VERTICES.false
 
-pub returns-then-lengths-ne-EDGES : goal.returns-then-lengths-ne-EDGES
+pub returns-then-t-ne-EDGES : goal.returns-then-t-ne-EDGES
 unfolding fits sizes right_sizes
-returns-then-lengths-ne-EDGES c = list_differs _ _ _ _ c.if-lengths-ne-EDGES.true ∙ list_on _ _ _ _ c.if-ends-ne-ENDS.false ∙ list_on _ _ _ _ c.if-sides-ne-SIDES.false ∙ list_on _ _ _ _ c.if-degrees-ne-VERTICES.false
+returns-then-t-ne-EDGES c = list_differs _ _ _ _ c.if-t-ne-EDGES.true ∙ list_on _ _ _ _ c.if-t-ne-ENDS.false ∙ list_on _ _ _ _ c.if-t-ne-SIDES.false ∙ list_on _ _ _ _ c.if-t-ne-VERTICES.false
 
-pub returns-then-volumes-ne-EDGES : goal.returns-then-volumes-ne-EDGES
+pub returns-then-t-ne-EDGES-2 : goal.returns-then-t-ne-EDGES-2
 unfolding fits sizes right_sizes
-returns-then-volumes-ne-EDGES c = list_differs _ _ _ _ c.if-volumes-ne-EDGES.true ∙ list_on _ _ _ _ c.if-lengths-ne-EDGES.false ∙ list_on _ _ _ _ c.if-ends-ne-ENDS.false ∙ list_on _ _ _ _ c.if-sides-ne-SIDES.false ∙ list_on _ _ _ _ c.if-degrees-ne-VERTICES.false
+returns-then-t-ne-EDGES-2 c = list_differs _ _ _ _ c.if-t-ne-EDGES-2.true ∙ list_on _ _ _ _ c.if-t-ne-EDGES.false ∙ list_on _ _ _ _ c.if-t-ne-ENDS.false ∙ list_on _ _ _ _ c.if-t-ne-SIDES.false ∙ list_on _ _ _ _ c.if-t-ne-VERTICES.false
 
 pub returns : goal.returns
 unfolding fits sizes right_sizes
-returns c = list_last _ _ ∙ list_on _ _ _ _ c.if-volumes-ne-EDGES.false ∙ list_on _ _ _ _ c.if-lengths-ne-EDGES.false ∙ list_on _ _ _ _ c.if-ends-ne-ENDS.false ∙ list_on _ _ _ _ c.if-sides-ne-SIDES.false ∙ list_on _ _ _ _ c.if-degrees-ne-VERTICES.false
+returns c = list_last _ _ ∙ list_on _ _ _ _ c.if-t-ne-EDGES-2.false ∙ list_on _ _ _ _ c.if-t-ne-EDGES.false ∙ list_on _ _ _ _ c.if-t-ne-ENDS.false ∙ list_on _ _ _ _ c.if-t-ne-SIDES.false ∙ list_on _ _ _ _ c.if-t-ne-VERTICES.false

@@ -1,12 +1,11 @@
-use Rattle.chains.proofs.NameLaws.{Sweeps}
-use lib.ListN.{length}
-use Prim.Native.Nat.{ℕ, ◌-◌}
-use mathlib.Core.List.{List}
 use mathlib.Core.Path.{◌≡◌}
+use Prim.Native.Nat.{◌+◌, ◌-◌}
+use lib.ListN.{length}
+use Rattle.chains.specs.Chains.{names_in, sweep_in}
 use Rattle.chains.proofs.names.count_chains.Given as goal
 
+-- the chains so far and those from here on are all
 abbrev pub invariant-loop-edge : goal.invariant-loop-edge
-invariant-loop-edge l = (found : List ℕ) × (Sweeps l.degrees l.sides l.ends l.edges l.initial.marks l.edge l.marks found × (l.count ≡ length found))
-
-abbrev pub decreases-loop-edge : goal.decreases-loop-edge
-decreases-loop-edge l = l.edges - l.edge
+invariant-loop-edge l =
+    l.count + length (sweep_in l.degrees l.sides l.ends l.edges (l.edges - l.edge) l.marks l.edge)
+    ≡ length (names_in l.degrees l.sides l.ends l.edges l.initial.marks)

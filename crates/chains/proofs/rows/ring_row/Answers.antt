@@ -1,4 +1,4 @@
 use Rattle.chains.proofs.rows.ring_row.Goals as goal
 
 pub returns : goal.returns
-returns c = rw (c.wide.ensures, c.add_lengths.ensures)
+returns c = rw (c.from.ensures, c.add_lengths.ensures)

@@ -1,12 +1,11 @@
-use Rattle.counting.specs.Counting.{count_in}
-use Prim.Native.Nat.{◌+◌, ◌≤◌}
 use mathlib.Core.Path.{◌≡◌}
+use Prim.Native.Nat.{◌+◌, ◌-◌, ◌≤◌}
+use Rattle.counting.specs.Counting.{count_in}
 use Rattle.counting.proofs.counts.count_relabelled.Given as goal
 
-abbrev pub invariant-loop-left : goal.invariant-loop-left
-invariant-loop-left l =
-    (l.count + l.left ≤ l.fuel) × (l.count + count_in l.degrees l.sides l.ends l.labels l.up l.left l.w.edge.0 l.w.at.0 l.next.0
+-- what is left to count, with the count so far, is the whole
+abbrev pub invariant-loop : goal.invariant-loop
+invariant-loop l =
+    (l.count ≤ l.counter)
+    × (l.count + count_in l.degrees l.sides l.ends l.labels l.up (l.fuel - l.counter) l.w.edge.0 l.w.at.0 l.next.0
     ≡ count_in l.degrees l.sides l.ends l.labels l.up l.fuel l.initial.w.edge.0 l.initial.w.at.0 l.initial.next.0)
-
-abbrev pub decreases-loop-left : goal.decreases-loop-left
-decreases-loop-left l = l.left

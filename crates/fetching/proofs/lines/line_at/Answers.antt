@@ -1,47 +1,44 @@
-use Rattle.fetching.proofs.LineLaws.{line_here, line_past}
-use Rattle.chains.proofs.NameLaws.{sweep_start, sweep_on, unmarked_less}
-use lib.ListN.{length-append}
+use mathlib.Core.Path.{ap, sym, ◌∙◌}
+use mathlib.Core.List.{List}
+use Prim.Native.Nat.{ℕ}
 use native.Mathlib.Omega.{arith}
-use Prim.Native.Nat.{◌+◌, ◌-◌}
-use mathlib.Core.List.{[], ◌∷◌, ◌++◌}
-use mathlib.Core.Path.{◌∙◌}
+use Rattle.model.specs.Opened.{line_at}
+use Rattle.chains.specs.Chains.{rows_in}
+use Rattle.chains.proofs.NameLaws.{sweep_end, sweep_on, sweep_past}
+use Rattle.fetching.proofs.LineLaws.{line_here, line_next, line_past, line_start}
 use Rattle.fetching.proofs.lines.line_at.Goals as goal
 
 pub loop-edge-init : goal.loop-edge-init
-loop-edge-init c = ([], (sweep_start _ _ _ _ _ _ c.next_unmarked-edge.ensures, omega arith))
+loop-edge-init c = (omega arith, line_start _ _ _ _ _ _ _ _)
+
+pub loop-edge-preserved-then-of-ne0 : goal.loop-edge-preserved-then-of-ne0
+loop-edge-preserved-then-of-ne0 c =
+    let a = c.args in
+    let l = c.loop-edge in
+    let past = sweep_past a.tables.now.degrees.now a.tables.now.sides.now a.tables.now.ends.now a.edges l.edge l.marks c.loop-edge-test.true (λ e. c.if-of-ne0.true (c.of.ensures ∙ e)) in (
+      omega (arith, l.invariant.0),
+      ap (λ (xs : List ℕ). line_at l.before (rows_in a.tables.now.degrees.now a.tables.now.sides.now a.tables.now.ends.now a.tables.now.lengths.now a.tables.now.volumes.now a.edges xs)) past ∙ l.invariant.1,
+    )
 
 pub overflow_add-result : goal.overflow_add-result
-overflow_add-result c =
-    omega (arith, c.loop-edge.invariant.1.1, c.loop-edge.invariant.1.0.few, c.loop-edge-test.true, c.if-before-eq0.true, c.ranges.edges.fits)
-
-pub shape_of-marks-then-before-eq0 : goal.shape_of-marks-then-before-eq0
-shape_of-marks-then-before-eq0 c =
-    c.take_row-row.auto.marks ∙ c.loop-edge.invariant.1.0.as_long
+overflow_add-result c = omega (arith, c.loop-edge.invariant.0, c.loop-edge-test.true, c.if-before-eq0.true, c.ranges.edges.fits)
 
 pub returns-then-before-eq0 : goal.returns-then-before-eq0
 returns-then-before-eq0 c =
-    λ vertices removals. line_here _ _ _ _ _ _ _ _ _ _ c.loop-edge.invariant.1.0 vertices removals _ _ c.loop-edge.invariant.1.1 _ c.loop-edge-test.true c.if-before-eq0.true c.take_row-row.ensures.0
+    let one = sweep_on _ _ _ _ _ _ _ c.loop-edge-test.true (sym c.of.ensures ∙ c.if-of-ne0.false) c.take_row-row.ensures.1 in
+    λ vertices removals. line_here _ _ _ _ _ _ vertices removals _ _ _ _ c.loop-edge.invariant.1 _ _ _ one c.if-before-eq0.true c.take_row-row.ensures.0
 
 pub overflow_sub-before : goal.overflow_sub-before
 overflow_sub-before c = omega (arith, c.if-before-eq0.false)
 
-pub overflow_add-edge : goal.overflow_add-edge
-overflow_add-edge c =
-    omega (arith, c.loop-edge-test.true, c.ranges.edges.fits)
-
-pub loop-edge-smaller : goal.loop-edge-smaller
-loop-edge-smaller c =
-    unmarked_less _ _ _ _ c.loop-edge-test.true c.next_unmarked-edge-in-loop-edge.ensures
-
 pub loop-edge-preserved : goal.loop-edge-preserved
 loop-edge-preserved c =
-    let inv = c.loop-edge.invariant in
-    let found = inv.0 in
-    let e = c.loop-edge.edge in
-    (found ++ (e ∷ []), (sweep_on _ _ _ _ _ _ _ _ _ _ c.loop-edge-test.true inv.1.0 c.take_row-row.ensures.1 c.take_row-row.auto.marks c.next_unmarked-edge-in-loop-edge.ensures, omega (arith, inv.1.1, length-append found (e ∷ []), c.if-before-eq0.false)))
-
-pub shape_of-marks : goal.shape_of-marks
-shape_of-marks c = c.loop-edge.invariant.1.0.as_long
+    let one = sweep_on _ _ _ _ _ _ _ c.loop-edge-test.true (sym c.of.ensures ∙ c.if-of-ne0.false) c.take_row-row.ensures.1 in (
+      omega (arith, c.loop-edge.invariant.0, c.if-before-eq0.false),
+      line_next _ _ _ _ _ _ _ _ _ _ one c.if-before-eq0.false ∙ c.loop-edge.invariant.1,
+    )
 
 pub returns : goal.returns
-returns c = λ vertices removals. line_past _ _ _ _ _ _ _ _ _ _ c.loop-edge.invariant.1.0 vertices removals _ _ c.loop-edge.invariant.1.1 c.loop-edge-test.false
+returns c =
+    let none = sweep_end _ _ _ _ _ _ c.loop-edge-test.false in
+    λ vertices removals. line_past _ _ _ _ _ _ vertices removals _ _ _ _ c.loop-edge.invariant.1 none

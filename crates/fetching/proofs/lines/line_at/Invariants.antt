@@ -1,14 +1,13 @@
-use Rattle.chains.proofs.NameLaws.{Sweeps}
-use lib.ListN.{length}
-use Prim.Native.Nat.{ℕ, ◌+◌, ◌-◌}
-use mathlib.Core.List.{List}
 use mathlib.Core.Path.{◌≡◌}
+use Prim.Native.Nat.{◌+◌, ◌-◌, ◌≤◌}
+use Rattle.model.specs.Opened.{line_at}
+use Rattle.chains.specs.Chains.{rows_in, sheet_in, sweep_in}
 use Rattle.fetching.proofs.lines.line_at.Given as goal
 
--- the chains that were passed over, and as many more as stand before the place
+-- the line at the place is the one behind as many of those left; at most one chain for each edge so far was passed over
 abbrev pub invariant-loop-edge : goal.invariant-loop-edge
 invariant-loop-edge l =
-    (found : List ℕ) × (Sweeps l.degrees l.sides l.ends l.edges l.initial.marks l.edge l.marks found × (length found + l.before ≡ l.place))
-
-abbrev pub decreases-loop-edge : goal.decreases-loop-edge
-decreases-loop-edge l = l.edges - l.edge
+    (l.place ≤ l.edge + l.before)
+    × (line_at l.before (rows_in l.tables.degrees.now l.tables.sides.now l.tables.ends.now l.tables.lengths.now l.tables.volumes.now l.edges
+    (sweep_in l.tables.degrees.now l.tables.sides.now l.tables.ends.now l.edges (l.edges - l.edge) l.marks l.edge))
+    ≡ line_at l.place (sheet_in l.tables.degrees.now l.tables.sides.now l.tables.ends.now l.tables.lengths.now l.tables.volumes.now l.edges l.initial.marks))

@@ -5,30 +5,30 @@ use Rattle.heads.specs.Others.{tables_fit}
 use Rattle.heads.proofs.FitLaws.{fit_last, fit_none, list_end}
 use Rattle.heads.proofs.sizes.houses_fit.Goals as goal
 
-pub returns-then-degrees : goal.returns-then-degrees
+pub returns-then-register : goal.returns-then-register
 unfolding tables_fit sizes right_sizes
-returns-then-degrees c = fit_none _ _ (list_differs _ _ _ _ c.if-degrees.true)
+returns-then-register c = fit_none _ _ (list_differs _ _ _ _ c.if-register.true)
 
-pub returns-then-sides : goal.returns-then-sides
+pub returns-then-register-2 : goal.returns-then-register-2
 unfolding tables_fit sizes right_sizes
-returns-then-sides c = fit_none _ _ (list_differs _ _ _ _ c.if-sides.true ∙ list_on _ _ _ _ c.if-degrees.false)
+returns-then-register-2 c = fit_none _ _ (list_differs _ _ _ _ c.if-register-2.true ∙ list_on _ _ _ _ c.if-register.false)
 
-pub returns-then-ends : goal.returns-then-ends
+pub returns-then-register-3 : goal.returns-then-register-3
 unfolding tables_fit sizes right_sizes
-returns-then-ends c = fit_none _ _ (list_differs _ _ _ _ c.if-ends.true ∙ list_on _ _ _ _ c.if-sides.false ∙ list_on _ _ _ _ c.if-degrees.false)
+returns-then-register-3 c = fit_none _ _ (list_differs _ _ _ _ c.if-register-3.true ∙ list_on _ _ _ _ c.if-register-2.false ∙ list_on _ _ _ _ c.if-register.false)
 
-pub returns-then-lengths : goal.returns-then-lengths
+pub returns-then-register-4 : goal.returns-then-register-4
 unfolding tables_fit sizes right_sizes
-returns-then-lengths c = fit_none _ _ (list_differs _ _ _ _ c.if-lengths.true ∙ list_on _ _ _ _ c.if-ends.false ∙ list_on _ _ _ _ c.if-sides.false ∙ list_on _ _ _ _ c.if-degrees.false)
+returns-then-register-4 c = fit_none _ _ (list_differs _ _ _ _ c.if-register-4.true ∙ list_on _ _ _ _ c.if-register-3.false ∙ list_on _ _ _ _ c.if-register-2.false ∙ list_on _ _ _ _ c.if-register.false)
 
-pub returns-then-volumes : goal.returns-then-volumes
+pub returns-then-register-5 : goal.returns-then-register-5
 unfolding tables_fit sizes right_sizes
-returns-then-volumes c = fit_none _ _ (list_differs _ _ _ _ c.if-volumes.true ∙ list_on _ _ _ _ c.if-lengths.false ∙ list_on _ _ _ _ c.if-ends.false ∙ list_on _ _ _ _ c.if-sides.false ∙ list_on _ _ _ _ c.if-degrees.false)
+returns-then-register-5 c = fit_none _ _ (list_differs _ _ _ _ c.if-register-5.true ∙ list_on _ _ _ _ c.if-register-4.false ∙ list_on _ _ _ _ c.if-register-3.false ∙ list_on _ _ _ _ c.if-register-2.false ∙ list_on _ _ _ _ c.if-register.false)
 
-pub returns-then-labels : goal.returns-then-labels
+pub returns-then-register-6 : goal.returns-then-register-6
 unfolding tables_fit sizes right_sizes
-returns-then-labels c = fit_none _ _ (list_differs _ _ _ _ c.if-labels.true ∙ list_on _ _ _ _ c.if-volumes.false ∙ list_on _ _ _ _ c.if-lengths.false ∙ list_on _ _ _ _ c.if-ends.false ∙ list_on _ _ _ _ c.if-sides.false ∙ list_on _ _ _ _ c.if-degrees.false)
+returns-then-register-6 c = fit_none _ _ (list_differs _ _ _ _ c.if-register-6.true ∙ list_on _ _ _ _ c.if-register-5.false ∙ list_on _ _ _ _ c.if-register-4.false ∙ list_on _ _ _ _ c.if-register-3.false ∙ list_on _ _ _ _ c.if-register-2.false ∙ list_on _ _ _ _ c.if-register.false)
 
 pub returns : goal.returns
 unfolding tables_fit sizes right_sizes
-returns c = fit_last _ _ (list_end _ _ c.if-labels.false ∙ list_on _ _ _ _ c.if-volumes.false ∙ list_on _ _ _ _ c.if-lengths.false ∙ list_on _ _ _ _ c.if-ends.false ∙ list_on _ _ _ _ c.if-sides.false ∙ list_on _ _ _ _ c.if-degrees.false)
+returns c = fit_last _ _ (list_end _ _ c.if-register-6.false ∙ list_on _ _ _ _ c.if-register-5.false ∙ list_on _ _ _ _ c.if-register-4.false ∙ list_on _ _ _ _ c.if-register-3.false ∙ list_on _ _ _ _ c.if-register-2.false ∙ list_on _ _ _ _ c.if-register.false)

@@ -3,9 +3,9 @@ use Rattle.list.specs.Reading.{as_header}
 use mathlib.Core.Path.{ap, sym, ◌∙◌}
 use Rattle.landing.proofs.records.land_list.Goals as goal
 
-pub returns-in-Good : goal.returns-in-Good
-returns-in-Good c =
-    list_records _ _ _ _ _ _ _ (ap as_header (sym c.in-Good.is) ∙ c.read_header-header.ensures) c.land_records.ensures
+pub returns-in-Ok-clause-lands : goal.returns-in-Ok-clause-lands
+returns-in-Ok-clause-lands c =
+    list_records _ _ _ _ _ _ _ (ap as_header (sym c.in-Ok.is) ∙ c.read_header-header.ensures) c.land_records.ensures.lands
 
-pub returns-in-Refused : goal.returns-in-Refused
-returns-in-Refused c = list_bad _ _ _ _ _ _ (ap as_header (sym c.in-Refused.is) ∙ c.read_header-header.ensures)
+pub returns-in-Err-clause-lands : goal.returns-in-Err-clause-lands
+returns-in-Err-clause-lands c = list_bad _ _ _ _ _ _ (ap as_header (sym c.in-Err.is) ∙ c.read_header-header.ensures)

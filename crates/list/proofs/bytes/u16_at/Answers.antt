@@ -4,4 +4,4 @@ use Rattle.list.proofs.bytes.u16_at.Goals as goal
 
 pub returns : goal.returns
 unfolding u16_at byte_at
-returns c = omega (arith, c.wide16-low.ensures.0, c.wide16-high.ensures.0)
+returns c = omega (arith, c.from_le_bytes.ensures)

@@ -1,7 +1,10 @@
-use Rattle.model.specs.Format.{u32_at}
+use Rattle.model.specs.Format.{u32_at, u16_at, byte_at}
+use mathlib.Core.Path.{◌≡◌}
+use Prim.Native.Nat.{◌+◌}
 use native.Mathlib.Omega.{arith}
 use Rattle.list.proofs.bytes.u32_at.Goals as goal
 
 pub returns : goal.returns
-unfolding u32_at
-returns c = omega arith
+unfolding u32_at u16_at byte_at
+returns c =
+    let last : c.args.i + 2 + 1 ≡ c.args.i + 3 = omega arith in rw last (omega (arith, c.from_le_bytes.ensures))

@@ -1,38 +1,37 @@
-use Rattle.listing.proofs.Lines.{row_lines_lem}
-use Rattle.chains.proofs.SheetLaws.{put_none, put_on, put_all}
-use Rattle.chains.proofs.NameLaws.{sweep_start, sweep_on, sweep_end, unmarked_less}
-use mathlib.Core.List.{[], ◌∷◌, ◌++◌}
-use mathlib.Core.Path.{refl, ◌∙◌}
+use mathlib.Core.Path.{ap, sym, ◌∙◌}
+use mathlib.Core.List.{List}
+use Prim.Native.Nat.{ℕ}
 use native.Mathlib.Omega.{arith}
+use Rattle.model.specs.Printing.{row_lines}
+use Rattle.text.specs.Pages.{page, write}
+use Rattle.chains.specs.Chains.{rows_in}
+use Rattle.chains.proofs.NameLaws.{sweep_end, sweep_on, sweep_past}
+use Rattle.chains.proofs.SheetLaws.{put_start, put_on, put_end}
+use Rattle.listing.proofs.Lines.{row_lines_lem}
 use Rattle.listing.proofs.listing.put_sheet_lines.Goals as goal
 
 pub loop-edge-init : goal.loop-edge-init
-loop-edge-init c = ((refl, omega arith), ([], (sweep_start _ _ _ _ _ _ c.next_unmarked-edge.ensures, put_none _ _ _ _ _ _ _ _ row_lines_lem _)))
+loop-edge-init c = (omega arith, put_start _ _ _ _ _ _ _ _ row_lines_lem _ _)
 
-pub overflow_add-edge : goal.overflow_add-edge
-overflow_add-edge c =
-    omega (arith, c.loop-edge-test.true)
-
-pub loop-edge-smaller : goal.loop-edge-smaller
-loop-edge-smaller c =
-    unmarked_less _ _ _ _ c.loop-edge-test.true c.next_unmarked-edge-in-loop-edge.ensures
+pub loop-edge-preserved-then-of-ne0 : goal.loop-edge-preserved-then-of-ne0
+loop-edge-preserved-then-of-ne0 c =
+    let a = c.args in
+    let l = c.loop-edge in
+    let past = sweep_past a.degrees.now a.sides.now a.ends.now a.edges l.edge l.marks c.loop-edge-test.true (λ e. c.if-of-ne0.true (c.of.ensures ∙ e)) in (
+      omega (arith, l.invariant.0),
+      ap (λ (xs : List ℕ). write (row_lines (rows_in a.degrees.now a.sides.now a.ends.now a.lengths.now a.volumes.now a.edges xs)) (page l.out l.next)) past ∙ l.invariant.1,
+    )
 
 pub loop-edge-preserved : goal.loop-edge-preserved
 loop-edge-preserved c =
-    let inv = c.loop-edge.invariant.1 in
-    let found = inv.0 in
-    let e = c.loop-edge.edge in
-    let less = unmarked_less _ _ _ _ c.loop-edge-test.true c.next_unmarked-edge-in-loop-edge.ensures in
-    ((c.put_chain_line-next.auto.out ∙ c.loop-edge.invariant.0.0, omega (arith, less, c.loop-edge.invariant.0.1, c.put_chain_line-next.ensures.1)), (found ++ (e ∷ []), (sweep_on _ _ _ _ _ _ _ _ _ _ c.loop-edge-test.true inv.1.0 c.take_row-row.ensures.1 c.take_row-row.auto.marks c.next_unmarked-edge-in-loop-edge.ensures, put_on _ _ _ _ _ _ _ _ row_lines_lem _ _ _ _ _ _ inv.1.1 c.take_row-row.ensures.0 c.put_chain_line-next.ensures.0)))
-
-pub shape_of-out : goal.shape_of-out
-shape_of-out c = c.loop-edge.invariant.0.0
-
-pub shape_of-marks : goal.shape_of-marks
-shape_of-marks c = c.loop-edge.invariant.1.1.0.as_long
+    let one = sweep_on _ _ _ _ _ _ _ c.loop-edge-test.true (sym c.of.ensures ∙ c.if-of-ne0.false) c.take_row-row.ensures.1 in (
+      omega (arith, c.loop-edge.invariant.0, c.put_chain_line-next.ensures.1),
+      put_on _ _ _ _ _ _ _ _ row_lines_lem _ _ _ _ _ _ one c.take_row-row.ensures.0 c.put_chain_line-next.ensures.0 ∙ c.loop-edge.invariant.1,
+    )
 
 pub returns : goal.returns
 returns c =
-    let inv = c.loop-edge.invariant.1 in
-    let all = sweep_end _ _ _ _ _ _ _ _ c.loop-edge-test.false inv.1.0 in
-    (put_all _ _ _ _ _ _ _ _ row_lines_lem _ _ _ _ all inv.1.1, omega (arith, c.loop-edge.invariant.0.1, inv.1.0.within))
+    let none = sweep_end _ _ _ _ _ _ c.loop-edge-test.false in (
+      put_end _ _ _ _ _ _ _ _ row_lines_lem _ _ none ∙ c.loop-edge.invariant.1,
+      omega (arith, c.loop-edge.invariant.0, c.loop-edge-test.false),
+    )

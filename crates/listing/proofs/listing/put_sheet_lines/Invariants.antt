@@ -1,16 +1,15 @@
-use Rattle.listing.specs.Listing.{row_bytes}
-use Rattle.chains.proofs.NameLaws.{Sweeps}
-use Rattle.chains.specs.Chains.{rows_in}
-use Rattle.text.specs.Pages.{page, write}
-use Rattle.model.specs.Printing.{row_lines}
-use lib.ListN.{length}
-use mathlib.Core.List.{List}
 use mathlib.Core.Path.{◌≡◌}
-use Prim.Native.Nat.{ℕ, ◌+◌, ◌*◌, ◌-◌, ◌≤◌}
+use Prim.Native.Nat.{◌+◌, ◌-◌, ◌*◌, ◌≤◌}
+use Rattle.model.specs.Printing.{row_lines}
+use Rattle.text.specs.Pages.{page, write}
+use Rattle.chains.specs.Chains.{rows_in, sheet_in, sweep_in}
+use Rattle.listing.specs.Listing.{row_bytes}
 use Rattle.listing.proofs.listing.put_sheet_lines.Given as goal
 
+-- the lines of the chains from here on end the page as all do, and there is at most one line for each edge so far
 abbrev pub invariant-loop-edge : goal.invariant-loop-edge
-invariant-loop-edge l = ((length l.out ≡ length l.initial.out) × (l.next ≤ l.at + row_bytes * l.edge)) × ((found : List ℕ) × (Sweeps l.degrees l.sides l.ends l.edges l.initial.marks l.edge l.marks found × (page l.out l.next ≡ write (row_lines (rows_in l.degrees l.sides l.ends l.lengths l.volumes l.edges found)) (page l.initial.out l.at))))
-
-abbrev pub decreases-loop-edge : goal.decreases-loop-edge
-decreases-loop-edge l = l.edges - l.edge
+invariant-loop-edge l =
+    (l.next ≤ l.at + row_bytes * l.edge)
+    × (write (row_lines (rows_in l.degrees l.sides l.ends l.lengths l.volumes l.edges
+    (sweep_in l.degrees l.sides l.ends l.edges (l.edges - l.edge) l.marks l.edge))) (page l.out l.next)
+    ≡ write (row_lines (sheet_in l.degrees l.sides l.ends l.lengths l.volumes l.edges l.initial.marks)) (page l.initial.out l.at))

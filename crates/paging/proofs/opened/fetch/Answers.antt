@@ -1,55 +1,33 @@
-use Rattle.licence.proofs.CallLaws.{counted_call}
-use Rattle.licence.proofs.PassLaws.{open_known}
-use Rattle.licence.proofs.CallLaws.{barred_call}
-use Rattle.licence.proofs.StepLaws.{is_grow}
-use Rattle.licence.specs.Gate.{as_passed}
-use Rattle.nursery.specs.Calls.{fetches, own_slice}
-use Rattle.model.specs.Calls.{lent_to}
 use mathlib.Core.Bool.{false}
-use mathlib.Core.Path.{refl, sym, ap, ◌∙◌}
+use mathlib.Core.Path.{refl}
+use Rattle.std.proofs.lemmas.Result.{err_from_is_err_and}
+use Rattle.model.specs.Calls.{lent_to}
+use Rattle.opening.specs.Meaning.{as_sheet}
+use Rattle.nursery.specs.Calls.{fetches, own_slice}
+use Rattle.licence.proofs.CallLaws.{barred_call, counted_call}
+use Rattle.licence.proofs.PassLaws.{open_known}
+use Rattle.licence.proofs.StepLaws.{is_grow}
+use Rattle.std.proofs.Common.{rules}
 use Rattle.paging.proofs.opened.fetch.Goals as goal
 
-pub head_of-own-requires : goal.head_of-own-requires
-head_of-own-requires c =
-    (open_known _ _ _ _ _ false _ (ap as_passed (sym c.in-Open.is) ∙ c.pass_others-passed.ensures.0)).0
+pub part_of-requires : goal.part_of-requires
+part_of-requires c = let k = open_known _ _ _ _ _ false _ c.in_ok-pass_others.ensures.gates.0 in (k.0, k.1)
 
-pub removals_of-removals-requires : goal.removals_of-removals-requires
-removals_of-removals-requires c =
-    (open_known _ _ _ _ _ false _ (ap as_passed (sym c.in-Open.is) ∙ c.pass_others-passed.ensures.0)).0
+pub head_of-requires : goal.head_of-requires
+head_of-requires c = (open_known _ _ _ _ _ false _ c.in_ok-pass_others.ensures.gates.0).0
 
-pub fetch_house-requires : goal.fetch_house-requires
-fetch_house-requires c =
-    ((open_known _ _ _ _ _ false _ (ap as_passed (sym c.in-Open.is) ∙ c.pass_others-passed.ensures.0)).0, (open_known _ _ _ _ _ false _ (ap as_passed (sym c.in-Open.is) ∙ c.pass_others-passed.ensures.0)).1)
+pub removals_of-requires : goal.removals_of-requires
+removals_of-requires c = (open_known _ _ _ _ _ false _ c.in_ok-pass_others.ensures.gates.0).0
 
-pub shape_of-sdegrees-in-Open : goal.shape_of-sdegrees-in-Open
-shape_of-sdegrees-in-Open c =
-    c.fetch_house.auto.sdegrees ∙ c.pass_others-passed.auto.sdegrees
+pub returns : goal.returns
+returns c =
+    let k = counted_call _ _ _ _ _ _ _ c.in_ok-pass_others.ensures.gates.0 c.pass_others.ensures.gates.1 _ c.head_of.ensures _ c.removals_of.ensures _ _ _ _
+    (rw c.part_of.ensures at c.fetch.ensures.answers _) in
+    search rules
 
-pub shape_of-ssides-in-Open : goal.shape_of-ssides-in-Open
-shape_of-ssides-in-Open c =
-    c.fetch_house.auto.ssides ∙ c.pass_others-passed.auto.ssides
-
-pub shape_of-sends-in-Open : goal.shape_of-sends-in-Open
-shape_of-sends-in-Open c =
-    c.fetch_house.auto.sends ∙ c.pass_others-passed.auto.sends
-
-pub shape_of-slengths-in-Open : goal.shape_of-slengths-in-Open
-shape_of-slengths-in-Open c =
-    c.fetch_house.auto.slengths ∙ c.pass_others-passed.auto.slengths
-
-pub shape_of-svolumes-in-Open : goal.shape_of-svolumes-in-Open
-shape_of-svolumes-in-Open c =
-    c.fetch_house.auto.svolumes ∙ c.pass_others-passed.auto.svolumes
-
-pub shape_of-slabels-in-Open : goal.shape_of-slabels-in-Open
-shape_of-slabels-in-Open c =
-    c.fetch_house.auto.slabels ∙ c.pass_others-passed.auto.slabels
-
-pub returns-in-Open : goal.returns-in-Open
-returns-in-Open c =
-    counted_call _ _ _ _ _ _ _ (ap as_passed (sym c.in-Open.is) ∙ c.pass_others-passed.ensures.0) c.pass_others-passed.ensures.1 _ c.head_of-own.ensures _ c.removals_of-removals.ensures _ _ _ _ (c.fetch_house.ensures _)
-
-pub returns-in-Refused : goal.returns-in-Refused
+pub returns-in_err-pass_others : goal.returns-in_err-pass_others
 unfolding is_grow own_slice lent_to
-returns-in-Refused c =
-    barred_call _ _ _ _ _ _ false (fetches _) _ refl (ap as_passed (sym c.in-Refused.is) ∙ c.pass_others-passed.ensures.0) c.pass_others-passed.ensures.1
+returns-in_err-pass_others c =
+    let p = err_from_is_err_and c.from_residual.result c.from_residual.ensures.1 in
+    let k = barred_call _ _ _ _ _ _ false (fetches (as_sheet c.args.sheet)) _ refl c.in_err-pass_others.ensures.gates.0 c.pass_others.ensures.gates.1 in
+    rw (p.1, p.2) (search rules)

@@ -1,21 +1,18 @@
 use Rattle.planner.specs.FromC.{number_in_c}
-use mathlib.Core.Path.{◌∙◌}
 use native.Mathlib.Omega.{arith}
 use mir.Syntax.{w32}
-use mir.Facts.{to_z_pos, to_z-of_z}
+use mir.Facts.{to_z_pos}
 use Rattle.planner.proofs.lent.planned_number.Goals as goal
 
-pub returns-in-At : goal.returns-in-At
+pub returns-in-Ok-At : goal.returns-in-Ok-At
 unfolding number_in_c
-returns-in-At c = rw c.in-At.is (to_z_pos w32 {n = c.in-At.beginning.0} (omega arith))
+returns-in-Ok-At c =
+    let h = rw c.in-Ok-At.is at c.in-Ok-At.field-0-is in rw (c.in-Ok-At.is, h) (to_z_pos w32 {n = c.in-Ok-At.beginning.0} (omega arith))
 
-pub returns-in-Refused : goal.returns-in-Refused
-returns-in-Refused c = rw c.in-Refused.is (to_z-of_z {w = w32} (record { sfits = c.refusal_number.type_inv }) ∙ c.refusal_number.ensures)
-
-pub returns-in-Never : goal.returns-in-Never
+pub returns-in-Ok-Never : goal.returns-in-Ok-Never
 unfolding number_in_c
-returns-in-Never c = rw c.in-Never.is
+returns-in-Ok-Never c = let h = rw c.in-Ok-Never.is at c.in-Ok-Never.field-0-is in rw (c.in-Ok-Never.is, h)
 
-pub returns-in-Unknown : goal.returns-in-Unknown
+pub returns-in-Ok-Unknown : goal.returns-in-Ok-Unknown
 unfolding number_in_c
-returns-in-Unknown c = rw c.in-Unknown.is
+returns-in-Ok-Unknown c = let h = rw c.in-Ok-Unknown.is at c.in-Ok-Unknown.field-0-is in rw (c.in-Ok-Unknown.is, h)

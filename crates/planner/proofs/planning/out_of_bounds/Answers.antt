@@ -1,15 +1,12 @@
-use Rattle.planner.proofs.BoundLaws.{flow_low, flow_high, minute_high, many}
-use native.Mathlib.Omega.{arith}
+use Rattle.std.proofs.Common.{rules}
+use Rattle.planner.specs.Planning.{out_of_bounds}
+use Rattle.planner.proofs.BoundLaws.{counted}
 use Rattle.planner.proofs.planning.out_of_bounds.Goals as goal
 
-pub returns-then-flow-lt-MIN : goal.returns-then-flow-lt-MIN
-returns-then-flow-lt-MIN c = flow_low _ _ _ c.if-flow-lt-MIN.true
-
-pub returns-then-flow-gt-MAX : goal.returns-then-flow-gt-MAX
-returns-then-flow-gt-MAX c = flow_high _ _ _ (omega arith) c.if-flow-gt-MAX.true
-
 pub returns-then-minute-gt-MAX : goal.returns-then-minute-gt-MAX
-returns-then-minute-gt-MAX c = minute_high _ _ _ (omega arith) (omega arith) c.if-minute-gt-MAX.true
+unfolding out_of_bounds
+returns-then-minute-gt-MAX c = search rules
 
-pub returns : goal.returns
-returns c = many _ _ _ (omega arith) (omega arith) (omega arith)
+pub returns-else-minute-gt-MAX : goal.returns-else-minute-gt-MAX
+unfolding out_of_bounds
+returns-else-minute-gt-MAX c = rw (← counted c.args.windows.now) (search rules)

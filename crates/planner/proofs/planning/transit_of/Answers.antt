@@ -1,8 +1,9 @@
-use Rattle.planner.proofs.Transit.{transit_some}
-use Rattle.planner.specs.Planning.{transit}
-use mathlib.Core.Path.{refl}
+use Rattle.std.proofs.Common.{rules}
+use Rattle.planner.proofs.Transit.{ceil_is, transit_some}
 use Rattle.planner.proofs.planning.transit_of.Goals as goal
 
 pub returns : goal.returns
-unfolding transit
-returns c = (refl, transit_some _ _ c.requires.0 c.requires.1)
+returns c =
+    let ceil = ceil_is _ _ c.requires.0 c.requires.1 in
+    let some = transit_some _ _ c.requires.0 c.requires.1 in
+    search rules

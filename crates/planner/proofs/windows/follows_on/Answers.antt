@@ -1,13 +1,11 @@
-use Rattle.planner.proofs.WindowLaws.{early, empty, long}
-use native.Mathlib.Omega.{arith}
-use mathlib.Core.Path.{refl}
+use Rattle.std.proofs.Common.{rules}
+use Rattle.planner.specs.Windows.{follows}
 use Rattle.planner.proofs.windows.follows_on.Goals as goal
 
-pub returns-then-start-previous : goal.returns-then-start-previous
-returns-then-start-previous c = early _ _ _ c.if-start-previous.true
+pub returns-then-start-end : goal.returns-then-start-end
+unfolding follows
+returns-then-start-end c = search rules
 
-pub returns-then-end-start : goal.returns-then-end-start
-returns-then-end-start c = empty _ _ _ (omega arith) c.if-end-start.true
-
-pub returns : goal.returns
-returns c = long _ _ _ _ (omega arith) (omega arith) refl
+pub returns-else-start-end : goal.returns-else-start-end
+unfolding follows
+returns-else-start-end c = search rules

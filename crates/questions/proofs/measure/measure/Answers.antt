@@ -2,12 +2,8 @@ use Rattle.tables.specs.Steps.{zeroed}
 use mathlib.Core.Path.{◌∙◌}
 use Rattle.questions.proofs.measure.measure.Goals as goal
 
-pub measure_in-answer-requires : goal.measure_in-answer-requires
-measure_in-answer-requires c =
-    c.requires
-
-pub returns : goal.returns
+pub returns-clause-cleared : goal.returns-clause-cleared
 unfolding zeroed
-returns c =
+returns-clause-cleared c =
     let k = c.measure_in-answer.auto in
-    (c.clear_tables.ensures ∙ rw (k.heads, k.heap, k.next, k.distances, k.keys), c.measure_in-answer.ensures)
+    c.clear_tables.ensures.cleared ∙ rw (k.heads, k.heap, k.next, k.distances, k.keys)

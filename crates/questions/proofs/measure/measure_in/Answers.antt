@@ -8,10 +8,10 @@ returns-then-counts-v c = λ degrees sides volumes labels. measure_first _ _ _ _
 pub returns-then-counts-w : goal.returns-then-counts-w
 returns-then-counts-w c = λ degrees sides volumes labels. measure_second _ _ _ _ c.if-counts-w.true
 
-pub search-distance-requires : goal.search-distance-requires
-search-distance-requires c =
+pub search-requires : goal.search-requires
+search-requires c =
     (c.requires.0.0, (omega (arith, c.requires.0.1, c.if-counts-v.false), (omega (arith, c.requires.0.1, c.if-counts-w.false), c.requires.1)))
 
 pub returns : goal.returns
 returns c =
-    λ degrees sides volumes labels. measure_landed _ _ _ _ _ (omega (arith, c.if-counts-v.false)) (omega (arith, c.if-counts-w.false)) (c.search-distance.ensures degrees sides volumes labels)
+    λ degrees sides volumes labels. measure_landed _ _ _ _ _ (omega (arith, c.if-counts-v.false)) (omega (arith, c.if-counts-w.false)) (c.search.ensures degrees sides volumes labels)

@@ -4,7 +4,7 @@ use Rattle.questions.proofs.sheet.put_row.Goals as goal
 
 pub returns : goal.returns
 returns c =
-    rw (← c.wide.ensures, ← c.wide-2.ensures, ← c.wide-3.ensures) (write_two (_ ∷ []) _ _ _ _ c.put_u32-second.ensures
+    rw (← c.from.ensures, ← c.from-2.ensures, ← c.from-3.ensures) (write_two (_ ∷ []) _ _ _ _ c.put_u32-second.ensures
     (write_two (_ ∷ []) _ _ _ _ c.put_u32-third.ensures
     (write_two (_ ∷ []) _ _ _ _ c.put_u32-fourth.ensures
     (write_two (_ ∷ []) _ _ _ _ c.put_u32-fifth.ensures

@@ -7,4 +7,4 @@ returns-then-not-has_room c = λ labels. sheet_short (tables _ _ _ _ _ labels) _
 
 pub returns : goal.returns
 returns c =
-    λ labels. sheet_whole (tables _ _ _ _ _ labels) _ _ _ _ _ c.has_room.ensures _ _ c.if-not-has_room.false c.put_rows-count.ensures.0 c.put_rows-count.ensures.1
+    λ labels. sheet_whole (tables _ _ _ _ _ labels) _ _ _ _ _ c.has_room.ensures _ _ c.if-not-has_room.false c.put_rows.ensures.0 c.put_rows.ensures.1

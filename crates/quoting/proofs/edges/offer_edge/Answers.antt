@@ -7,4 +7,4 @@ pub returns : goal.returns
 returns c =
     offered _ _ _ _ _ _ _ _ _ _ _ _ _
     (c.case_of-case.ensures ∙ ap₂ case_of (ap class_of c.degree_of.ensures) (c.class_of.ensures ∙ ap class_of c.degree_of-2.ensures))
-    c.work_of-work.ensures c.plan_work-plan.ensures c.count_planned-estimate.ensures c.terms_of-terms.ensures
+    c.work_of-work.ensures c.plan_work-plan.ensures c.count_planned-estimate.ensures c.offer_of-offer.ensures

@@ -1,11 +1,11 @@
+use Rattle.std.proofs.lemmas.Result.{err_from_is_err_and}
 use Rattle.recording.proofs.UnlabelledLaws.{record_passed, record_failed}
-use Rattle.checking.specs.Meaning.{as_checked}
-use mathlib.Core.Path.{ap, sym, ◌∙◌}
 use Rattle.recording.proofs.unlabelled.land_unlabelled.Goals as goal
 
-pub returns-in-Passed : goal.returns-in-Passed
-returns-in-Passed c =
-    record_passed _ _ _ _ _ _ _ _ _ _ _ (ap as_checked (sym c.in-Passed.is) ∙ c.check_edge-checked.ensures) c.note_edge.ensures
+pub returns-in_err-edge : goal.returns-in_err-edge
+returns-in_err-edge c =
+    let p = err_from_is_err_and c.from_residual.result c.from_residual.ensures.1 in
+    rw (p.1, p.2) (record_failed _ _ _ _ _ _ c.in_err-edge.ensures)
 
-pub returns-in-Refused : goal.returns-in-Refused
-returns-in-Refused c = record_failed _ _ _ _ _ _ (ap as_checked (sym c.in-Refused.is) ∙ c.check_edge-checked.ensures)
+pub returns : goal.returns
+returns c = record_passed _ _ _ _ _ _ _ _ _ _ _ c.in_ok-edge.ensures c.note_edge.ensures

@@ -11,32 +11,23 @@ returns-then-half-eq0 c = search keeps_same
 pub returns-then-edges-half : goal.returns-then-edges-half
 returns-then-edges-half c = search keeps_same
 
-pub of32_within-requires : goal.of32_within-requires
-of32_within-requires c =
-    end_room c.requires (c.args.j - 2) _ (omega arith) c.at16_within-near.ensures
+pub bounds-distances-near : goal.bounds-distances-near
+bounds-distances-near c = end_room c.requires (c.args.j - 2) _ (omega arith) refl
 
 pub overflow_add-sum : goal.overflow_add-sum
 overflow_add-sum c =
     let n = end_vertex c.requires.searchable (c.args.j - 2) (omega arith) in
-    let t : c.of32_within.result ≤ unreached = rw (c.of32_within.ensures, c.at16_within-near.ensures) (c.requires.top _ n) in
+    let t = c.requires.top _ n in
     let u = c.requires.searchable.short (c.args.j / 2 - 1) (omega arith) in
-    omega (arith, t, u, c.of32_within-2.ensures)
+    omega (arith, t, u)
 
 pub returns-then-best-sum : goal.returns-then-best-sum
 returns-then-best-sum c = search keeps_same
 
-pub of32_within-requires-3 : goal.of32_within-requires-3
-of32_within-requires-3 c =
-    end_room c.requires (4 * (c.args.j / 2) - 1 - c.args.j) _ (omega arith) c.at16_within-far.ensures
-
-pub returns-then-of32_within-sum : goal.returns-then-of32_within-sum
-returns-then-of32_within-sum c = search keeps_same
-
-pub put32_within-requires : goal.put32_within-requires
-put32_within-requires c =
-    end_room c.requires (4 * (c.args.j / 2) - 1 - c.args.j) _ (omega arith) c.at16_within-far.ensures
+pub bounds-distances-far : goal.bounds-distances-far
+bounds-distances-far c = end_room c.requires (4 * (c.args.j / 2) - 1 - c.args.j) _ (omega arith) refl
 
 pub returns : goal.returns
 returns c =
     far_keeps _ _ _ _ c.requires _ c.args.j _ _ _ _ _ _ _ refl (omega arith) c.if-edges-half.false
-    c.at16_within-near.ensures c.at16_within-far.ensures c.of32_within.ensures c.of32_within-3.ensures c.of32_within-2.ensures refl c.if-of32_within-sum.false c.put32_within.ensures
+    refl refl refl refl refl refl c.if-distances-far.false refl

@@ -11,4 +11,4 @@ returns-then-any_landed c = not_empty _ _ _ (sym c.if-any_landed.true ∙ c.any_
 
 pub returns : goal.returns
 returns c =
-    all_set _ _ _ _ (omega (arith, c.if-sum_of.false, c.sum_of.ensures)) (sym c.any_landed.ensures ∙ c.if-any_landed.false) c.copy_eight.ensures
+    all_set _ _ _ _ (omega (arith, c.if-sum_of.false, c.sum_of.ensures)) (sym c.any_landed.ensures ∙ c.if-any_landed.false) c.copy_from_slice.ensures.after

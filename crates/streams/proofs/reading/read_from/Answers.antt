@@ -6,5 +6,5 @@ pub loop-done-preserved : goal.loop-done-preserved
 loop-done-preserved g c = record {
   within = search rules;
   same_length = search rules;
-  taken = more_taken c.loop-done.done c.in-More.count _ _ _ _ _ c.loop-done.list c.read-got.new.buf c.in-More.ensures c.loop-done.invariant.within c.loop-done.invariant.taken c.read-got.ensures.bound c.read-got.ensures.bytes;
+  taken = more_taken c.loop-done.done c.in_ok-count.count _ _ _ _ c.loop-done.list c.read.new.buf c.loop-done.invariant.within c.in_ok-count.ensures.bound.0 c.loop-done.invariant.taken c.in_ok-count.ensures.bytes.0;
 }

@@ -1,44 +1,50 @@
-use Rattle.survey.proofs.Rows.{row_bytes_lem}
-use Rattle.chains.proofs.SheetLaws.{put_none, put_on, put_all}
-use Rattle.chains.proofs.NameLaws.{sweep_start, sweep_on, sweep_end, unmarked_less}
-use Rattle.text.specs.Pages.{Page}
-use lib.ListN.{length, length-append}
+use mathlib.Core.Path.{ap, sym, ◌∙◌}
+use mathlib.Core.List.{List}
+use Prim.Native.Nat.{ℕ, ◌+◌}
 use native.Mathlib.Omega.{arith}
-use Prim.Native.Nat.{ℕ}
-use mathlib.Core.List.{List, [], ◌∷◌, ◌++◌}
-use mathlib.Core.Path.{refl, ap, ◌∙◌}
+use lib.ListN.{length}
+use Rattle.model.specs.FromC.{bytes_of}
+use Rattle.model.specs.Queries.{concat}
+use Rattle.text.specs.Pages.{Page, page, write}
+use Rattle.chains.specs.Chains.{rows_in}
+use Rattle.chains.proofs.NameLaws.{names_few, sweep_end, sweep_on, sweep_past, sweep_start}
+use Rattle.chains.proofs.SheetLaws.{put_start, put_on, put_end}
+use Rattle.survey.proofs.Rows.{row_bytes_lem}
 use Rattle.survey.proofs.sheet.put_sheet_bytes.Goals as goal
 
 pub loop-edge-init : goal.loop-edge-init
-loop-edge-init c = (refl, ([], (sweep_start _ _ _ _ _ _ c.next_unmarked-edge.ensures, (refl, put_none _ _ _ _ _ _ _ _ row_bytes_lem _))))
+loop-edge-init c =
+    let a = c.args in
+    let start = sweep_start a.degrees.now a.sides.now a.ends.now a.edges a.marks.now in
+    (omega (arith, ap (λ (xs : List ℕ). length xs) start), put_start _ _ _ _ _ _ _ _ row_bytes_lem _ _)
+
+pub loop-edge-preserved-then-of-ne0 : goal.loop-edge-preserved-then-of-ne0
+loop-edge-preserved-then-of-ne0 c =
+    let a = c.args in
+    let l = c.loop-edge in
+    let past = sweep_past a.degrees.now a.sides.now a.ends.now a.edges l.edge l.marks c.loop-edge-test.true (λ e. c.if-of-ne0.true (c.of.ensures ∙ e)) in (
+      ap (λ (xs : List ℕ). l.count + length xs) past ∙ l.invariant.0,
+      ap (λ (xs : List ℕ). write (bytes_of (concat (rows_in a.degrees.now a.sides.now a.ends.now a.lengths.now a.volumes.now a.edges xs))) (page l.out l.next)) past ∙ l.invariant.1,
+    )
 
 pub overflow_add-count : goal.overflow_add-count
 overflow_add-count c =
-    omega (arith, c.loop-edge.invariant.1.1.1.0, c.loop-edge.invariant.1.1.0.few, c.loop-edge-test.true, c.ranges.edges.fits)
-
-pub overflow_add-edge : goal.overflow_add-edge
-overflow_add-edge c =
-    omega (arith, c.loop-edge-test.true)
-
-pub loop-edge-smaller : goal.loop-edge-smaller
-loop-edge-smaller c =
-    unmarked_less _ _ _ _ c.loop-edge-test.true c.next_unmarked-edge-in-loop-edge.ensures
+    let a = c.args in
+    let one = sweep_on a.degrees.now a.sides.now a.ends.now a.edges _ _ _ c.loop-edge-test.true (sym c.of.ensures ∙ c.if-of-ne0.false) c.take_row-row.ensures.1 in
+    omega (arith, ap (λ (xs : List ℕ). length xs) one, c.loop-edge.invariant.0, names_few a.degrees.now a.sides.now a.ends.now a.edges a.marks.now, c.ranges.edges.fits)
 
 pub loop-edge-preserved : goal.loop-edge-preserved
 loop-edge-preserved c =
-    let inv = c.loop-edge.invariant.1 in
-    let found = inv.0 in
-    let e = c.loop-edge.edge in
-    (c.put_row_bytes-next.auto.out ∙ c.loop-edge.invariant.0, (found ++ (e ∷ []), (sweep_on _ _ _ _ _ _ _ _ _ _ c.loop-edge-test.true inv.1.0 c.take_row-row.ensures.1 c.take_row-row.auto.marks c.next_unmarked-edge-in-loop-edge.ensures, (omega (arith, inv.1.1.0, length-append found (e ∷ [])), put_on _ _ _ _ _ _ _ _ row_bytes_lem _ _ _ _ _ _ inv.1.1.1 c.take_row-row.ensures.0 c.put_row_bytes-next.ensures))))
-
-pub shape_of-out : goal.shape_of-out
-shape_of-out c = c.loop-edge.invariant.0
-
-pub shape_of-marks : goal.shape_of-marks
-shape_of-marks c = c.loop-edge.invariant.1.1.0.as_long
+    let a = c.args in
+    let one = sweep_on a.degrees.now a.sides.now a.ends.now a.edges _ _ _ c.loop-edge-test.true (sym c.of.ensures ∙ c.if-of-ne0.false) c.take_row-row.ensures.1 in (
+      omega (arith, ap (λ (xs : List ℕ). length xs) one, c.loop-edge.invariant.0),
+      put_on _ _ _ _ _ _ _ _ row_bytes_lem _ _ _ _ _ _ one c.take_row-row.ensures.0 c.put_row_bytes-next.ensures ∙ c.loop-edge.invariant.1,
+    )
 
 pub returns : goal.returns
 returns c =
-    let inv = c.loop-edge.invariant.1 in
-    let all = sweep_end _ _ _ _ _ _ _ _ c.loop-edge-test.false inv.1.0 in
-    (inv.1.1.0 ∙ ap (λ (xs : List ℕ). length xs) all, ap (λ (p : Page). p.slice) (put_all _ _ _ _ _ _ _ _ row_bytes_lem _ _ _ _ all inv.1.1.1))
+    let a = c.args in
+    let none = sweep_end a.degrees.now a.sides.now a.ends.now a.edges c.loop-edge.edge c.loop-edge.marks c.loop-edge-test.false in (
+      omega (arith, ap (λ (xs : List ℕ). length xs) none, c.loop-edge.invariant.0),
+      ap (λ (p : Page). p.slice) (put_end _ _ _ _ _ _ _ _ row_bytes_lem _ _ none ∙ c.loop-edge.invariant.1),
+    )

@@ -1,16 +1,17 @@
-use Rattle.chains.proofs.NameLaws.{Sweeps}
-use Rattle.chains.specs.Chains.{rows_in}
-use Rattle.text.specs.Pages.{page, write}
+use mathlib.Core.Path.{◌≡◌}
+use Prim.Native.Nat.{◌+◌, ◌-◌}
+use lib.ListN.{length}
 use Rattle.model.specs.FromC.{bytes_of}
 use Rattle.model.specs.Queries.{concat}
-use lib.ListN.{length}
-use Prim.Native.Nat.{ℕ, ◌-◌}
-use mathlib.Core.List.{List}
-use mathlib.Core.Path.{◌≡◌}
+use Rattle.text.specs.Pages.{page, write}
+use Rattle.chains.specs.Chains.{names_in, rows_in, sheet_in, sweep_in}
 use Rattle.survey.proofs.sheet.put_sheet_bytes.Given as goal
 
+-- the chains so far and those from here on are all, and the rows from here on end the page as all do
 abbrev pub invariant-loop-edge : goal.invariant-loop-edge
-invariant-loop-edge l = (length l.out ≡ length l.initial.out) × ((found : List ℕ) × (Sweeps l.degrees l.sides l.ends l.edges l.initial.marks l.edge l.marks found × ((l.count ≡ length found) × (page l.out l.next ≡ write (bytes_of (concat (rows_in l.degrees l.sides l.ends l.lengths l.volumes l.edges found))) (page l.initial.out 0)))))
-
-abbrev pub decreases-loop-edge : goal.decreases-loop-edge
-decreases-loop-edge l = l.edges - l.edge
+invariant-loop-edge l =
+    (l.count + length (sweep_in l.degrees l.sides l.ends l.edges (l.edges - l.edge) l.marks l.edge)
+    ≡ length (names_in l.degrees l.sides l.ends l.edges l.initial.marks))
+    × (write (bytes_of (concat (rows_in l.degrees l.sides l.ends l.lengths l.volumes l.edges
+    (sweep_in l.degrees l.sides l.ends l.edges (l.edges - l.edge) l.marks l.edge)))) (page l.out l.next)
+    ≡ write (bytes_of (concat (sheet_in l.degrees l.sides l.ends l.lengths l.volumes l.edges l.initial.marks))) (page l.initial.out 0))

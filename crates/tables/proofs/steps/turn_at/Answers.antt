@@ -4,8 +4,8 @@ use Rattle.tables.proofs.steps.turn_at.Goals as goal
 
 pub returns-then-low-d : goal.returns-then-low-d
 unfolding turn_in
-returns-then-low-d c = rw (← c.at16-low.ensures, eq-eqb _ _ c.if-low-d.true) c.at16.ensures
+returns-then-low-d c = rw (← c.at-low.ensures, eq-eqb _ _ c.if-low-d.true) c.at.ensures
 
 pub returns : goal.returns
 unfolding turn_in
-returns c = rw (← c.at16-low.ensures, ne_eqb _ _ c.if-low-d.false)
+returns c = rw (← c.at-low.ensures, ne_eqb _ _ c.if-low-d.false)

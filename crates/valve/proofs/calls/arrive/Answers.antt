@@ -1,18 +1,14 @@
-use Rattle.valve.proofs.CallLaws.{arrive_25, arrive_21, arrive_40, arrive_taken}
-use mathlib.Core.Path.{sym, ◌∙◌}
+use Rattle.valve.proofs.CallLaws.{arrive_refused, arrive_40, arrive_taken}
+use Rattle.std.proofs.lemmas.Result.{err_from_is_err_and}
 use Rattle.valve.proofs.calls.arrive.Goals as goal
 
-pub returns-then-not-sizes_fit : goal.returns-then-not-sizes_fit
-returns-then-not-sizes_fit c = arrive_25 _ _ (sym c.sizes_fit.ensures ∙ c.if-not-sizes_fit.true)
+pub returns-in_err-gate : goal.returns-in_err-gate
+returns-in_err-gate c =
+    let p = err_from_is_err_and c.from_residual.result c.from_residual.ensures.1 in
+    rw (p.1, p.2) (arrive_refused _ _ _ c.in_err-gate.ensures)
 
-pub returns-then-not-is_held : goal.returns-then-not-is_held
-returns-then-not-is_held c =
-    arrive_21 _ _ (sym c.sizes_fit.ensures ∙ c.if-not-sizes_fit.false) (sym c.is_held.ensures ∙ c.if-not-is_held.true)
-
-pub returns-then-millilitres-gt-MAX : goal.returns-then-millilitres-gt-MAX
-returns-then-millilitres-gt-MAX c =
-    arrive_40 _ _ (sym c.sizes_fit.ensures ∙ c.if-not-sizes_fit.false) (sym c.is_held.ensures ∙ c.if-not-is_held.false) c.if-millilitres-gt-MAX.true
+pub returns-then-amount-gt-MAX : goal.returns-then-amount-gt-MAX
+returns-then-amount-gt-MAX c = arrive_40 _ _ c.in_ok-gate.ensures c.if-amount-gt-MAX.true
 
 pub returns : goal.returns
-returns c =
-    arrive_taken _ _ _ (sym c.sizes_fit.ensures ∙ c.if-not-sizes_fit.false) (sym c.is_held.ensures ∙ c.if-not-is_held.false) c.if-millilitres-gt-MAX.false c.put_record-after.ensures
+returns c = arrive_taken _ _ _ c.in_ok-gate.ensures c.if-amount-gt-MAX.false c.put_record.ensures

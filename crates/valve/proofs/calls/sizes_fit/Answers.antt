@@ -1,8 +1,11 @@
-use Rattle.valve.proofs.Holding.{sizes_no, sizes_second}
+use Rattle.std.proofs.Common.{rules}
+use Rattle.valve.specs.Window.{sizes_fit}
 use Rattle.valve.proofs.calls.sizes_fit.Goals as goal
 
 pub returns-then-recipes : goal.returns-then-recipes
-returns-then-recipes c = sizes_no _ _ c.if-recipes.true
+unfolding sizes_fit
+returns-then-recipes c = search rules
 
-pub returns : goal.returns
-returns c = sizes_second _ _ c.if-recipes.false
+pub returns-else-recipes : goal.returns-else-recipes
+unfolding sizes_fit
+returns-else-recipes c = search rules

@@ -1,13 +1,14 @@
-use mir.Syntax.{w32}
-use mir.Facts.{to_z-of_z}
-use Rattle.valve.proofs.InCLaws.{taken_in_C, refused_in_C}
-use mathlib.Core.Path.{◌∙◌}
+use Rattle.std.proofs.Common.{rules}
+use Rattle.valve.specs.FromC.{number_in_c}
+use Rattle.valve.proofs.InCLaws.{answered_in_C}
+use mathlib.Core.Path.{refl}
 use Rattle.valve.proofs.lent.arrive_lent.Goals as goal
 
-pub returns-in-Taken : goal.returns-in-Taken
-returns-in-Taken c =
-    taken_in_C _ _ _ _ _ c.arrive-arrived.ensures _ c.in-Taken.is
+-- 0, and the head after it
+pub returns-in-Ok : goal.returns-in-Ok
+unfolding number_in_c
+returns-in-Ok c = answered_in_C _ _ _ _ c.in-Ok.ensures refl
 
-pub returns-in-Refused : goal.returns-in-Refused
-returns-in-Refused c =
-    refused_in_C _ _ _ _ _ c.arrive-arrived.ensures _ _ c.in-Refused.is (to_z-of_z {w = w32} (record { sfits = c.refusal_number.type_inv }) ∙ c.refusal_number.ensures)
+-- the refusal made negative, and the head as it was
+pub returns-in-Err : goal.returns-in-Err
+returns-in-Err c = answered_in_C _ _ _ _ c.in-Err.ensures (search rules)

@@ -1,17 +1,13 @@
 use Rattle.valve.specs.FromC.{number_in_c}
-use mathlib.Core.Path.{◌∙◌}
 use native.Mathlib.Omega.{arith}
 use mir.Syntax.{w32}
-use mir.Facts.{to_z_pos, to_z-of_z}
+use mir.Facts.{to_z_pos}
 use Rattle.valve.proofs.lent.found_number.Goals as goal
 
-pub returns-in-Recipe : goal.returns-in-Recipe
+pub returns-in-Ok-Some : goal.returns-in-Ok-Some
 unfolding number_in_c
-returns-in-Recipe c = rw c.in-Recipe.is (to_z_pos w32 {n = c.in-Recipe.recipe.0} (omega arith))
+returns-in-Ok-Some c = let h = rw c.in-Ok-Some.is at c.in-Ok-Some.field-0-is in rw (c.in-Ok-Some.is, h) (to_z_pos w32 {n = c.in-Ok-Some.recipe.0} (omega arith))
 
-pub returns-in-Refused : goal.returns-in-Refused
-returns-in-Refused c = rw c.in-Refused.is (to_z-of_z {w = w32} (record { sfits = c.refusal_number.type_inv }) ∙ c.refusal_number.ensures)
-
-pub returns-in-Older : goal.returns-in-Older
+pub returns-in-Ok-None : goal.returns-in-Ok-None
 unfolding number_in_c
-returns-in-Older c = rw c.in-Older.is
+returns-in-Ok-None c = let h = rw c.in-Ok-None.is at c.in-Ok-None.field-0-is in rw (c.in-Ok-None.is, h)

@@ -5,5 +5,5 @@ use Rattle.valve.proofs.numbers.Recipe.new.Goals as goal
 pub returns-then-n : goal.returns-then-n
 returns-then-n c = within_yes _ _ _ (omega arith) (omega arith)
 
-pub returns : goal.returns
-returns c = within_above _ _ _ (omega arith) (omega arith)
+pub returns-else-n : goal.returns-else-n
+returns-else-n c = within_above _ _ _ (omega arith) (omega arith)
