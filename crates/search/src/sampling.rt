@@ -30,12 +30,12 @@ fn one_if_less(count: u16, length: u32, limit: u32) -> u16 {
     }
 }
 
-// The highest vertex number at an edge of the sample.
+// The highest vertex number at an edge of the sample, which is every so many edges, counted back from the number of all.
 fn sampled_top(ends: &[u16], edges: u16, step: u16) -> u16
     requires { 0 < step }
 {
     let mut top: u16 = 0;
-    for e in (0..edges).step_by(step as usize) {
+    for e in (edges % step..edges).step_by(step as usize) {
         top = top.max(higher_end(ends, e));
     }
     top
@@ -46,7 +46,7 @@ fn sampled_sum(lengths: &[u32], edges: u16, step: u16) -> u32
     requires { 0 < step }
 {
     let mut sum: u32 = 0;
-    for e in (0..edges).step_by(step as usize) {
+    for e in (edges % step..edges).step_by(step as usize) {
         sum = add32(sum, of(lengths, e));
     }
     sum
@@ -57,7 +57,7 @@ fn sampled_below(lengths: &[u32], edges: u16, step: u16, limit: u32) -> u16
     requires { 0 < step }
 {
     let mut count: u16 = 0;
-    for e in (0..edges).step_by(step as usize) {
+    for e in (edges % step..edges).step_by(step as usize) {
         count = one_if_less(count, of(lengths, e), limit);
     }
     count
