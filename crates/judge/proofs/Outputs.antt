@@ -1,5 +1,6 @@
 -- The ways out of `expect_sheet` and of `verdict_line`, and that what is written in the end is the verdict.
-use mathlib.Core.Path.{◌≡◌, refl, sym, ap, ◌∙◌}
+use mathlib.Core.Path.{◌≡◌, refl, sym, ap, subst, ◌∙◌}
+use Rattle.std.specs.Prelude.{Result, Ok}
 use Prim.Native.Nat.{ℕ, ◌≤◌, ◌<◌}
 use native.Mathlib.Omega.{arith}
 use mathlib.Core.List.{List, [], ◌∷◌, ◌++◌}
@@ -16,7 +17,8 @@ use Rattle.text.proofs.Decimal.{decimal_length}
 use Rattle.text.proofs.PageLaws.{write_two, write_held}
 use Rattle.text.proofs.LineLaws.{stop_length}
 use Rattle.listing.specs.Listing.{room_bytes}
-use Rattle.judging.specs.Right.{RightText, listed, stops, right_of}
+use Rattle.counters.specs.declared.refusals.Refusal.{Refusal}
+use Rattle.judging.specs.Right.{RightText, listed, stops, right_of, as_right, size_of as rightSize}
 use Rattle.judge.specs.Output.{Awaited, sheet, nothing, awaited, awaited_of, told, verdict_line, line_bytes}
 
 -- what a page holds whose text fits
@@ -52,8 +54,15 @@ await_is bs h = rw (le-ltb 65536 (length bs) h) (go (grow_list bs).stop)
 
 module _ (bs : List ℕ) (short : length bs ≤ 65536) where
   -- a list that is read whole: its right text is the sheet awaited
-  pub sheet_awaited : (right : List ℕ) → listed right ≡ right_of (grow_list bs) → sheet right ≡ awaited bs
-  sheet_awaited right h = ap await h ∙ await_is bs short
+  pub right_awaited : (right : List ℕ) → listed right ≡ right_of (grow_list bs) → sheet right ≡ awaited bs
+  right_awaited right h = ap await h ∙ await_is bs short
+
+  -- the same of the answer that gives it, whose bytes are counted
+  pub sheet_awaited : (r : Result ℕ (ℕ × Refusal)) (n : ℕ) (xs : List ℕ) → r ≡ Ok n → Counted (rightSize r) xs × (as_right r xs ≡ right_of (grow_list bs))
+      → Counted n xs × (sheet (take n xs) ≡ awaited bs)
+  sheet_awaited r n xs e h =
+      let g = subst (λ (z : Result ℕ (ℕ × Refusal)). Counted (rightSize z) xs × (as_right z xs ≡ right_of (grow_list bs))) e h in
+      (g.0, right_awaited (take n xs) g.1)
 
   -- a list that stops: no sheet is awaited, and its line says where
   pub none_awaited : (k x : ℕ) (out : List ℕ) (q : Page) → stops k x ≡ right_of (grow_list bs)

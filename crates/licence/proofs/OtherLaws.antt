@@ -1,21 +1,21 @@
 -- One house after the other: from the replay of its part of the tables to whether it holds a register.
 use mathlib.Core.Path.{◌≡◌, refl, ap, ◌∙◌, subst}
 use mathlib.Core.Logic.{◌≢◌}
-use Prim.Native.Nat.{ℕ, suc, ◌+◌, ◌-◌, ◌≤◌, ◌<◌}
+use Prim.Native.Nat.{ℕ, suc, ◌+◌, ◌*◌, ◌-◌, ◌≤◌, ◌<◌}
 use native.Mathlib.Omega.{arith}
 use mathlib.Core.Bool.{Bool, true, false}
 use mathlib.Core.List.{List}
-use lib.ListN.{get_or, length, length-replicate}
+use lib.ListN.{drop, get_or, length, length-replicate, take}
 use borrow.Author.Tests.{eq-eqb, ne_eqb}
 use Rattle.model.specs.Tables.{Counts, Tables, cleared, fits, no_counts}
 use Rattle.theory.proofs.Registers.Kept.{cleared_fits}
 use Rattle.model.proofs.Basics.Booleans.{not_both}
-use Rattle.tables.specs.Meaning.{stored}
+use Rattle.tables.specs.Meaning.{stored, tables}
 use Rattle.tables.specs.Steps.{zeroed}
 use Rattle.holding.specs.Replay.{Regrows}
 use Rattle.holding.proofs.HeldLaws.{replay_held, replay_none}
 use Rattle.admission.proofs.SizeLaws.{zeroed_cleared}
-use Rattle.nursery.specs.Nursery.{tables_in}
+use Rattle.nursery.specs.Nursery.{part, tables_in}
 use Rattle.heads.specs.Others.{is_held, others_in, passes_in}
 
 -- the replay in cleared scratch tells whether a register is held
@@ -29,6 +29,29 @@ held_told t c s r f g = go r refl
     go : (b : Bool) → r ≡ b → r ≡ is_held (stored t c)
     go true e = let o = replay_held t c (k.if_true e) in rw (e, is_held, o.1)
     go false e = rw (e, is_held, replay_none t c (λ q. not_both r (k.true_if q) e))
+
+-- of the part of house h, as the code cuts it out
+module _ (h : ℕ) (degrees sides ends lengths volumes labels : List ℕ) (c : Counts) (s : Tables) (r : Bool) (f : fits s ≡ true) where
+  one : 4096 * h + 4096 - 4096 * h ≡ 4096
+  one = omega arith
+
+  two : 8192 * h + 8192 - 8192 * h ≡ 8192
+  two = omega arith
+
+  -- the replay of this part tells whether the house holds a register
+  pub part_held : Regrows r
+      (tables
+      (take (4096 * h + 4096 - 4096 * h) (drop (4096 * h) degrees))
+      (take (8192 * h + 8192 - 8192 * h) (drop (8192 * h) sides))
+      (take (8192 * h + 8192 - 8192 * h) (drop (8192 * h) ends))
+      (take (4096 * h + 4096 - 4096 * h) (drop (4096 * h) lengths))
+      (take (4096 * h + 4096 - 4096 * h) (drop (4096 * h) volumes))
+      (take (4096 * h + 4096 - 4096 * h) (drop (4096 * h) labels)))
+      c
+      (zeroed s)
+      → r ≡ is_held (stored (tables_in h (tables degrees sides ends lengths volumes labels)) c)
+  unfolding tables_in part
+  part_held g = held_told (tables_in h (tables degrees sides ends lengths volumes labels)) c s r f (rw (one, two) at g)
 
 -- ---- one after the other
 

@@ -19,7 +19,7 @@ use Rattle.valve.specs.Calls.{summed, with_record, Outcome}
 use Rattle.valve.specs.Series.{arrival, makes, series, Narrow, recipes_of, NotFromArrivals, LeftExactly}
 use Rattle.valve.proofs.Ring.{before_first, after_inside, after_last, back_by, back_some, back_add, back_suc}
 use Rattle.valve.proofs.Holding.{Sized, sized, sizes_fit_lem, Holds, holds, is_held, sized_with, holds_with}
-use Rattle.valve.proofs.CallLaws.{gate_21, arrive_refused, ask_refused, arrive_with}
+use Rattle.valve.proofs.CallLaws.{gate_21, arrive_21, ask_refused, arrive_with}
 use Rattle.valve.proofs.Arrivals.{Keeps, keeps_empty, keeps_series}
 
 -- ---- every slot is walked over
@@ -210,7 +210,7 @@ left_exactly w =
       passes = λ cs e. rw e (kept_passes (series cs empty) (keeps_series cs empty [] keeps_empty));
       gives_21 = λ f a n v r.
           let h = not_held w f a n in
-          (ap (λ (o : Outcome). o.reply) (sym (ask_refused v w 21 (gate_21 w f h))), ap (λ (o : Outcome). o.reply) (sym (arrive_refused r w 21 (gate_21 w f h))));
+          (ap (λ (o : Outcome). o.reply) (sym (ask_refused v w 21 (gate_21 w f h))), ap (λ (o : Outcome). o.reply) (sym (arrive_21 r w f h)));
     }
   where
     kept_passes : (u : Window) {rs : List Record} → Keeps u rs → (sizes_fit u.recipes u.amounts ≡ true) × (held u ≡ true)

@@ -12,7 +12,7 @@ use Rattle.valve.specs.Calls.{Outcome, gated, arrives, asks}
 use Rattle.valve.specs.Series.{Call, series, taking, arrivals, latest, ValveIsRight, EverySeries}
 use Rattle.valve.specs.Values.{three, arriving, arrived, lasting, pushing, standing, stopping, full, Table}
 use Rattle.valve.proofs.LoopLaws.{within_not, held_past, held_too_much, held_sum}
-use Rattle.valve.proofs.CallLaws.{gate_25, gate_21, arrive_refused, ask_refused}
+use Rattle.valve.proofs.CallLaws.{gate_25, gate_21, arrive_21, ask_refused}
 use Rattle.valve.proofs.Arrivals.{blank, newest_zeros, zeros_within, zeros_sum, every_series}
 
 after_all : (cs : List Call) → ValveIsRight (series cs empty) (arrivals cs [])
@@ -90,7 +90,7 @@ above : (arrives (record_of 1 1000001) (window (replicate slots 0) (1000001 ∷ 
 unfolding sizes_fit above_one
 above =
     ap (λ (o : Outcome). o.reply)
-    (sym (arrive_refused (record_of 1 1000001) above_one 21 (gate_21 above_one refl (sym (held_too_much above_one (omega arith) above_not)))))
+    (sym (arrive_21 (record_of 1 1000001) above_one refl (sym (held_too_much above_one (omega arith) above_not))))
 
 short : (asks 0 (window (replicate 1439 0) (replicate slots 0) 0 1)).reply ≡ refuses 25
 unfolding sizes_fit

@@ -5,7 +5,7 @@ use native.Mathlib.Omega.{arith}
 use Rattle.model.specs.Opened.{line_at}
 use Rattle.chains.specs.Chains.{rows_in}
 use Rattle.chains.proofs.NameLaws.{sweep_end, sweep_on, sweep_past}
-use Rattle.fetching.proofs.LineLaws.{line_here, line_next, line_past, line_start}
+use Rattle.fetching.proofs.LineLaws.{left_here, left_past, line_next, line_start}
 use Rattle.fetching.proofs.lines.line_at.Goals as goal
 
 pub loop-edge-init : goal.loop-edge-init
@@ -26,7 +26,7 @@ overflow_add-result c = omega (arith, c.loop-edge.invariant.0, c.loop-edge-test.
 pub returns-then-before-eq0 : goal.returns-then-before-eq0
 returns-then-before-eq0 c =
     let one = sweep_on _ _ _ _ _ _ _ c.loop-edge-test.true (sym c.of.ensures ∙ c.if-of-ne0.false) c.take_row-row.ensures.1 in
-    λ vertices removals. line_here _ _ _ _ _ _ vertices removals _ _ _ _ c.loop-edge.invariant.1 _ _ _ one c.if-before-eq0.true c.take_row-row.ensures.0
+    λ vertices removals. left_here _ _ _ _ _ _ vertices removals _ _ _ _ c.loop-edge.invariant.1 _ _ _ one c.if-before-eq0.true c.take_row-row.ensures.0
 
 pub overflow_sub-before : goal.overflow_sub-before
 overflow_sub-before c = omega (arith, c.if-before-eq0.false)
@@ -41,4 +41,4 @@ loop-edge-preserved c =
 pub returns : goal.returns
 returns c =
     let none = sweep_end _ _ _ _ _ _ c.loop-edge-test.false in
-    λ vertices removals. line_past _ _ _ _ _ _ vertices removals _ _ _ _ c.loop-edge.invariant.1 none
+    λ vertices removals. left_past _ _ _ _ _ _ vertices removals _ _ _ _ c.loop-edge.invariant.1 none

@@ -3,7 +3,7 @@ use native.Mathlib.Omega.{arith}
 use Prim.Native.Nat.{ℕ}
 use Rattle.model.specs.Printing.{ascii}
 use Rattle.judging.specs.Right.{stops}
-use Rattle.judge.proofs.Outputs.{too_long, sheet_awaited, none_awaited}
+use Rattle.judge.proofs.Outputs.{too_long, right_awaited, none_awaited}
 use Rattle.judge.proofs.output.expect_sheet.Goals as goal
 
 pub returns-then-list-gt-MAX_LIST : goal.returns-then-list-gt-MAX_LIST
@@ -13,7 +13,7 @@ returns-then-list-gt-MAX_LIST c =
 
 pub returns-in-Ok : goal.returns-in-Ok
 returns-in-Ok c =
-    (c.in-Ok.ensures.0, sheet_awaited _ (omega (arith, c.if-list-gt-MAX_LIST.false)) _ c.in-Ok.ensures.1)
+    (c.in-Ok.ensures.0, right_awaited _ (omega (arith, c.if-list-gt-MAX_LIST.false)) _ c.in-Ok.ensures.1)
 
 pub returns-in-Err : goal.returns-in-Err
 returns-in-Err c =

@@ -1,4 +1,4 @@
-use Rattle.valve.proofs.CallLaws.{arrive_refused, arrive_40, arrive_taken}
+use Rattle.valve.proofs.CallLaws.{arrive_refused, arrive_above, arrive_taken}
 use Rattle.std.proofs.lemmas.Result.{err_from_is_err_and}
 use Rattle.valve.proofs.calls.arrive.Goals as goal
 
@@ -8,7 +8,7 @@ returns-in_err-gate c =
     rw (p.1, p.2) (arrive_refused _ _ _ c.in_err-gate.ensures)
 
 pub returns-then-amount-gt-MAX : goal.returns-then-amount-gt-MAX
-returns-then-amount-gt-MAX c = arrive_40 _ _ c.in_ok-gate.ensures c.if-amount-gt-MAX.true
+returns-then-amount-gt-MAX c = arrive_above _ _ c.in_ok-gate.ensures c.if-amount-gt-MAX.true
 
 pub returns : goal.returns
 returns c = arrive_taken _ _ _ c.in_ok-gate.ensures c.if-amount-gt-MAX.false c.put_record.ensures
